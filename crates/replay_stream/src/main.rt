@@ -1,0 +1,24 @@
+// Runs the stream on published words and on a list of the oracle's answers (standard input), and prints what agreed.
+mod list;
+mod published;
+
+use libc::STDIN_FILENO;
+use libc::STDOUT_FILENO;
+
+fn line(name: &[u8], agreed: u64, all: u64) {
+    io::write_all(STDOUT_FILENO, name);
+    io::print_decimal(STDOUT_FILENO, agreed);
+    io::write_all(STDOUT_FILENO, b" of ");
+    io::print_decimal(STDOUT_FILENO, all);
+    io::write_all(STDOUT_FILENO, b" agree\n");
+}
+
+fn main() {
+    line(b"xoshiro256** from 1, 2, 3, 4, words: ", published::xoshiro(), 10);
+    line(b"SplitMix64 from 0, words: ", published::splitmix_zero(), 4);
+    line(b"SplitMix64 from 1234567, words: ", published::splitmix_1234567(), 4);
+    let mut text = [0u8; 524288];
+    let got = io::read_full(STDIN_FILENO, &mut text);
+    let replayed = list::replay(&text[..got]);
+    line(b"the oracle's list, records: ", replayed.agreed, replayed.all);
+}

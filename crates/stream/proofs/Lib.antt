@@ -1,0 +1,6 @@
+-- Laws that belong to no one function.
+pub mod Fills
+pub mod Halves
+pub mod Units
+pub mod Walks
+pub mod Unique
