@@ -1,0 +1,7 @@
+pub mod Truth
+pub mod Order
+pub mod Exact
+pub mod Rounding
+pub mod Bits
+pub mod Roots
+pub mod Above
