@@ -1,9 +1,9 @@
 -- Where nothing is rounded away: a value that the format holds is known by its sign and its size, and rounds to itself. Assumes nothing.
-use mathlib.Core.Path.{_≡_, refl, sym, ap, ap₂, _∙_, subst}
+use mathlib.Core.Path.{_≡_, sym, ap, ap₂, _∙_, subst}
 use Prim.Native.Nat.{ℕ, zero, suc, _+_, _-_, _*_, _/_, _%_, _^_, _≤_, _<_}
-use native.Mathlib.Nat.{mul-one, mul-comm, mul-assoc, mul-right-comm, mul-pos, mul-lt-mul-of-pos-right, eq-of-mul-eq-mul-right, lt-of-lt-of-le, le-of-eq, not-le-of-lt, lt-of-not-le, one-mul, zero-mul}
+use native.Mathlib.Nat.{mul-one, mul-comm, mul-assoc, mul-right-comm, mul-lt-mul-of-pos-right, eq-of-mul-eq-mul-right, not-le-of-lt, lt-of-not-le, zero-mul}
 use native.Mathlib.Omega.{arith}
-use mathlib.Core.Bool.{Bool, true, false, _&&_, cond}
+use mathlib.Core.Bool.{Bool, _&&_, cond}
 use lib.IntN.{ℤ, pos, negsuc}
 use lib.Dec.{T, eqb, leb, ltb, leb→le, ltb→lt}
 use lib.Pow.{pow-add, pow-pos, pow-lt}

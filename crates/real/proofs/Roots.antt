@@ -5,7 +5,7 @@ use native.Mathlib.Nat.{le-trans, le-of-eq, le-of-lt, lt-irrefl, lt-of-lt-of-le,
 use native.Mathlib.Omega.{arith}
 use mathlib.Core.Bool.{Bool, true, false, not, cond}
 use lib.Arith.{digits-div, digits-mod}
-use lib.Dec.{T, isLe, isEq, leb, leb→le, nleb→lt, eqb→eq, lit<, lit≤}
+use lib.Dec.{T, isLe, isEq, leb, leb→le, nleb→lt, eqb→eq, lit<}
 use lib.Pow.{pow-add, pow-pos, pow-mono, shl-lt}
 use lib.Ieee.{Float, nan, inf, fin, binary64, up, down, size, units, round, nearest, fits, ofBits}
 use lib.Ieee.Fits.{down-pos, round-is, round-fits}

@@ -1,20 +1,62 @@
--- The four operations on values that are not negative, each as one rounding of the true result. The values may be given by any fractions.
--- Assumes nothing.
-use mathlib.Core.Path.{_≡_, refl, sym, ap, ap₂, _∙_}
-use Prim.Native.Nat.{ℕ, _+_, _-_, _*_, _≤_, _<_}
+-- A rounded fraction against bounds that are values of the format, and the four operations on values that are not negative, each as one
+-- rounding of the true result. The values may be given by any fractions. Assumes nothing.
+use mathlib.Core.Path.{_≡_, refl, sym, ap, ap₂, _∙_, subst}
+use mathlib.Core.Logic.{_⊎_, inl, inr}
+use Prim.Native.Nat.{ℕ, suc, _+_, _-_, _*_, _/_, _^_, _≤_, _<_}
 use native.Mathlib.Nat.{mul-comm, mul-mul-mul-comm, mul-pos, not-le-of-lt, add-mul, mul-sub}
 use native.Mathlib.Omega.{arith}
-use mathlib.Core.Bool.{Bool, true, false, cond, true≢false}
+use mathlib.Core.Bool.{Bool, true, false, cond, true≢false, false≢true}
 use lib.IntN.{ℤ}
 use lib.Dec.{T, ltb, eqb, ltb→lt}
-use lib.Ieee.{Float, nan, inf, fin, Format, up, down, round, sum, add, sub, mul, div}
-use lib.Ieee.Fits.{up-pos, down-pos}
-use lib.Ieee.Exact.{HasValue}
-use lib.Ieee.Order.{transfer}
+use lib.Ieee.{Float, nan, inf, fin, Format, prec, emax, low, up, down, size, odd, units, fits, round, sum, add, sub, mul, div, le}
+use lib.Ieee.Fits.{up-pos, down-pos, round-is}
+use lib.Ieee.Exact.{HasValue, odd-sign}
+use lib.Ieee.Nearest.{closest}
+use lib.Ieee.Order.{transfer, round-mono}
 use lib.Ieee.Positive.{first-pos}
 use lib.Ieee.Scale.{round-same}
 use borrow.Author.Tests.{ne-eqb}
+use Rattle.real.proofs.Truth.{is}
+use Rattle.real.proofs.Exact.{round-self}
+use Rattle.real.proofs.Fractions.{le-values}
 
+-- ---- a rounded fraction
+-- it is infinity, or not negative and finite
+pub round-kind : (f : Format) (a b : ℕ) → (round f false a b ≡ inf false) ⊎ ((g : ℕ) × HasValue (round f false a b) false g (2 ^ low f))
+unfolding units
+round-kind f a b =
+    let k = size (a * 2 ^ low f / b) - prec f in
+    let q = closest (a * 2 ^ low f) (b * 2 ^ k) in
+    subst (λ (z : Float). (z ≡ inf false) ⊎ ((g : ℕ) × HasValue z false g (2 ^ low f))) (sym (round-is f false a b)) (go q k (ltb (q * 2 ^ k) (2 ^ (low f + suc (emax f)))))
+  where
+    go : (q k : ℕ) (t : Bool) → (cond t (odd (suc (prec f)) false q k (low f)) (inf false) ≡ inf false) ⊎ ((g : ℕ) × HasValue (cond t (odd (suc (prec f)) false q k (low f)) (inf false)) false g (2 ^ low f))
+    go q k true = inr (q * 2 ^ k, odd-sign (suc (prec f)) false q k (low f))
+    go q k false = inl refl
+
+-- at most a value of the format that the fraction is at most, and at least one that it is at least
+pub round-below : (f : Format) (a b : ℕ) (y : Float) (n d : ℕ) → 0 < b → 0 < d → T (fits f y) → HasValue y false n d → a * d ≤ n * b → le (round f false a b) y ≡ true
+round-below f a b y n d B D t v h = subst (λ (z : Float). le (round f false a b) z ≡ true) (round-self f false y n d D t v) (is (round-mono f a b n d B D h))
+
+pub round-above : (f : Format) (a b : ℕ) (y : Float) (n d : ℕ) → 0 < b → 0 < d → T (fits f y) → HasValue y false n d → n * b ≤ a * d → le y (round f false a b) ≡ true
+round-above f a b y n d B D t v h = subst (λ (z : Float). le z (round f false a b) ≡ true) (round-self f false y n d D t v) (is (round-mono f n d a b D B h))
+
+-- what is at most a finite value is no infinity
+bounded : (y : Float) (s : Bool) (n d : ℕ) → HasValue y s n d → le (inf false) y ≡ true → ⊥
+unfolding le
+bounded nan s n d v h = absurd v
+bounded (inf t) s n d v h = absurd v
+bounded (fin t m e) s n d v h = false≢true h
+
+pub round-finite : (f : Format) (a b : ℕ) (y : Float) (n d : ℕ) → 0 < b → 0 < d → T (fits f y) → HasValue y false n d → a * d ≤ n * b
+    → (g : ℕ) × HasValue (round f false a b) false g (2 ^ low f) × (g * d ≤ n * 2 ^ low f)
+round-finite f a b y n d B D t v h =
+    let l = round-below f a b y n d B D t v h in
+    elim (round-kind f a b) [
+      | inl e ↦ absurd (bounded y false n d v (subst (λ (z : Float). le z y ≡ true) e l))
+      | inr g ↦ (g .0, g .1, le-values (round f false a b) y (g .0) (2 ^ low f) n d (g .1) v l)
+    ]
+
+-- ---- the four operations
 -- x / p = a / c and y / q = b / d
 module _ (f : Format) (x p y q a c b d : ℕ) (P : 0 < p) (Q : 0 < q) (C : 0 < c) (D : 0 < d) (v : x * c ≡ a * p) (w : y * d ≡ b * q) where
   left : x * q * (c * d) ≡ a * d * (p * q)

@@ -6,3 +6,6 @@ pub mod Whole
 pub mod Count
 pub mod Digits
 pub mod Root
+pub mod Ln
+pub mod Power
+pub mod Bound

@@ -1,5 +1,8 @@
 // The binary digits of a double that is finite and above 0.
+ghost use mathlib.Core.Path.{_≡_};
+ghost use Prim.Native.Nat.{_+_, _^_, _<_};
 ghost use lib.Dec.{T};
+ghost use lib.Ieee.{binary64, ofBits};
 ghost use lib.Ieee.Positive.{positive};
 ghost use Rattle.real.specs.Digits.{Split};
 
@@ -25,4 +28,12 @@ pub fn split(x: f64) -> Parts
         digits: bits % 0x10_0000_0000_0000 + 0x10_0000_0000_0000,
         shift: bits / 0x10_0000_0000_0000 + 51,
     }
+}
+
+// Fifty-three digits as a number from 1 to below 2.
+pub fn mantissa(digits: u64) -> f64
+    requires { ⌜ digits < 2 ^ 53 ⌝ }
+    ensures { λ r. ⌜ r ≡ ofBits binary64 (digits + 0x3fe0_0000_0000_0000) ⌝ }
+{
+    f64::from_bits(digits + 0x3fe0_0000_0000_0000)
 }

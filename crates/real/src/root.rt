@@ -74,7 +74,7 @@ pub fn positive_root(x: f64) -> f64
 {
     let p = crate::digits::split(x);
     let odd = p.shift % 2;
-    let m = f64::from_bits(p.digits + 0x3fe0_0000_0000_0000);
+    let m = crate::digits::mantissa(p.digits);
     let first = leading(guess(m, (odd as u32) as f64));
     let q = nearest(first, p.digits * (1 + odd));
     f64::from_bits((p.shift / 2 + 485) * 0x10_0000_0000_0000 + q)

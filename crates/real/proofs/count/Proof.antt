@@ -1,13 +1,13 @@
 -- `count` adds two doubles, the upper and the lower half of n, so that n itself is rounded once. Assumes nothing.
-use mathlib.Core.Path.{_≡_, refl, sym, ap, _∙_, subst}
-use Prim.Native.Nat.{ℕ, _+_, _*_, _/_, _%_, _^_, _≤_, _<_}
-use native.Mathlib.Nat.{mul-one, mul-assoc, mul-right-comm, mul-lt-mul-of-pos-right, lt-of-lt-of-le, le-of-lt}
+use mathlib.Core.Path.{_≡_, refl, sym, _∙_, subst}
+use Prim.Native.Nat.{ℕ, _+_, _*_, _/_, _%_, _^_, _<_}
+use native.Mathlib.Nat.{mul-one, mul-assoc, mul-lt-mul-of-pos-right, lt-of-lt-of-le, le-of-lt}
 use native.Mathlib.Omega.{arith}
 use mathlib.Core.Bool.{false}
 use lib.IntN.{pos}
 use lib.Dec.{lit<, lit≤}
 use lib.Pow.{pow-pos}
-use lib.Ieee.{Float, fin, binary64, round, add, mul, ofInt, ofBits}
+use lib.Ieee.{Float, fin, binary64, add, mul, ofInt, ofBits}
 use lib.Ieee.Exact.{HasValue, round-exact}
 use lib.Ieee.Back.{round-whole}
 use lib.Ieee.Scale.{round-same}

@@ -1,13 +1,13 @@
 -- `norm` takes what is not above 0 from 0: the true difference is a double, so nothing is rounded, and a zero comes out without its sign.
 -- Assumes nothing.
-use mathlib.Core.Path.{_≡_, refl, sym, ap, _∙_, subst}
+use mathlib.Core.Path.{_≡_, refl, sym, _∙_, subst}
 use Prim.Native.Nat.{ℕ, _+_, _-_, _*_, _≤_}
-use native.Mathlib.Nat.{zero-mul, mul-one, one-mul}
+use native.Mathlib.Nat.{zero-mul}
 use native.Mathlib.Omega.{arith}
 use mathlib.Core.Bool.{true, false, true≢false, false≢true}
 use lib.IntN.{ℤ, pos}
 use lib.Dec.{T, lit<}
-use lib.Ieee.{Float, nan, inf, fin, binary64, up, down, round, fits, ofBits, neg, add, sub, le}
+use lib.Ieee.{Float, nan, inf, fin, binary64, up, down, fits, ofBits, neg, add, sub, le}
 use lib.Ieee.Fits.{down-pos, neg-fits}
 use Rattle.real.specs.Numbers.{zero64}
 use Rattle.real.specs.Norm.{normOf}

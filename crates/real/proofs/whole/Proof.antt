@@ -1,14 +1,14 @@
 -- `whole` answers from 2 ^ 64 on and up to 0 by comparing, and between by the cast that cuts the fraction off. Assumes nothing.
 use mathlib.Core.Path.{_≡_, refl, sym, ap, _∙_}
 use Prim.Native.Nat.{ℕ, _+_, _-_, _*_, _/_, _^_, _≤_, _<_, min}
-use native.Mathlib.Nat.{le-trans, le-of-lt, min-eq-right, le-div-iff-mul-le, zero-mul, zero-div, le-of-eq}
+use native.Mathlib.Nat.{min-eq-right, le-div-iff-mul-le, zero-div}
 use native.Mathlib.Omega.{arith}
-use mathlib.Core.Bool.{Bool, true, false, not, cond, true≢false, false≢true}
-use lib.IntN.{ℤ, pos}
-use lib.Dec.{T, lit≤, lt→ltb}
+use mathlib.Core.Bool.{Bool, true, false, not, true≢false, false≢true}
+use lib.IntN.{pos}
+use lib.Dec.{T, lt→ltb}
 use lib.Ieee.{Float, nan, inf, fin, binary64, up, down, ofBits, lt, le, isNan, toUnsigned}
 use lib.Ieee.Fits.{down-pos}
-use borrow.Author.Tests.{ltb-true, ltb-false}
+use borrow.Author.Tests.{ltb-false}
 use Rattle.real.specs.Numbers.{zero64}
 use Rattle.real.specs.Whole.{wholeOf}
 use Rattle.real.proofs.Order.{le-under, le-not-lt}

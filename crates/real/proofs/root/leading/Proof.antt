@@ -1,5 +1,5 @@
 -- `leading` reads the digits of what compared below 2, which is no NaN. Assumes nothing.
-use mathlib.Core.Path.{_≡_, ap, sym, subst}
+use mathlib.Core.Path.{_≡_, sym, subst}
 use mathlib.Core.Bool.{Bool, true, not}
 use lib.Dec.{T}
 use lib.Ieee.{Float, isNan, lt}

@@ -1,11 +1,10 @@
 -- `nearest` stops at the first q whose upper middle q * (q + 1) + 1/4 reaches d * 2 ^ 52; every middle passed on the way lies below it.
 -- Assumes nothing.
-use mathlib.Core.Path.{_≡_, ap, _∙_, subst, sym}
-use Prim.Native.Nat.{ℕ, suc, _+_, _-_, _*_, _/_, _^_, _≤_, _<_}
+use mathlib.Core.Path.{_≡_, ap, _∙_, subst}
+use Prim.Native.Nat.{ℕ, _+_, _-_, _*_, _/_, _^_, _≤_, _<_}
 use native.Mathlib.Nat.{div-lt-iff-lt-mul, le-div-iff-mul-le, lt-of-not-le, le-trans, le-of-eq}
 use native.Mathlib.Omega.{arith}
 use lib.Pow.{pow-pos}
-use Rattle.real.specs.Digits.{NearRoot}
 use Rattle.real.proofs.root.nearest.Statement.{statement}
 use Rattle.real.proofs.root.nearest.Tie as tie
 

@@ -7,9 +7,6 @@ use Rattle.real.proofs.Roots.{Radicand, radicand, root-bits}
 use Rattle.real.proofs.root.positive_root.Statement.{statement}
 use Rattle.real.proofs.root.positive_root.Tie as tie
 
-mantissa-bits : (m : ℕ) → m < 2 ^ 53 → m + 0x3fe0_0000_0000_0000 ≤ 2047 * 2 ^ 52
-mantissa-bits m h = omega arith
-
 root-room : (k q : ℕ) → k < 2098 → q < 2 ^ 53 → (k / 2 + 485) * 2 ^ 52 + q ≤ 2047 * 2 ^ 52
 root-room k q a b = omega arith
 
@@ -19,11 +16,8 @@ taken c = radicand (c .split .result .digits) (c .split .result .shift) (c .spli
 split-requires : tie.Need-split-requires
 split-requires c κs = search needs
 
-add-m : tie.Need-add-m
-add-m c = search needs
-
-float-from-bits-m : tie.Need-float-from-bits-m
-float-from-bits-m c = no-nan-bits _ (mantissa-bits (c .before .before .split .result .digits) (c .before .before .split .ensures .short))
+mantissa-requires : tie.Need-mantissa-requires
+mantissa-requires c κs = search needs
 
 cast-guess : tie.Need-cast-guess
 cast-guess c = search needs
@@ -68,8 +62,7 @@ positive-root-spec =
     tie.close
     (tie.spec
     split-requires
-    add-m
-    float-from-bits-m
+    mantissa-requires
     cast-guess
     int-to-float-guess
     guess-requires
