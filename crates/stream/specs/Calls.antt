@@ -15,7 +15,7 @@ use Rattle.stream.specs.SplitMix.{seededOf}
 use Rattle.stream.specs.Xoshiro.{wordOf, stepOf, stepsOf}
 use Rattle.stream.specs.Jumps.{jumpsOf}
 use Rattle.stream.specs.Bytes.{bytesOf, wordIn, allZero, streamBytes}
-use Rattle.stream.specs.Paper.{Paper, gives, refuses}
+use Rattle.real.specs.Paper.{Paper, gives, refuses}
 
 -- next_u64: the word, and the stream one step on
 unfoldable pub drawnOf : MonteCarloRng → Word

@@ -4,5 +4,4 @@ pub mod SplitMix
 pub mod Xoshiro
 pub mod Jumps
 pub mod Bytes
-pub mod Paper
 pub mod Calls

@@ -1,0 +1,16 @@
+pub mod Truth
+pub mod Order
+pub mod Fractions
+pub mod Exact
+pub mod Rounding
+pub mod Signs
+pub mod Wholes
+pub mod Bits
+pub mod Roots
+pub mod Above
+pub mod Mantissa
+pub mod Bounds
+pub mod Floors
+pub mod Ranges
+pub mod Nearest
+pub mod Unique

@@ -1,0 +1,119 @@
+// Doubles: the kernels that every crate above leans on. Each answers every input, and its promise, one
+// equation with a definition of specs/, says which double it answers.
+mod digits;
+mod exp;
+mod log;
+mod root;
+
+ghost use mathlib.Core.Path.{_≡_};
+ghost use Rattle.real.specs.Finite.{finiteOf};
+ghost use Rattle.real.specs.Norm.{normOf};
+ghost use Rattle.real.specs.Inverse.{invOf};
+ghost use Rattle.real.specs.Whole.{wholeOf};
+ghost use Rattle.real.specs.Count.{countOf};
+ghost use Rattle.real.specs.Root.{rootOf};
+ghost use Rattle.real.specs.Ln.{lnOf};
+ghost use Rattle.real.specs.Power.{powerOf};
+ghost use lib.Ieee.Positive.{positive};
+
+// Whether x is neither a NaN nor an infinity.
+pub fn finite(x: f64) -> bool
+    ensures { λ r. ⌜ r ≡ finiteOf x ⌝ }
+{
+    let infinity = 1.0 / 0.0;
+    if x < infinity { -infinity < x } else { false }
+}
+
+// x without its sign, the Rust's `norm`.
+pub fn norm(x: f64) -> f64
+    ensures { λ r. ⌜ r ≡ normOf x ⌝ }
+{
+    if x <= 0.0 { 0.0 - x } else { x }
+}
+
+// 1 / x, the Rust's `inv`.
+pub fn inv(x: f64) -> f64
+    ensures { λ r. ⌜ r ≡ invOf x ⌝ }
+{
+    1.0 / x
+}
+
+// x without its fraction, as the Rust's `x as u64`: 0 for a NaN and for what is below 0, and 2^64 - 1
+// from 2^64 on.
+pub fn whole(x: f64) -> u64
+    ensures { λ r. ⌜ r ≡ wholeOf x ⌝ }
+{
+    if 18446744073709551616.0 <= x {
+        return 18446744073709551615;
+    }
+    if 0.0 < x {
+        return std::num::truncating_f64_to_u64(x);
+    }
+    0
+}
+
+// The double nearest n, n itself up to 2^53. Both halves are doubles, so only the sum is rounded.
+pub fn count(n: u64) -> f64
+    ensures { λ r. ⌜ r ≡ countOf n ⌝ }
+{
+    let high = ((n / 4294967296) as u32) as f64;
+    let low = ((n % 4294967296) as u32) as f64;
+    high * 4294967296.0 + low
+}
+
+// Whether x is finite and above 0.
+fn above_zero(x: f64) -> bool
+    ensures { λ r. ⌜ r ≡ positive x ⌝ }
+{
+    if 0.0 < x {
+        return x < 1.0 / 0.0;
+    }
+    false
+}
+
+// The double nearest the true root, ties to even; NaN for a negative or a NaN, infinity for infinity;
+// a zero keeps its sign.
+pub fn sqrt(x: f64) -> f64
+    ensures { λ r. ⌜ r ≡ rootOf x ⌝ }
+{
+    if above_zero(x) {
+        return root::positive_root(x);
+    }
+    if 0.0 <= x {
+        return x;
+    }
+    0.0 / 0.0
+}
+
+// The logarithm of x, every step one rounded operation; NaN for anything not finite and above 0.
+pub fn ln(x: f64) -> f64
+    ensures { λ r. ⌜ r ≡ lnOf x ⌝ }
+{
+    if !above_zero(x) {
+        return 0.0 / 0.0;
+    }
+    let p = digits::split(x);
+    let m = digits::mantissa(p.digits);
+    if 1.4140625 < m {
+        return log::series(m * 0.5, log::exponent(p.shift + 1));
+    }
+    log::series(m, log::exponent(p.shift))
+}
+
+// The power y^a, every step one rounded operation; NaN for a y outside [2^-10, 2] or an a outside
+// [0, 10].
+pub fn power(y: f64, a: f64) -> f64
+    ensures { λ r. ⌜ r ≡ powerOf y a ⌝ }
+{
+    if !exp::in_domain(y, a) {
+        return 0.0 / 0.0;
+    }
+    let t = a * ln(y);
+    let v = 0.5 - t / 0.6931471805599453;
+    if 0.0 <= v {
+        let k = whole(v);
+        return exp::scaled(t, count(k), 1023 - k);
+    }
+    let n = exp::ceiling(-v);
+    exp::scaled(t, -count(n), 1023 + n)
+}

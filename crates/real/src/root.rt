@@ -1,0 +1,81 @@
+// The root of a double that is finite and above 0: a guess in doubles, judged in whole numbers.
+ghost use mathlib.Core.Path.{_≡_};
+ghost use Prim.Native.Nat.{_+_, _-_, _*_, _/_, _^_, _≤_, _<_};
+ghost use lib.Dec.{T};
+ghost use lib.Ieee.Positive.{positive};
+ghost use Rattle.real.specs.Digits.{NearRoot};
+ghost use Rattle.real.specs.Root.{rootOf};
+
+// About the root of m, or of 2m where odd is 1, for an m from 1 to 2: a polynomial, one step of Heron's
+// rule, and the remainder of its leading half, whose square is a double. Nothing is promised of it: the
+// judge moves whatever it is given, and moves this one or two times in ten thousand, by one.
+fn guess(m: f64, odd: f64) -> f64 {
+    let x = m + m * odd;
+    let mm = m * m;
+    let near = (0.3264033 + 0.912781 * m) + mm * ((0.08530806 * m - 0.3142877) - 0.01019205 * mm);
+    let scaled = near + near * (0.41421356 * odd);
+    let close = 0.5 * (scaled + x / scaled);
+    let head = (close + 201326592.0) - 201326592.0;
+    head + (x - head * head) / (close + head)
+}
+
+// The 53 digits of a double from 1 to below 2, and the nearest such number for any other.
+fn leading(g: f64) -> u64
+    ensures { λ r. ⌜ (2 ^ 52 ≤ r) × (r < 2 ^ 53) ⌝ }
+{
+    if g < 1.0 {
+        return 0x10_0000_0000_0000;
+    }
+    if g < 2.0 {
+        return f64::to_bits(g) % 0x10_0000_0000_0000 + 0x10_0000_0000_0000;
+    }
+    0x1f_ffff_ffff_ffff
+}
+
+// The high word of r * (r + 1), a product in two words of 52 binary digits, from halves of 26. The judge
+// needs no more: the number whose root is sought has the low word 0.
+fn high_word(r: u64) -> u64
+    requires { ⌜ r < 2 ^ 53 ⌝ }
+    ensures { λ h. ⌜ h ≡ r * (r + 1) / 2 ^ 52 ⌝ }
+{
+    let a = r / 0x400_0000;
+    let b = r % 0x400_0000;
+    let middle = 2 * a * b + (b * b + r) / 0x400_0000;
+    a * a + middle / 0x400_0000
+}
+
+// q, or the first number below it that is not above the nearest to the root of d * 2^52.
+fn lowered(guess: u64, d: u64) -> u64
+    requires { ⌜ (1 ≤ guess) × (guess < 2 ^ 53) × (1 ≤ d) ⌝ }
+    ensures { λ q. ⌜ (q < 2 ^ 53) × (q * q < d * 2 ^ 52 + q) ⌝ }
+{
+    let mut q = guess;
+    while d <= high_word(q - 1) {
+        q -= 1;
+    }
+    q
+}
+
+// The whole number nearest to the root of d * 2^52, from any guess.
+fn nearest(guess: u64, d: u64) -> u64
+    requires { ⌜ (1 ≤ guess) × (guess < 2 ^ 53) × (1 ≤ d) × (d + 2 ≤ 2 ^ 54) ⌝ }
+    ensures { λ q. ⌜ NearRoot (d * 2 ^ 52) q × (q < 2 ^ 53) ⌝ }
+{
+    let mut q = lowered(guess, d);
+    while high_word(q) < d {
+        q += 1;
+    }
+    q
+}
+
+pub fn positive_root(x: f64) -> f64
+    requires { ⌜ T (positive x) ⌝ }
+    ensures { λ r. ⌜ r ≡ rootOf x ⌝ }
+{
+    let p = crate::digits::split(x);
+    let odd = p.shift % 2;
+    let m = crate::digits::mantissa(p.digits);
+    let first = leading(guess(m, (odd as u32) as f64));
+    let q = nearest(first, p.digits * (1 + odd));
+    f64::from_bits((p.shift / 2 + 485) * 0x10_0000_0000_0000 + q)
+}
