@@ -14,3 +14,4 @@ pub mod Floors
 pub mod Ranges
 pub mod Nearest
 pub mod Unique
+pub mod Ladder

@@ -2,7 +2,6 @@
 ghost use Prim.Native.Nat.{_+_, _<_, _≤_, _^_};
 ghost use lib.ListN.{length};
 ghost use mathlib.Core.Path.{_≡_};
-
 use answers::word;
 use answers::words;
 use stream::Made;
@@ -208,7 +207,14 @@ fn replay_export(list: &[u8], at: usize) -> Place
     };
     let counted = holds(list, start, 32);
     let agrees = counted.agrees;
-    holds_state(list, Place { agrees, at: at + 10 }, state)
+    holds_state(
+        list,
+        Place {
+            agrees,
+            at: at + 10,
+        },
+        state,
+    )
 }
 
 // 32 packed bytes, and the state that they import as.
@@ -261,7 +267,11 @@ fn replay_seed(list: &[u8], at: usize) -> Place
         agrees: true,
         at: at + 2,
     };
-    holds_state(list, start, MonteCarloRng::seed_from_u64(word(list, at + 1)))
+    holds_state(
+        list,
+        start,
+        MonteCarloRng::seed_from_u64(word(list, at + 1)),
+    )
 }
 
 // The unit draw of a word.

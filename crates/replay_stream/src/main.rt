@@ -14,11 +14,23 @@ fn line(name: &[u8], agreed: u64, all: u64) {
 }
 
 fn main() {
-    line(b"xoshiro256** from 1, 2, 3, 4, words: ", published::xoshiro(), 10);
+    line(
+        b"xoshiro256** from 1, 2, 3, 4, words: ",
+        published::xoshiro(),
+        10,
+    );
     line(b"SplitMix64 from 0, words: ", published::splitmix_zero(), 4);
-    line(b"SplitMix64 from 1234567, words: ", published::splitmix_1234567(), 4);
+    line(
+        b"SplitMix64 from 1234567, words: ",
+        published::splitmix_1234567(),
+        4,
+    );
     let mut text = [0u8; 524288];
     let got = io::read_full(STDIN_FILENO, &mut text);
     let replayed = list::replay(&text[..got]);
-    line(b"the oracle's list, records: ", replayed.agreed, replayed.all);
+    line(
+        b"the oracle's list, records: ",
+        replayed.agreed,
+        replayed.all,
+    );
 }

@@ -1,0 +1,52 @@
+-- A record whose counts are within their bound, count by count.
+use mathlib.Core.Path.{_≡_}
+use mathlib.Core.Bool.{Bool, true, false, cond, _&&_}
+use Prim.Native.Nat.{ℕ, _^_, _≤_}
+use native.Mathlib.Omega.{arith}
+use borrow.Author.Tests.{leb-true}
+use lib.Ieee.{Float, eq}
+use Rattle.real.specs.Numbers.{zero64}
+use Rattle.real.proofs.Truth.{both}
+use Rattle.accumulator.specs.declared.StatisticsAccumulator.{StatisticsAccumulator}
+use Rattle.accumulator.specs.Record.{bounded, boundedCounts, finiteSums, wellFormed}
+use Rattle.accumulator.specs.Steps.{zeroCount}
+
+pub record Within (a : StatisticsAccumulator) : Type 0 where
+  pub waiting : a .«new_samples» ≤ 2 ^ 53
+  pub waitingZeros : a .«new_zero_evaluations» ≤ 2 ^ 53
+  pub iterations : a .«cur_iter» ≤ 2 ^ 53
+  pub processed : a .«processed_samples» ≤ 2 ^ 53
+  pub zeros : a .«num_zero_evaluations» ≤ 2 ^ 53
+
+bound : (n : ℕ) → bounded n ≡ true → n ≤ 2 ^ 53
+unfolding bounded
+bound n e = leb-true n (2 ^ 53) e
+
+pub within : (a : StatisticsAccumulator) → boundedCounts a ≡ true → Within a
+unfolding boundedCounts
+within a e =
+    let p = both _ _ e in
+    let q = both _ _ (p .0) in
+    let r = both _ _ (q .0) in
+    let s = both _ _ (r .0) in
+    record {
+      waiting = bound (a .«new_samples») (s .0);
+      waitingZeros = bound (a .«new_zero_evaluations») (s .1);
+      iterations = bound (a .«cur_iter») (r .1);
+      processed = bound (a .«processed_samples») (q .1);
+      zeros = bound (a .«num_zero_evaluations») (p .1);
+    }
+
+-- a well-formed record has its counts within their bound
+pub counts-of : (a : StatisticsAccumulator) → wellFormed a ≡ true → boundedCounts a ≡ true
+unfolding wellFormed
+counts-of a e = both (finiteSums a) (boundedCounts a) e .1
+
+-- an evaluation adds at most one zero
+pub zero-small : (e : Float) → zeroCount e ≤ 1
+unfolding zeroCount
+zero-small e = at (eq e zero64)
+  where
+    at : (b : Bool) → cond b 1 0 ≤ 1
+    at true = omega arith
+    at false = omega arith

@@ -1,0 +1,5 @@
+-- Laws on the record that belong to no one function, and the calls' totality and uniqueness.
+pub mod Counts
+pub mod Processed
+pub mod Laws
+pub mod Unique

@@ -1,0 +1,5 @@
+-- What the accumulator is, what each step does to it, and what each call answers.
+pub mod Record
+pub mod Steps
+pub mod Update
+pub mod Calls

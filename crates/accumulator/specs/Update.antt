@@ -1,0 +1,69 @@
+-- `update_iter`, in the Rust's order of operations.
+use Prim.Native.Nat.{ℕ, _+_}
+use mathlib.Core.Bool.{Bool, cond}
+use lib.Dec.{leb, eqb}
+use lib.Ieee.{Float, binary64, ofBits, add, sub, mul, div, eq}
+use Rattle.real.specs.Numbers.{zero64, one64}
+use Rattle.real.specs.Inverse.{invOf}
+use Rattle.real.specs.Count.{countOf}
+use Rattle.real.specs.Root.{rootOf}
+use Rattle.accumulator.specs.declared.StatisticsAccumulator.{StatisticsAccumulator}
+use Rattle.accumulator.specs.Record.{raised}
+
+-- the variance of a mean, from it, the mean of the squares and the number of samples; rounding may take it below zero
+unfoldable pub varianceOf : Float → Float → Float → Float
+varianceOf mean squares n =
+    div binary64 (mul binary64 (add binary64 (rootOf squares) mean) (sub binary64 (rootOf squares) mean)) (sub binary64 n one64)
+
+-- an iteration's weight: 2^64 for a variance of zero, else its inverse
+unfoldable pub weightOf : Float → Float
+weightOf variance = cond (eq variance zero64) (ofBits binary64 0x43f0_0000_0000_0000) (invOf variance)
+
+-- the waiting samples of at least two, processed
+unfoldable pub processedOf : Bool → StatisticsAccumulator → StatisticsAccumulator
+processedOf weighted a =
+    let n = countOf (a .«new_samples») in
+    let total = add binary64 (a .«total_sum») (a .sum) in
+    let squares = add binary64 (a .«total_sum_sq») (a .«sum_sq») in
+    let mean = div binary64 (a .sum) n in
+    let weight = weightOf (varianceOf mean (div binary64 (a .«sum_sq») n) n) in
+    let weights = add binary64 (a .«weight_sum») weight in
+    let averages = add binary64 (a .«avg_sum») (mul binary64 weight mean) in
+    let sigma = invOf weights in
+    let weightedMean = mul binary64 sigma averages in
+    let all = countOf (a .«processed_samples» + a .«new_samples») in
+    let plainMean = div binary64 total all in
+    let guess = cond (eqb (a .«cur_iter») 0) mean (a .guess) in
+    let off = mul binary64 weight (sub binary64 mean guess) in
+    let chi = add binary64 (a .«chi_sum») off in
+    let chiSquares = add binary64 (a .«chi_sq_sum») (mul binary64 off mean) in
+    record {
+      sum = zero64;
+      «sum_sq» = zero64;
+      «total_sum» = total;
+      «total_sum_sq» = squares;
+      «weight_sum» = weights;
+      «avg_sum» = averages;
+      avg = cond weighted weightedMean plainMean;
+      err = cond weighted (rootOf sigma) (rootOf (varianceOf plainMean (div binary64 squares all) all));
+      guess = guess;
+      «chi_sq» = sub binary64 chiSquares (mul binary64 weightedMean chi);
+      «chi_sum» = chi;
+      «chi_sq_sum» = chiSquares;
+      «new_samples» = 0;
+      «new_zero_evaluations» = 0;
+      «cur_iter» = a .«cur_iter» + 1;
+      «processed_samples» = a .«processed_samples» + a .«new_samples»;
+      «max_eval_positive» = a .«max_eval_positive»;
+      «max_eval_positive_number» = a .«max_eval_positive_number»;
+      «max_eval_negative» = a .«max_eval_negative»;
+      «max_eval_negative_number» = a .«max_eval_negative_number»;
+      «num_zero_evaluations» = a .«num_zero_evaluations» + a .«new_zero_evaluations»;
+    }
+
+-- fewer than two waiting samples raise `cur_iter` alone and go on waiting
+unfoldable pub enough : StatisticsAccumulator → Bool
+enough a = leb 2 (a .«new_samples»)
+
+unfoldable pub updatedOf : Bool → StatisticsAccumulator → StatisticsAccumulator
+updatedOf weighted a = cond (enough a) (processedOf weighted a) (raised a)

@@ -1,0 +1,165 @@
+// The Rust's steps on a record whose counts are within their bound. Nothing is judged here: the calls judge.
+ghost use mathlib.Core.Path.{_≡_};
+ghost use mathlib.Core.Bool.{true, cond};
+ghost use Rattle.accumulator.specs.Record.{boundedCounts, raised};
+ghost use Rattle.accumulator.specs.Steps.{zeroCount, replaced, addedOf, mergedOf, clearedOf, copiedOf};
+ghost use Rattle.accumulator.specs.Update.{varianceOf, weightOf, processedOf, updatedOf};
+use crate::StatisticsAccumulator;
+
+// One of two doubles.
+fn either(first: bool, a: f64, b: f64) -> f64
+    ensures { λ r. ⌜ r ≡ cond first a b ⌝ }
+{
+    if first { a } else { b }
+}
+
+// One of two numbers.
+fn either_number(first: bool, a: u64, b: u64) -> u64
+    ensures { λ r. ⌜ r ≡ cond first a b ⌝ }
+{
+    if first { a } else { b }
+}
+
+// 1 for a zero evaluation.
+fn zero_count(eval: f64) -> u64
+    ensures { λ r. ⌜ r ≡ zeroCount eval ⌝ }
+{
+    if eval == 0.0 { 1 } else { 0 }
+}
+
+// Whether an extreme gives way: no sample holds it, or it is beaten.
+fn is_replaced(number: u64, beaten: bool) -> bool
+    ensures { λ r. ⌜ r ≡ replaced number beaten ⌝ }
+{
+    (number == 0) | beaten
+}
+
+// The record with one evaluation more.
+pub fn added(a: StatisticsAccumulator, eval: f64, number: u64) -> StatisticsAccumulator
+    requires { ⌜ boundedCounts a ≡ true ⌝ }
+    ensures { λ r. ⌜ r ≡ addedOf a eval number ⌝ }
+{
+    let high = is_replaced(a.max_eval_positive_number, a.max_eval_positive < eval);
+    let low = is_replaced(a.max_eval_negative_number, eval < a.max_eval_negative);
+    let mut r = a;
+    r.sum = a.sum + eval;
+    r.sum_sq = a.sum_sq + eval * eval;
+    r.new_samples = a.new_samples + 1;
+    r.new_zero_evaluations = a.new_zero_evaluations + zero_count(eval);
+    r.max_eval_positive = either(high, eval, a.max_eval_positive);
+    r.max_eval_positive_number = either_number(high, number, a.max_eval_positive_number);
+    r.max_eval_negative = either(low, eval, a.max_eval_negative);
+    r.max_eval_negative_number = either_number(low, number, a.max_eval_negative_number);
+    r
+}
+
+// The record with the other's waiting samples.
+pub fn merged(a: StatisticsAccumulator, b: StatisticsAccumulator) -> StatisticsAccumulator
+    requires { ⌜ (boundedCounts a ≡ true) × (boundedCounts b ≡ true) ⌝ }
+    ensures { λ r. ⌜ r ≡ mergedOf a b ⌝ }
+{
+    let high = a.max_eval_positive < b.max_eval_positive;
+    let low = b.max_eval_negative < a.max_eval_negative;
+    let mut r = a;
+    r.sum = a.sum + b.sum;
+    r.sum_sq = a.sum_sq + b.sum_sq;
+    r.new_samples = a.new_samples + b.new_samples;
+    r.new_zero_evaluations = a.new_zero_evaluations + b.new_zero_evaluations;
+    r.max_eval_positive = either(high, b.max_eval_positive, a.max_eval_positive);
+    r.max_eval_positive_number = either_number(
+        high,
+        b.max_eval_positive_number,
+        a.max_eval_positive_number,
+    );
+    r.max_eval_negative = either(low, b.max_eval_negative, a.max_eval_negative);
+    r.max_eval_negative_number = either_number(
+        low,
+        b.max_eval_negative_number,
+        a.max_eval_negative_number,
+    );
+    r
+}
+
+// The record with nothing waiting.
+pub fn cleared(a: StatisticsAccumulator) -> StatisticsAccumulator
+    ensures { λ r. ⌜ r ≡ clearedOf a ⌝ }
+{
+    let mut r = a;
+    r.sum = 0.0;
+    r.sum_sq = 0.0;
+    r.new_samples = 0;
+    r.new_zero_evaluations = 0;
+    r
+}
+
+// The record without the extremes' samples.
+pub fn copied(a: StatisticsAccumulator) -> StatisticsAccumulator
+    ensures { λ r. ⌜ r ≡ copiedOf a ⌝ }
+{
+    let mut r = a;
+    r.max_eval_positive_number = 0;
+    r.max_eval_negative_number = 0;
+    r
+}
+
+// The variance of a mean, with no clamp: rounding may take it below zero.
+fn variance(mean: f64, squares: f64, n: f64) -> f64
+    ensures { λ r. ⌜ r ≡ varianceOf mean squares n ⌝ }
+{
+    let w = real::sqrt(squares);
+    ((w + mean) * (w - mean)) / (n - 1.0)
+}
+
+// An iteration's weight; where all samples are the same, a large number.
+fn weight(variance: f64) -> f64
+    ensures { λ r. ⌜ r ≡ weightOf variance ⌝ }
+{
+    if variance == 0.0 {
+        return 18446744073709551616.0;
+    }
+    real::inv(variance)
+}
+
+// The estimates after an iteration whose mean, weight and totals are known.
+fn processed(weighted: bool, a: StatisticsAccumulator) -> StatisticsAccumulator
+    requires { ⌜ boundedCounts a ≡ true ⌝ }
+    ensures { λ r. ⌜ r ≡ processedOf weighted a ⌝ }
+{
+    let n = real::count(a.new_samples);
+    let mean = a.sum / n;
+    let w = weight(variance(mean, a.sum_sq / n, n));
+    let mut r = cleared(a);
+    r.processed_samples = a.processed_samples + a.new_samples;
+    r.num_zero_evaluations = a.num_zero_evaluations + a.new_zero_evaluations;
+    r.cur_iter = a.cur_iter + 1;
+    r.total_sum = a.total_sum + a.sum;
+    r.total_sum_sq = a.total_sum_sq + a.sum_sq;
+    r.weight_sum = a.weight_sum + w;
+    r.avg_sum = a.avg_sum + w * mean;
+    let sigma = real::inv(r.weight_sum);
+    let weighted_avg = sigma * r.avg_sum;
+    let all = real::count(r.processed_samples);
+    let avg = r.total_sum / all;
+    let err = real::sqrt(variance(avg, r.total_sum_sq / all, all));
+    r.avg = either(weighted, weighted_avg, avg);
+    r.err = either(weighted, real::sqrt(sigma), err);
+    r.guess = either(a.cur_iter == 0, mean, a.guess);
+    let off = w * (mean - r.guess);
+    r.chi_sum = a.chi_sum + off;
+    r.chi_sq_sum = a.chi_sq_sum + off * mean;
+    r.chi_sq = r.chi_sq_sum - weighted_avg * r.chi_sum;
+    r
+}
+
+// The record after an iteration; fewer than two waiting samples go on waiting.
+pub fn updated(weighted: bool, a: StatisticsAccumulator) -> StatisticsAccumulator
+    requires { ⌜ boundedCounts a ≡ true ⌝ }
+    ensures { λ r. ⌜ r ≡ updatedOf weighted a ⌝ }
+{
+    if a.new_samples < 2 {
+        let mut r = a;
+        r.cur_iter = a.cur_iter + 1;
+        return r;
+    }
+    processed(weighted, a)
+}
