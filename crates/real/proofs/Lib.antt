@@ -14,3 +14,10 @@ pub mod Floors
 pub mod Ranges
 pub mod Nearest
 pub mod Unique
+pub mod Examples
+pub mod Sums
+pub mod Monotone
+pub mod Steps
+pub mod Sterbenz
+pub mod Error
+pub mod Draws

@@ -9,3 +9,4 @@ pub mod Root
 pub mod Ln
 pub mod Power
 pub mod Bound
+pub mod Total
