@@ -15,3 +15,10 @@ pub mod Ranges
 pub mod Nearest
 pub mod Unique
 pub mod Ladder
+pub mod Examples
+pub mod Sums
+pub mod Monotone
+pub mod Steps
+pub mod Sterbenz
+pub mod Error
+pub mod Draws

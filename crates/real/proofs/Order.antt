@@ -89,40 +89,26 @@ unfolding le
 under-le s m e t n d h = is (of-under s (m * up e * down d) t (n * up d * down e) h)
 
 -- ---- three signed fractions: ±x / p, ±y / q, ±z / r
-none : (x q : ℕ) → 0 < q → x * q ≤ 0 → x ≡ 0
-none x q Q h = elim (eq-zero-or-pos x) [ inl e ↦ e | inr l ↦ absurd (not-le-of-lt (mul-pos l Q) h) ]
-
-nil : (x r : ℕ) → x ≡ 0 → x * r ≡ 0
-nil x r e = ap (λ (k : ℕ). k * r) e ∙ zero-mul r
+-- x / q is 0, so x over anything is
+gone : (x q r : ℕ) → 0 < q → x * q ≤ 0 → x * r ≡ 0
+gone x q r Q h = elim (eq-zero-or-pos x) [ inl e ↦ ap (λ (k : ℕ). k * r) e ∙ zero-mul r | inr l ↦ absurd (not-le-of-lt (mul-pos l Q) h) ]
 
 under-trans : (s t u : Bool) (x y z p q r : ℕ) → 0 < p → 0 < q → 0 < r
     → Under s (x * q) t (y * p) → Under t (y * r) u (z * q) → Under s (x * r) u (z * p)
 under-trans false false false x y z p q r P Q R h k = through x y z p q r Q h k
 under-trans false false true x y z p q r P Q R h k =
-    let zq : z * q ≤ 0 = omega arith in
-    let yr : y * r ≤ 0 = omega arith in
-    let yp : y * p ≡ 0 = nil y p (none y r R yr) in
-    let xq : x * q ≤ 0 = omega arith in
-    let xr : x * r ≡ 0 = nil x r (none x q Q xq) in
-    let zp : z * p ≡ 0 = nil z p (none z q Q zq) in
+    let yp = gone y r p R (omega arith) in
+    let xr = gone x q r Q (omega arith) in
+    let zp = gone z q p Q (omega arith) in
     omega arith
-under-trans false true false x y z p q r P Q R h k =
-    let xq : x * q ≤ 0 = omega arith in
-    let xr : x * r ≡ 0 = nil x r (none x q Q xq) in
-    omega arith
+under-trans false true false x y z p q r P Q R h k = let xr = gone x q r Q (omega arith) in omega arith
 under-trans false true true x y z p q r P Q R h k =
-    let xq : x * q ≤ 0 = omega arith in
-    let yp : y * p ≤ 0 = omega arith in
-    let yr : y * r ≡ 0 = nil y r (none y p P yp) in
-    let zq : z * q ≤ 0 = omega arith in
-    let xr : x * r ≡ 0 = nil x r (none x q Q xq) in
-    let zp : z * p ≡ 0 = nil z p (none z q Q zq) in
+    let yr = gone y p r P (omega arith) in
+    let xr = gone x q r Q (omega arith) in
+    let zp = gone z q p Q (omega arith) in
     omega arith
 under-trans true false false x y z p q r P Q R h k = tt
-under-trans true false true x y z p q r P Q R h k =
-    let zq : z * q ≤ 0 = omega arith in
-    let zp : z * p ≡ 0 = nil z p (none z q Q zq) in
-    omega arith
+under-trans true false true x y z p q r P Q R h k = let zp = gone z q p Q (omega arith) in omega arith
 under-trans true true false x y z p q r P Q R h k = tt
 under-trans true true true x y z p q r P Q R h k = through z y x r q p Q k h
 

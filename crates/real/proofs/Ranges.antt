@@ -61,14 +61,14 @@ tail-within z w (suc n) h =
     weaken (add binary64 (div binary64 one64 (countOf (19 - 2 * n))) (mul binary64 z (tailOf z n))) (1 * 1 + 1 * (n + 1)) (suc n + 1) (omega arith)
     (within-add (div binary64 one64 (countOf (19 - 2 * n))) (mul binary64 z (tailOf z n)) (1 * 1) (1 * (n + 1)) a b (omega arith))
 
--- m is not negative, and 2 at most
-abbrev Unsigned : Float → Type 0
-Unsigned nan = ⊥
-Unsigned (inf s) = ⊥
-Unsigned (fin true m e) = ⊥
-Unsigned (fin false m e) = m * up e ≤ 2 * down e
+-- m from 0 to 2, with no sign
+abbrev ToTwo : Float → Type 0
+ToTwo nan = ⊥
+ToTwo (inf s) = ⊥
+ToTwo (fin true m e) = ⊥
+ToTwo (fin false m e) = m * up e ≤ 2 * down e
 
-less-one : (m : Float) → Unsigned m → Within (sub binary64 m one64) 1
+less-one : (m : Float) → ToTwo m → Within (sub binary64 m one64) 1
 unfolding sub add neg sum ofBits
 less-one nan w = absurd w
 less-one (inf s) w = absurd w
@@ -79,14 +79,14 @@ less-one (fin false m e) w = go (ltb (m * up e * 1) (1 * down e)) (ltb (1 * down
     go true c = within-round true (1 * down e - m * up e * 1) (down e * 1) 1 (mul-pos (down-pos e) (lit< tt)) (lit≤ tt) (omega arith)
     go false c = within-round false (m * up e * 1 - 1 * down e) (down e * 1) 1 (mul-pos (down-pos e) (lit< tt)) (lit≤ tt) (omega arith)
 
-more-one : (m : Float) → Unsigned m → Above (add binary64 m one64) 1
+more-one : (m : Float) → ToTwo m → Above (add binary64 m one64) 1
 unfolding add sum ofBits
 more-one nan w = absurd w
 more-one (inf s) w = absurd w
 more-one (fin true m e) w = absurd w
 more-one (fin false m e) w = above-round (m * up e * 1 + 1 * down e) (down e * 1) 3 (mul-pos (down-pos e) (lit< tt)) (lit≤ tt) (omega arith) (omega arith)
 
-log-within : (m e : Float) (N : ℕ) → N ≤ 4000 → Unsigned m → Within e N → Within (logOf m e) (N * 1 + 22)
+log-within : (m e : Float) (N : ℕ) → N ≤ 4000 → ToTwo m → Within e N → Within (logOf m e) (N * 1 + 22)
 unfolding logOf
 log-within m e N l w h =
     let s = div binary64 (sub binary64 m one64) (add binary64 m one64) in
@@ -103,27 +103,27 @@ two-value : HasValue two64 false 2 1
 unfolding ofBits
 two-value = (refl, refl)
 
-value-unsigned : (x : Float) (a c : ℕ) → 0 < c → HasValue x false a c → a ≤ 2 * c → Unsigned x
-value-unsigned nan a c C v h = v
-value-unsigned (inf s) a c C v h = v
-value-unsigned (fin true m e) a c C v h = true≢false (v .0)
-value-unsigned (fin false m e) a c C v h = value-within (fin false m e) false a c 2 C v h
+value-to-two : (x : Float) (a c : ℕ) → 0 < c → HasValue x false a c → a ≤ 2 * c → ToTwo x
+value-to-two nan a c C v h = v
+value-to-two (inf s) a c C v h = v
+value-to-two (fin true m e) a c C v h = true≢false (v .0)
+value-to-two (fin false m e) a c C v h = value-within (fin false m e) false a c 2 C v h
 
-round-unsigned : (a b : ℕ) → 0 < b → a ≤ 2 * b → Unsigned (round binary64 false a b)
-round-unsigned a b B h =
+round-to-two : (a b : ℕ) → 0 < b → a ≤ 2 * b → ToTwo (round binary64 false a b)
+round-to-two a b B h =
     let g = round-finite binary64 a b two64 2 1 B (lit< tt) (ofBits-fits binary64 0x4000_0000_0000_0000) two-value (le-trans (le-of-eq (mul-one a)) h) in
-    value-unsigned (round binary64 false a b) (g .0) (2 ^ 1074) (pow-pos 1074) (g .1) (le-trans (le-of-eq (sym (mul-one (g .0)))) (g .2))
+    value-to-two (round binary64 false a b) (g .0) (2 ^ 1074) (pow-pos 1074) (g .1) (le-trans (le-of-eq (sym (mul-one (g .0)))) (g .2))
 
-half-unsigned : (m : Float) → Unsigned m → Unsigned (mul binary64 m half64)
+half-to-two : (m : Float) → ToTwo m → ToTwo (mul binary64 m half64)
 unfolding mul ofBits
-half-unsigned nan w = absurd w
-half-unsigned (inf s) w = absurd w
-half-unsigned (fin true m e) w = absurd w
-half-unsigned (fin false m e) w = round-unsigned (m * up e * 1) (down e * 2) (mul-pos (down-pos e) (lit< tt)) (omega arith)
+half-to-two nan w = absurd w
+half-to-two (inf s) w = absurd w
+half-to-two (fin true m e) w = absurd w
+half-to-two (fin false m e) w = round-to-two (m * up e * 1) (down e * 2) (mul-pos (down-pos e) (lit< tt)) (omega arith)
 
-mantissa-unsigned : (x : Float) → Unsigned (mantissaOf x)
+mantissa-to-two : (x : Float) → ToTwo (mantissaOf x)
 unfolding mantissaOf
-mantissa-unsigned x = round-unsigned (unitsOf x) (2 ^ (size (unitsOf x) - 1)) (pow-pos (size (unitsOf x) - 1)) (go (size (unitsOf x)) (size-lt (unitsOf x)))
+mantissa-to-two x = round-to-two (unitsOf x) (2 ^ (size (unitsOf x) - 1)) (pow-pos (size (unitsOf x) - 1)) (go (size (unitsOf x)) (size-lt (unitsOf x)))
   where
     go : (z : ℕ) → unitsOf x < 2 ^ z → unitsOf x ≤ 2 * 2 ^ (z - 1)
     go zero h = le-trans (le-of-lt h) (lit≤ tt)
@@ -159,8 +159,8 @@ ln-bounded y N s p a b =
     go : (p : Bool) → p ≡ true → (c : Bool) → Within (ofInt binary64 (exponentOf y)) N → Within (ofInt binary64 (sucℤ (exponentOf y))) N
         → Within (cond p (cond c (logOf (mul binary64 (mantissaOf y) half64) (ofInt binary64 (sucℤ (exponentOf y)))) (logOf (mantissaOf y) (ofInt binary64 (exponentOf y)))) nan) (N * 1 + 22)
     go false h c e0 e1 = absurd (false≢true h)
-    go true h true e0 e1 = log-within (mul binary64 (mantissaOf y) half64) (ofInt binary64 (sucℤ (exponentOf y))) N s (half-unsigned (mantissaOf y) (mantissa-unsigned y)) e1
-    go true h false e0 e1 = log-within (mantissaOf y) (ofInt binary64 (exponentOf y)) N s (mantissa-unsigned y) e0
+    go true h true e0 e1 = log-within (mul binary64 (mantissaOf y) half64) (ofInt binary64 (sucℤ (exponentOf y))) N s (half-to-two (mantissaOf y) (mantissa-to-two y)) e1
+    go true h false e0 e1 = log-within (mantissaOf y) (ofInt binary64 (exponentOf y)) N s (mantissa-to-two y) e0
 
 -- ---- y from 2 ^ -10 to 2, as a fraction
 record Base (y : Float) : Type 0 where

@@ -57,6 +57,9 @@ round-finite f a b y n d B D t v h =
     ]
 
 -- ---- the four operations
+pub less-mul : (i j k : ℕ) → (i - j) * k ≡ i * k - j * k
+less-mul i j k = mul-comm (i - j) k ∙ mul-sub k i j ∙ ap₂ (λ (u t : ℕ). u - t) (mul-comm k i) (mul-comm k j)
+
 -- x / p = a / c and y / q = b / d
 module _ (f : Format) (x p y q a c b d : ℕ) (P : 0 < p) (Q : 0 < q) (C : 0 < c) (D : 0 < d) (v : x * c ≡ a * p) (w : y * d ≡ b * q) where
   left : x * q * (c * d) ≡ a * d * (p * q)
@@ -67,9 +70,6 @@ module _ (f : Format) (x p y q a c b d : ℕ) (P : 0 < p) (Q : 0 < q) (C : 0 < c
 
   sum-same : round f false (x * q + y * p) (p * q) ≡ round f false (a * d + b * c) (c * d)
   sum-same = round-same f false (x * q + y * p) (p * q) (a * d + b * c) (c * d) (mul-pos P Q) (mul-pos C D) (add-mul (x * q) (y * p) (c * d) ∙ ap₂ (λ (i j : ℕ). i + j) left right ∙ sym (add-mul (a * d) (b * c) (p * q)))
-
-  less-mul : (i j k : ℕ) → (i - j) * k ≡ i * k - j * k
-  less-mul i j k = mul-comm (i - j) k ∙ mul-sub k i j ∙ ap₂ (λ (u t : ℕ). u - t) (mul-comm k i) (mul-comm k j)
 
   less-same : round f false (x * q - y * p) (p * q) ≡ round f false (a * d - b * c) (c * d)
   less-same = round-same f false (x * q - y * p) (p * q) (a * d - b * c) (c * d) (mul-pos P Q) (mul-pos C D) (less-mul (x * q) (y * p) (c * d) ∙ ap₂ (λ (i j : ℕ). i - j) left right ∙ sym (less-mul (a * d) (b * c) (p * q)))

@@ -10,3 +10,4 @@ pub mod Ln
 pub mod Power
 pub mod Bound
 pub mod Paper
+pub mod Total

@@ -52,13 +52,11 @@ pub fn whole(x: f64) -> u64
     0
 }
 
-// The double nearest n, n itself up to 2^53. Both halves are doubles, so only the sum is rounded.
+// The double nearest n, n itself up to 2^53.
 pub fn count(n: u64) -> f64
     ensures { λ r. ⌜ r ≡ countOf n ⌝ }
 {
-    let high = ((n / 4294967296) as u32) as f64;
-    let low = ((n % 4294967296) as u32) as f64;
-    high * 4294967296.0 + low
+    std::num::nearest_u64_to_f64(n)
 }
 
 // Whether x is finite and above 0.

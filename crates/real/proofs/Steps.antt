@@ -1,0 +1,71 @@
+-- The even steps i / n rise strictly from exactly 0 to exactly 1 after rounding: between two neighbours lie two multiples of 2 ^ -12, which
+-- are doubles. Assumes nothing.
+use mathlib.Core.Path.{_≡_, refl, sym, _∙_}
+use Prim.Native.Nat.{ℕ, suc, _+_, _*_, _/_, _^_, _≤_, _<_}
+use native.Mathlib.Nat.{le-trans, lt-of-le-of-lt, mul-assoc, mul-le-mul-right, lt-div-mul-add, div-mul-le-self, le-of-mul-le-mul-right}
+use native.Mathlib.Omega.{arith}
+use mathlib.Core.Bool.{true, false}
+use lib.Dec.{lit<, lit≤}
+use lib.Ieee.{Float, binary64, round, div, lt, le, ofBits, ofInt}
+use lib.Ieee.Exact.{HasValue, round-exact}
+use lib.Ieee.Order.{round-mono}
+use lib.Ieee.Scale.{round-same}
+use Rattle.real.specs.Numbers.{zero64, one64}
+use Rattle.real.specs.Count.{countOf}
+use Rattle.real.specs.Inverse.{invOf}
+use Rattle.real.proofs.Truth.{is}
+use Rattle.real.proofs.Order.{lt-le-trans, le-lt-trans}
+use Rattle.real.proofs.Fractions.{values-lt}
+use Rattle.real.proofs.Wholes.{count-div}
+
+-- i / n, rounded once
+abbrev pub step : ℕ → ℕ → Float
+step i n = div binary64 (countOf i) (countOf n)
+
+step-is : (i n : ℕ) → 1 ≤ n → n ≤ 1024 → i ≤ 1024 → step i n ≡ round binary64 false i n
+step-is i n N M I = count-div i n (le-trans I (lit≤ tt)) (le-trans M (lit≤ tt)) N
+
+-- a multiple of 2 ^ -12 up to 1 rounds to itself
+dyadic : (a : ℕ) → a ≤ 4096 → HasValue (round binary64 false a 4096) false a 4096
+dyadic a h =
+    round-exact binary64 false a 4096 a 1062 (lit< tt) (lt-of-le-of-lt h (lit< tt)) (lt-of-le-of-lt (mul-le-mul-right (2 ^ 1062) h) (lit< tt)) (sym (mul-assoc a (2 ^ 1062) 4096))
+
+squeezed : (i n : ℕ) → n ≤ 1024 → i < n → lt (round binary64 false i n) (round binary64 false (suc i) n) ≡ true
+squeezed i n M h =
+    let q = i * 4096 / n in
+    let N : 0 < n = omega arith in
+    let K : 0 < 4096 = lit< tt in
+    let u : i * 4096 < q * n + n = lt-div-mul-add N in
+    let l : q * n ≤ i * 4096 = div-mul-le-self (i * 4096) n in
+    let left : i * 4096 ≤ suc q * n = omega arith in
+    let right : suc (suc q) * n ≤ suc i * 4096 = omega arith in
+    let small : suc (suc q) ≤ 4096 = le-of-mul-le-mul-right (le-trans right (omega arith)) N in
+    let rise : lt (round binary64 false (suc q) 4096) (round binary64 false (suc (suc q)) 4096) ≡ true = values-lt (round binary64 false (suc q) 4096) (round binary64 false (suc (suc q)) 4096) (suc q) 4096 (suc (suc q)) 4096 (dyadic (suc q) (omega arith)) (dyadic (suc (suc q)) small) (omega arith) in
+    le-lt-trans (round binary64 false i n) (round binary64 false (suc q) 4096) (round binary64 false (suc i) n) (is (round-mono binary64 i n (suc q) 4096 N K left))
+    (lt-le-trans (round binary64 false (suc q) 4096) (round binary64 false (suc (suc q)) 4096) (round binary64 false (suc i) n) rise (is (round-mono binary64 (suc (suc q)) 4096 (suc i) n K N right)))
+
+pub step-rises : (i n : ℕ) → n ≤ 1024 → i < n → lt (step i n) (step (suc i) n) ≡ true
+step-rises i n M h = rw (step-is i n (omega arith) M (omega arith), step-is (suc i) n (omega arith) M (omega arith)) (squeezed i n M h)
+
+pub step-first : (n : ℕ) → 1 ≤ n → n ≤ 1024 → step 0 n ≡ zero64
+unfolding round ofBits
+step-first n N M = step-is 0 n N M (lit≤ tt) ∙ round-same binary64 false 0 n 0 1 N (lit< tt) (omega arith)
+
+pub step-last : (n : ℕ) → 1 ≤ n → n ≤ 1024 → step n n ≡ one64
+unfolding round ofBits
+step-last n N M = step-is n n N M M ∙ round-same binary64 false n n 1 1 N (lit< tt) (omega arith)
+
+-- 1 / n is finite and above 0
+one-is : one64 ≡ countOf 1
+unfolding ofBits countOf ofInt round
+one-is = refl
+
+pub inv-above : (n : ℕ) → 1 ≤ n → n ≤ 1024 → lt zero64 (invOf (countOf n)) ≡ true
+unfolding invOf lt round ofBits
+inv-above n N M =
+    rw (one-is, step-is 1 n N M (lit≤ tt))
+    (lt-le-trans zero64 (round binary64 false 1 1024) (round binary64 false 1 n) refl (is (round-mono binary64 1 1024 1 n (lit< tt) N (omega arith))))
+
+pub inv-at-most : (n : ℕ) → 1 ≤ n → n ≤ 1024 → le (invOf (countOf n)) one64 ≡ true
+unfolding invOf countOf ofInt
+inv-at-most n N M = rw (one-is, step-is 1 n N M (lit≤ tt)) (is (round-mono binary64 1 n 1 1 N (lit< tt) (omega arith)))

@@ -1,0 +1,51 @@
+-- `word` reads 16 bytes, which the line has from `at` on. Assumes nothing.
+use Prim.Native.Nat.{_≤_, _-_}
+use native.Mathlib.Omega.{arith}
+use borrow.Author.Needs.{needs}
+use Rattle.replay_real.proofs.word.Statement.{statement}
+use Rattle.replay_real.proofs.word.Tie as tie
+
+abbrev Inv-loop : tie.InvT-loop
+Inv-loop line at v₀ i₀ v i = i ≤ 16
+
+abbrev μ-loop : tie.MeasureT-loop
+μ-loop line at v₀ i₀ v i = 16 - i
+
+loop-holds : tie.Need-loop-holds Inv-loop μ-loop
+loop-holds c = omega arith
+
+add-digit : tie.Need-add-digit Inv-loop μ-loop
+add-digit c = omega arith
+
+element-copy-out-digit : tie.Need-element-copy-out-digit Inv-loop μ-loop
+element-copy-out-digit c = omega arith
+
+digit-requires : tie.Need-digit-requires Inv-loop μ-loop
+digit-requires c κs = search needs
+
+add-i : tie.Need-add-i Inv-loop μ-loop
+add-i c = omega arith
+
+loop-less : tie.Need-loop-less Inv-loop μ-loop
+loop-less c = omega arith
+
+loop-again : tie.Need-loop-again Inv-loop μ-loop
+loop-again c = omega arith
+
+returns : tie.Need-returns Inv-loop μ-loop
+returns c = search needs
+
+pub word-spec : {M : Type 1} → statement M
+word-spec =
+    tie.close
+    (tie.spec
+    Inv-loop
+    μ-loop
+    loop-holds
+    add-digit
+    element-copy-out-digit
+    digit-requires
+    add-i
+    loop-less
+    loop-again
+    returns)
