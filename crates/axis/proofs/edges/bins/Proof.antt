@@ -1,0 +1,20 @@
+use borrow.Author.Needs.{needs}
+use Rattle.axis.proofs.edges.bins.Statement.{statement}
+use Rattle.axis.proofs.edges.bins.Tie as tie
+use Rattle.axis.proofs.edges.bins.Reads as reads
+use Rattle.axis.proofs.edges.bins.Lts as lts
+
+-- src/edges.rt:40:9
+returns : tie.Need-returns
+returns c = ?
+
+-- src/edges.rt:42:5
+sub-result : tie.Need-sub-result
+sub-result c = search needs
+
+-- src/edges.rt:36:1
+returns-2 : tie.Need-returns-2
+returns-2 c = ?
+
+pub bins-spec : {M : Type 1} → statement M
+bins-spec = tie.close (tie.spec returns sub-result returns-2)

@@ -1,0 +1,24 @@
+use borrow.Author.Needs.{needs}
+use Rattle.axis.proofs.edges.edge.Statement.{statement}
+use Rattle.axis.proofs.edges.edge.Tie as tie
+use Rattle.axis.proofs.edges.edge.Reads as reads
+use Rattle.axis.proofs.edges.edge.Lts as lts
+
+-- src/edges.rt:50:16
+mul-result : tie.Need-mul-result
+mul-result c = search needs
+
+-- src/edges.rt:50:16
+shared-slice-read-result : tie.Need-shared-slice-read-result
+shared-slice-read-result c = search needs
+
+-- src/edges.rt:50:9
+returns : tie.Need-returns
+returns c = search needs
+
+-- src/edges.rt:46:1
+returns-2 : tie.Need-returns-2
+returns-2 c = ?
+
+pub edge-spec : {M : Type 1} → statement M
+edge-spec = tie.close (tie.spec mul-result shared-slice-read-result returns returns-2)

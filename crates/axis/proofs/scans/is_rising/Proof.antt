@@ -1,0 +1,67 @@
+use Rattle.axis.proofs.scans.is_rising.Statement.{statement}
+use Rattle.axis.proofs.scans.is_rising.Tie as tie
+use Rattle.axis.proofs.scans.is_rising.Reads as reads
+use Rattle.axis.proofs.scans.is_rising.Lts as lts
+
+abbrev Inv-loop : tie.InvT-loop
+Inv-loop edges ok₀ k₀ ok k = ?
+
+abbrev μ-loop : tie.MeasureT-loop
+μ-loop edges ok₀ k₀ ok k = ?
+
+-- src/scans.rt:13:5
+loop-holds : tie.Need-loop-holds Inv-loop μ-loop
+loop-holds c = ?
+
+-- src/scans.rt:14:26
+sub-ok : tie.Need-sub-ok Inv-loop μ-loop
+sub-ok c = ?
+
+-- src/scans.rt:14:20
+mul-ok : tie.Need-mul-ok Inv-loop μ-loop
+mul-ok c = ?
+
+-- src/scans.rt:14:20
+shared-slice-read-ok : tie.Need-shared-slice-read-ok Inv-loop μ-loop
+shared-slice-read-ok c = ?
+
+-- src/scans.rt:14:35
+mul-ok-2 : tie.Need-mul-ok-2 Inv-loop μ-loop
+mul-ok-2 c = ?
+
+-- src/scans.rt:14:35
+shared-slice-read-ok-2 : tie.Need-shared-slice-read-ok-2 Inv-loop μ-loop
+shared-slice-read-ok-2 c = ?
+
+-- src/scans.rt:15:9
+add-k : tie.Need-add-k Inv-loop μ-loop
+add-k c = ?
+
+-- src/scans.rt:13:5
+loop-less : tie.Need-loop-less Inv-loop μ-loop
+loop-less c = ?
+
+-- src/scans.rt:13:5
+loop-again : tie.Need-loop-again Inv-loop μ-loop
+loop-again c = ?
+
+-- src/scans.rt:8:1
+returns : tie.Need-returns Inv-loop μ-loop
+returns c = ?
+
+pub is-rising-spec : {M : Type 1} → statement M
+is-rising-spec =
+    tie.close
+    (tie.spec
+    Inv-loop
+    μ-loop
+    loop-holds
+    sub-ok
+    mul-ok
+    shared-slice-read-ok
+    mul-ok-2
+    shared-slice-read-ok-2
+    add-k
+    loop-less
+    loop-again
+    returns)
