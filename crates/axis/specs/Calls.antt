@@ -36,7 +36,7 @@ pointOf es r =
     let i = wholeOf scaled in
     record {
       at = add binary64 (getD es i nan) (mul binary64 (sub binary64 scaled (countOf i)) (widthOf es i));
-      weight = weightOf es i
+      weight = weightOf es i;
     }
 
 -- draw from a word: 12, then the point of its unit draw

@@ -1,8 +1,9 @@
 -- The edges of an axis, and the rule that gives a coordinate its bin.
-use Prim.Native.Nat.{ℕ, zero, suc, _+_, _-_}
-use mathlib.Core.Bool.{Bool, true, _&&_, cond}
+use mathlib.Core.Path.{_≡_}
+use Prim.Native.Nat.{ℕ, zero, suc, _+_, _-_, _<_}
+use mathlib.Core.Bool.{Bool, true, _&&_, _||_, cond}
 use mathlib.Core.List.{List, [], _∷_}
-use lib.Dec.{leb}
+use lib.Dec.{leb, eqb}
 use lib.ListN.{length, getD}
 use lib.Ieee.{Float, nan, binary64, sub, mul, div, lt, le, eq}
 use Rattle.real.specs.Numbers.{zero64, one64}
@@ -26,16 +27,20 @@ wellFormed es = leb 2 (length es) && (eq (getD es 0 nan) zero64 && (eq (getD es 
 unfoldable pub inUnit : Float → Bool
 inUnit x = le zero64 x && le x one64
 
--- The bin of x is the i with p[i] < x ≤ p[i+1], and 0 for zero: the first i with x ≤ p[i+1], looked for from the left.
--- Where no edge is so high, the last bin.
-unfoldable pub binFrom : Float → List Float → ℕ
-binFrom x [] = 0
-binFrom x (b ∷ []) = 0
-binFrom x (b ∷ (c ∷ es)) = cond (le x b) 0 (suc (binFrom x (c ∷ es)))
+-- the bin rule: x is in bin i where p[i] < x ≤ p[i+1]; zero, and minus zero, in bin 0
+pub record InBin (es : List Float) (x : Float) (i : ℕ) : Type 0 where
+  pub there : suc i < length es
+  pub above : (lt (getD es i nan) x || (eqb i 0 && eq x zero64)) ≡ true
+  pub upto : le x (getD es (suc i) nan) ≡ true
+
+-- the bin of x: the first i with x ≤ p[i+1], looked for from the left
+unfoldable pub firstUpto : Float → List Float → ℕ
+firstUpto x [] = 0
+firstUpto x (b ∷ es) = cond (le x b) 0 (suc (firstUpto x es))
 
 unfoldable pub binOf : List Float → Float → ℕ
 binOf [] x = 0
-binOf (a ∷ es) x = binFrom x es
+binOf (a ∷ es) x = firstUpto x es
 
 -- the width of bin i, and its weight: the number of bins times the width
 unfoldable pub widthOf : List Float → ℕ → Float

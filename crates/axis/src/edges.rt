@@ -1,9 +1,9 @@
 // The edges of an axis, with nothing judged: each function answers on any list.
 ghost use mathlib.Core.Path.{_≡_};
 ghost use mathlib.Core.Bool.{cond};
-ghost use lib.ListN.{getD};
+ghost use lib.ListN.{length, getD};
 ghost use lib.Ieee.{nan};
-ghost use Rattle.axis.specs.Edges.{binsOf, weightOf};
+ghost use Rattle.axis.specs.Edges.{binsOf, widthOf, weightOf, evenFrom};
 ghost use Rattle.axis.specs.Search.{searchOf};
 ghost use Rattle.axis.specs.Calls.{pointOf};
 use crate::Point;
@@ -52,15 +52,21 @@ fn edge(edges: &[f64], i: usize) -> f64
     0.0 / 0.0
 }
 
+// The width of bin i, and NaN past the last.
+fn width(edges: &[f64], i: usize) -> f64
+    ensures { λ r. ⌜ r ≡ widthOf (now (edges .entry)) i ⌝ }
+{
+    if i < edges.len() {
+        return edge(edges, i + 1) - edges[i];
+    }
+    0.0 / 0.0
+}
+
 // The weight of bin i: the number of bins times its width.
 pub fn weight_of(edges: &[f64], i: usize) -> f64
     ensures { λ r. ⌜ r ≡ weightOf (now (edges .entry)) i ⌝ }
 {
-    let n = real::count(bins(edges) as u64);
-    if i == 18446744073709551615 {
-        return 0.0 / 0.0;
-    }
-    n * (edge(edges, i + 1) - edge(edges, i))
+    real::count(bins(edges) as u64) * width(edges, i)
 }
 
 // The point that the unit draw r gives, with its weight.
@@ -69,17 +75,23 @@ pub fn point_of(edges: &[f64], r: f64) -> Point
 {
     let n = real::count(bins(edges) as u64);
     let scaled = n * r;
-    let i = real::whole(scaled);
-    if i == 18446744073709551615 {
-        return Point {
-            at: 0.0 / 0.0,
-            weight: 0.0 / 0.0,
-        };
-    }
-    let low = edge(edges, i as usize);
-    let width = edge(edges, (i + 1) as usize) - low;
+    let bin = real::whole(scaled);
+    let i = bin as usize;
+    let step = width(edges, i);
     Point {
-        at: low + (scaled - real::count(i)) * width,
-        weight: n * width,
+        at: edge(edges, i) + (scaled - real::count(bin)) * step,
+        weight: n * step,
+    }
+}
+
+// Lays the edges of even bins: i / n, for i from 0 to n, where the room has n + 1 places.
+pub fn lay_even(room: &mut [f64])
+    ensures { λ _. ⌜ now (room .exit) ≡ evenFrom (length (now (room .entry))) 0 (binsOf (now (room .entry))) ⌝ }
+{
+    let n = real::count(bins(room) as u64);
+    let mut i = 0;
+    while i < room.len() {
+        room[i] = real::count(i as u64) / n;
+        i += 1;
     }
 }

@@ -1,3 +1,6 @@
+use native.Mathlib.Omega.{arith}
+use mathlib.Core.Path.{refl}
+use Rattle.axis.specs.Edges.{binsOf}
 use borrow.Author.Needs.{needs}
 use Rattle.axis.proofs.edges.bins.Statement.{statement}
 use Rattle.axis.proofs.edges.bins.Tie as tie
@@ -6,7 +9,8 @@ use Rattle.axis.proofs.edges.bins.Lts as lts
 
 -- src/edges.rt:40:9
 returns : tie.Need-returns
-returns c = ?
+unfolding binsOf
+returns c = omega arith
 
 -- src/edges.rt:42:5
 sub-result : tie.Need-sub-result
@@ -14,7 +18,8 @@ sub-result c = search needs
 
 -- src/edges.rt:36:1
 returns-2 : tie.Need-returns-2
-returns-2 c = ?
+unfolding binsOf
+returns-2 c = refl
 
 pub bins-spec : {M : Type 1} → statement M
 bins-spec = tie.close (tie.spec returns sub-result returns-2)

@@ -1,3 +1,7 @@
+use lib.Ieee.{nan}
+use mathlib.Core.Path.{sym}
+use lib.ListN.{List·getD-eq-default}
+use lib.Ieee.{div, ofBits}
 use borrow.Author.Needs.{needs}
 use Rattle.axis.proofs.edges.edge.Statement.{statement}
 use Rattle.axis.proofs.edges.edge.Tie as tie
@@ -18,7 +22,8 @@ returns c = search needs
 
 -- src/edges.rt:46:1
 returns-2 : tie.Need-returns-2
-returns-2 c = ?
+unfolding div ofBits
+returns-2 c = sym (List·getD-eq-default (c .before .args .edges .now) nan (c .if1 .left))
 
 pub edge-spec : {M : Type 1} → statement M
 edge-spec = tie.close (tie.spec mul-result shared-slice-read-result returns returns-2)

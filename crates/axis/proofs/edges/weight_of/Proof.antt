@@ -1,48 +1,29 @@
+use Rattle.axis.specs.Edges.{weightOf}
 use borrow.Author.Needs.{needs}
 use Rattle.axis.proofs.edges.weight_of.Statement.{statement}
 use Rattle.axis.proofs.edges.weight_of.Tie as tie
 use Rattle.axis.proofs.edges.weight_of.Reads as reads
 use Rattle.axis.proofs.edges.weight_of.Lts as lts
 use Rattle.axis.proofs.edges.bins.Reads as bins-reads
-use Rattle.axis.proofs.edges.edge.Reads as edge-reads
+use Rattle.axis.proofs.edges.width.Reads as width-reads
 use Rattle.real.proofs.count.Reads as count-reads
 
--- src/edges.rt:59:25
+-- src/edges.rt:69:17
 bins-requires : tie.Need-bins-requires
 bins-requires c κs = search needs
 
--- src/edges.rt:59:9
+-- src/edges.rt:69:5
 count-requires : tie.Need-count-requires
 count-requires c κs = search needs
 
--- src/edges.rt:61:9
+-- src/edges.rt:69:39
+width-requires : tie.Need-width-requires
+width-requires c κs = search needs
+
+-- src/edges.rt:66:1
 returns : tie.Need-returns
-returns c = ?
-
--- src/edges.rt:63:22
-add-edge : tie.Need-add-edge
-add-edge c = search needs
-
--- src/edges.rt:63:10
-edge-requires : tie.Need-edge-requires
-edge-requires c κs = search needs
-
--- src/edges.rt:63:31
-edge-requires-2 : tie.Need-edge-requires-2
-edge-requires-2 c κs = search needs
-
--- src/edges.rt:56:1
-returns-2 : tie.Need-returns-2
-returns-2 c = ?
+unfolding weightOf
+returns c = rw (c .width .ensures, c .before .count .ensures, c .before .before .bins .ensures)
 
 pub weight-of-spec : {M : Type 1} → statement M
-weight-of-spec =
-    tie.close
-    (tie.spec
-    bins-requires
-    count-requires
-    returns
-    add-edge
-    edge-requires
-    edge-requires-2
-    returns-2)
+weight-of-spec = tie.close (tie.spec bins-requires count-requires width-requires returns)
