@@ -1,7 +1,8 @@
-// A list of answers: words of 16 lower-case hex digits, each with one byte after it, as oracle/README.md describes.
-// Every program that replays such a list reads it here.
+// A list of answers: words of 16 lower-case hex digits, each with one byte after it, as oracle/README.md describes,
+// and doubles as the words of such a list. Every program that replays a list reads it here.
 ghost use mathlib.Core.Path.{_≡_};
 ghost use Prim.Native.Nat.{_<_};
+ghost use lib.Ieee.{binary64, toBits, ofBits, nanBits};
 ghost use Rattle.answers.specs.List.{digitOf, wordsOf, wordOf};
 
 // The value of a hex digit; any other byte counts as 0.
@@ -51,4 +52,31 @@ pub fn word(list: &[u8], index: usize) -> u64
         done += 1;
     }
     value
+}
+
+// A double's word: its bits, any NaN as 7ff8000000000000.
+pub fn bits(x: f64) -> u64
+    ensures { λ r. ⌜ r ≡ toBits binary64 x ⌝ }
+{
+    if x != x {
+        return 0x7ff8_0000_0000_0000;
+    }
+    f64::to_bits(x)
+}
+
+// Whether these are a NaN's bits.
+fn is_nan(bits: u64) -> bool
+    ensures { λ r. ⌜ r ≡ nanBits binary64 bits ⌝ }
+{
+    0x7ff0_0000_0000_0000 < bits % 0x8000_0000_0000_0000
+}
+
+// The double of a word.
+pub fn double(bits: u64) -> f64
+    ensures { λ r. ⌜ r ≡ ofBits binary64 bits ⌝ }
+{
+    if is_nan(bits) {
+        return 0.0 / 0.0;
+    }
+    f64::from_bits(bits)
 }

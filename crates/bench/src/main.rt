@@ -1,6 +1,7 @@
 // Runs one of the library's inner loops as often as standard input says, `KIND COUNT`, and prints a word made of all results,
 // so that no part of the work can be left out. bench/run times it beside the same loop of the Rust.
 mod request;
+mod samples;
 
 use libc::STDIN_FILENO;
 use libc::STDOUT_FILENO;
@@ -23,7 +24,9 @@ fn stream_words(count: u64) -> u64 {
 // The kind that begins with this letter; 0 for an unknown one.
 fn run(kind: u8, count: u64) -> u64 {
     match kind {
+        b'a' => samples::added(count),
         b's' => stream_words(count),
+        b'u' => samples::updated(count),
         _ => 0,
     }
 }

@@ -2,6 +2,7 @@
 ghost use Prim.Native.Nat.{_+_, _<_, _≤_, _^_};
 ghost use lib.ListN.{length};
 ghost use mathlib.Core.Path.{_≡_};
+use answers::bits;
 use answers::word;
 use answers::words;
 use stream::Made;
@@ -248,14 +249,6 @@ fn replay_unit(list: &[u8], at: usize) -> Place
     let value = holds(list, start, bits(drawn.value));
     let stream = drawn.stream;
     holds_state(list, value, stream)
-}
-
-// A double's bits, any NaN as 7ff8000000000000.
-fn bits(x: f64) -> u64 {
-    if x == x {
-        return f64::to_bits(x);
-    }
-    0x7ff8_0000_0000_0000
 }
 
 // The stream of a seed.

@@ -1,0 +1,74 @@
+// The accumulator's inner loops, on a record in a local.
+use accumulator::Changed;
+use accumulator::StatisticsAccumulator;
+use accumulator::Updated;
+use answers::bits;
+
+// An evaluation that varies with `i` and costs next to nothing: the whole numbers from -512 to 511 in turn.
+fn evaluation(i: u64) -> f64 {
+    ((i % 1024) as u32) as f64 - 512.0
+}
+
+// The exclusive or of a record's words.
+fn word(a: StatisticsAccumulator) -> u64 {
+    bits(a.sum)
+        ^ bits(a.sum_sq)
+        ^ bits(a.total_sum)
+        ^ bits(a.total_sum_sq)
+        ^ bits(a.weight_sum)
+        ^ bits(a.avg_sum)
+        ^ bits(a.avg)
+        ^ bits(a.err)
+        ^ bits(a.guess)
+        ^ bits(a.chi_sq)
+        ^ bits(a.chi_sum)
+        ^ bits(a.chi_sq_sum)
+        ^ a.new_samples
+        ^ a.new_zero_evaluations
+        ^ a.cur_iter
+        ^ a.processed_samples
+        ^ bits(a.max_eval_positive)
+        ^ a.max_eval_positive_number
+        ^ bits(a.max_eval_negative)
+        ^ a.max_eval_negative_number
+        ^ a.num_zero_evaluations
+}
+
+// Samples added to a fresh record: the record's word, or a refusal's number.
+pub fn added(count: u64) -> u64 {
+    let mut record = StatisticsAccumulator::new();
+    let mut i: u64 = 0;
+    while i < count {
+        match record.add_sample(evaluation(i), i % 1024) {
+            Changed::Refused(number) => return number,
+            Changed::Record(after) => record = after,
+        }
+        i += 1;
+    }
+    word(record)
+}
+
+// Two samples and the update of their iteration.
+fn iteration(record: StatisticsAccumulator, i: u64) -> Updated {
+    match record.add_sample(evaluation(i), i % 1024) {
+        Changed::Refused(number) => Updated::Refused(number),
+        Changed::Record(one) => match one.add_sample(evaluation(i ^ 341), i % 1024) {
+            Changed::Refused(number) => Updated::Refused(number),
+            Changed::Record(two) => two.update_iter(false),
+        },
+    }
+}
+
+// Iterations of two samples on a fresh record: the record's word, or a refusal's number.
+pub fn updated(count: u64) -> u64 {
+    let mut record = StatisticsAccumulator::new();
+    let mut i: u64 = 0;
+    while i < count {
+        match iteration(record, i) {
+            Updated::Refused(number) => return number,
+            Updated::Record(_, after) => record = after,
+        }
+        i += 1;
+    }
+    word(record)
+}

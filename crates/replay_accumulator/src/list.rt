@@ -1,0 +1,125 @@
+// A list's records as records of the accumulator, and words held against the list.
+ghost use Prim.Native.Nat.{_+_, _<_, _≤_, _^_};
+ghost use lib.ListN.{length};
+ghost use mathlib.Core.Path.{_≡_};
+use accumulator::StatisticsAccumulator;
+use answers::bits;
+use answers::double;
+use answers::word;
+
+// Whether a record's words agreed so far, and the place of its next word.
+pub struct Place {
+    pub agrees: bool,
+    pub at: usize,
+}
+
+// The place behind a record's arguments.
+pub fn behind(at: usize) -> Place
+    ensures { λ r. ⌜ r .at ≡ at ⌝ }
+{
+    Place { agrees: true, at }
+}
+
+// The next word held against `value`.
+pub fn holds(list: &[u8], place: Place, value: u64) -> Place
+    requires { ⌜ place .at < 2 ^ 62 ⌝ }
+    ensures { λ r. ⌜ r .at ≡ place .at + 1 ⌝ }
+{
+    let at = place.at;
+    let agrees = word(list, at) == value;
+    Place {
+        agrees: place.agrees & agrees,
+        at: at + 1,
+    }
+}
+
+// The next words held against `values`.
+pub fn holds_all(list: &[u8], place: Place, values: &[u64]) -> Place
+    requires { ⌜ (place .at < 2 ^ 61) × (length (now values) ≤ 21) ⌝ }
+    ensures { λ r. ⌜ r .at ≡ place .at + length (now (values .entry)) ⌝ }
+{
+    let mut now = place;
+    let mut i = 0;
+    while i < values.len() {
+        now = holds(list, now, values[i]);
+        i += 1;
+    }
+    now
+}
+
+// The next 21 words held against a record.
+pub fn holds_record(list: &[u8], place: Place, a: StatisticsAccumulator) -> Place
+    requires { ⌜ place .at < 2 ^ 61 ⌝ }
+    ensures { λ r. ⌜ r .at ≡ place .at + 21 ⌝ }
+{
+    let words = words_of(a);
+    holds_all(list, place, &words)
+}
+
+// A record's words, in the order of the Rust's declaration.
+fn words_of(a: StatisticsAccumulator) -> [u64; 21] {
+    [
+        bits(a.sum),
+        bits(a.sum_sq),
+        bits(a.total_sum),
+        bits(a.total_sum_sq),
+        bits(a.weight_sum),
+        bits(a.avg_sum),
+        bits(a.avg),
+        bits(a.err),
+        bits(a.guess),
+        bits(a.chi_sq),
+        bits(a.chi_sum),
+        bits(a.chi_sq_sum),
+        a.new_samples,
+        a.new_zero_evaluations,
+        a.cur_iter,
+        a.processed_samples,
+        bits(a.max_eval_positive),
+        a.max_eval_positive_number,
+        bits(a.max_eval_negative),
+        a.max_eval_negative_number,
+        a.num_zero_evaluations,
+    ]
+}
+
+// The double at a place.
+pub fn double_at(list: &[u8], at: usize) -> f64 {
+    double(word(list, at))
+}
+
+// The record of the 21 words from a place on, and a fresh one past the last word.
+pub fn record_at(list: &[u8], at: usize) -> StatisticsAccumulator {
+    if list.len() / 17 < at {
+        return StatisticsAccumulator::new();
+    }
+    let start = at * 17;
+    record_of(&list[start..])
+}
+
+// The record of a list's first 21 words.
+fn record_of(list: &[u8]) -> StatisticsAccumulator {
+    StatisticsAccumulator {
+        sum: double_at(list, 0),
+        sum_sq: double_at(list, 1),
+        total_sum: double_at(list, 2),
+        total_sum_sq: double_at(list, 3),
+        weight_sum: double_at(list, 4),
+        avg_sum: double_at(list, 5),
+        avg: double_at(list, 6),
+        err: double_at(list, 7),
+        guess: double_at(list, 8),
+        chi_sq: double_at(list, 9),
+        chi_sum: double_at(list, 10),
+        chi_sq_sum: double_at(list, 11),
+        new_samples: word(list, 12),
+        new_zero_evaluations: word(list, 13),
+        cur_iter: word(list, 14),
+        processed_samples: word(list, 15),
+        max_eval_positive: double_at(list, 16),
+        max_eval_positive_number: word(list, 17),
+        max_eval_negative: double_at(list, 18),
+        max_eval_negative_number: word(list, 19),
+        num_zero_evaluations: word(list, 20),
+    }
+}

@@ -1,0 +1,30 @@
+//! `bench_update N` times N iterations of two samples of an accumulator and prints the xor of its words.
+
+use std::hint::black_box;
+use std::time::Instant;
+
+use oracle::numerical_integration::StatisticsAccumulator;
+
+/// The whole numbers from -512 to 511 in turn.
+fn evaluation(i: u64) -> f64 {
+    (i % 1024) as f64 - 512.0
+}
+
+fn main() {
+    let count = std::env::args().nth(1).and_then(|a| a.parse::<u64>().ok());
+    let Some(count) = count.filter(|&count| count > 0) else {
+        eprintln!("usage: bench_update N");
+        std::process::exit(2);
+    };
+    let mut accumulator = StatisticsAccumulator::<f64>::new();
+    let start = Instant::now();
+    for i in 0..count {
+        accumulator.add_sample(evaluation(i), i % 1024);
+        accumulator.add_sample(evaluation(i ^ 341), i % 1024);
+        accumulator.update_iter(false);
+    }
+    let words = black_box(accumulator).record().words();
+    let nanoseconds = start.elapsed().as_nanos() as f64 / count as f64;
+    let xor = words.iter().fold(0, |xor, word| xor ^ word);
+    println!("{nanoseconds:.3} ns an iteration, xor {xor:016x}");
+}
