@@ -6,3 +6,4 @@ pub mod Draw
 pub mod Probe
 pub mod Train
 pub mod Merge
+pub mod Update
