@@ -92,9 +92,9 @@ over i b d =
           record {
             path = i ∷ d .sample .path;
             weights = mul binary64 (invOf (b .probability)) (weightAt (d .sample .weights)) ∷ d .sample .weights;
-            coordinates = d .sample .coordinates
+            coordinates = d .sample .coordinates;
           };
-      stream = d .stream
+      stream = d .stream;
     }
 
 -- no child: nothing is drawn and nothing weighs

@@ -57,8 +57,11 @@ unfoldable pub trainAxis : Axis → Float → Float → Axis
 trainAxis ax x v =
     let i = binOf (ax .edges) x in
     record {
-      edges = ax .edges; bins = set (ax .bins) i (addedOf (getD (ax .bins) i fresh) v 0);
-      importances = ax .importances; counters = ax .counters; recuts = ax .recuts
+      edges = ax .edges;
+      bins = set (ax .bins) i (addedOf (getD (ax .bins) i fresh) v 0);
+      importances = ax .importances;
+      counters = ax .counters;
+      recuts = ax .recuts;
     }
 
 unfoldable pub trainAll : List Axis → List Float → Float → List Axis

@@ -33,10 +33,11 @@ trained averages a = cond averages (a .sum) (a .«sum_sq»)
 unfoldable pub gatheredAxis : Bool → Axis → Axis
 gatheredAxis averages ax =
     record {
-      edges = ax .edges; bins = map clearedOf (ax .bins);
+      edges = ax .edges;
+      bins = map clearedOf (ax .bins);
       importances = gatheredOf (ax .importances) (map (trained averages) (ax .bins));
       counters = joinedCounts (ax .counters) (map (λ (a : StatisticsAccumulator). a .«new_samples») (ax .bins));
-      recuts = ax .recuts
+      recuts = ax .recuts;
     }
 
 -- the number of bins after so many re-cuts: the list's value there, or its last; without 02 the bins of 01
@@ -142,8 +143,9 @@ adaptedBins rate h o =
     cond (eq rate zero64 || allIdle (h .averages) (o .after))
     (record { eight = o .eight; nine = o .nine; after = bins h (o .after) })
     (record {
-      eight = o .eight || not (wellFormed a); nine = o .nine || not (allChances ps);
-      after = bins (withHead h a) (withProbabilities (o .after) ps)
+      eight = o .eight || not (wellFormed a);
+      nine = o .nine || not (allChances ps);
+      after = bins (withHead h a) (withProbabilities (o .after) ps);
     })
 
 abbrev pub nested : Outcome Grid → Outcome Child
