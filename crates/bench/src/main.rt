@@ -1,5 +1,6 @@
 // Runs one of the library's inner loops as often as standard input says, `KIND COUNT`, and prints a word made of all results,
 // so that no part of the work can be left out. bench/run times it beside the same loop of the Rust.
+mod edges;
 mod request;
 mod samples;
 
@@ -25,6 +26,8 @@ fn stream_words(count: u64) -> u64 {
 fn run(kind: u8, count: u64) -> u64 {
     match kind {
         b'a' => samples::added(count),
+        b'd' => edges::drawn(count),
+        b'p' => edges::probed(count),
         b's' => stream_words(count),
         b'u' => samples::updated(count),
         _ => 0,
