@@ -15,7 +15,7 @@ pub mod Ranges
 pub mod Nearest
 pub mod Unique
 pub mod Examples
-pub mod Sums
+pub mod Finiteness
 pub mod Monotone
 pub mod Steps
 pub mod Sterbenz

@@ -1,12 +1,23 @@
--- What is not finite stays so under sums, differences, products and as a numerator; so a finite total says that every term was finite.
--- Assumes nothing.
+-- What lies between finite values is finite. What is not finite stays so under sums, differences, products and as a numerator; so a finite
+-- total says that every term was finite. Assumes nothing.
 use mathlib.Core.Path.{_≡_, refl}
 use mathlib.Core.List.{List, [], _∷_}
 use mathlib.Core.Bool.{Bool, true, false, cond, false≢true}
 use lib.Dec.{eqb}
-use lib.Ieee.{Float, nan, inf, fin, Format, binary64, neg, add, sub, mul, div, unlike}
+use lib.Ieee.{Float, nan, inf, fin, Format, binary64, neg, add, sub, mul, div, le, unlike}
 use Rattle.real.specs.Finite.{finiteOf}
 use Rattle.real.specs.Total.{totalOf, allFinite}
+
+pub between-finite : (a x b : Float) → finiteOf a ≡ true → finiteOf b ≡ true → le a x ≡ true → le x b ≡ true → finiteOf x ≡ true
+unfolding le finiteOf
+between-finite nan x b p q h k = absurd (false≢true p)
+between-finite (inf s) x b p q h k = absurd (false≢true p)
+between-finite (fin s m e) nan b p q h k = absurd (false≢true h)
+between-finite (fin s m e) (inf true) b p q h k = absurd (false≢true h)
+between-finite (fin s m e) (inf false) nan p q h k = absurd (false≢true q)
+between-finite (fin s m e) (inf false) (inf u) p q h k = absurd (false≢true q)
+between-finite (fin s m e) (inf false) (fin u l g) p q h k = absurd (false≢true k)
+between-finite (fin s m e) (fin t n d) b p q h k = refl
 
 pub add-finite : (f : Format) (x y : Float) → finiteOf (add f x y) ≡ true → (finiteOf x ≡ true) × (finiteOf y ≡ true)
 unfolding add finiteOf
