@@ -1,12 +1,20 @@
--- What lies between finite values is finite. What is not finite stays so under sums, differences, products and as a numerator; so a finite
+-- What has a value is finite, and so is what lies between finite values. What is not finite stays so under sums, differences, products and as a numerator; so a finite
 -- total says that every term was finite. Assumes nothing.
 use mathlib.Core.Path.{_≡_, refl}
 use mathlib.Core.List.{List, [], _∷_}
 use mathlib.Core.Bool.{Bool, true, false, cond, false≢true}
+use Prim.Native.Nat.{ℕ}
 use lib.Dec.{eqb}
 use lib.Ieee.{Float, nan, inf, fin, Format, binary64, neg, add, sub, mul, div, le, unlike}
+use lib.Ieee.Exact.{HasValue}
 use Rattle.real.specs.Finite.{finiteOf}
 use Rattle.real.specs.Total.{totalOf, allFinite}
+
+pub value-finite : (x : Float) (s : Bool) (a c : ℕ) → HasValue x s a c → finiteOf x ≡ true
+unfolding finiteOf
+value-finite nan s a c v = absurd v
+value-finite (inf t) s a c v = absurd v
+value-finite (fin t m e) s a c v = refl
 
 pub between-finite : (a x b : Float) → finiteOf a ≡ true → finiteOf b ≡ true → le a x ≡ true → le x b ≡ true → finiteOf x ≡ true
 unfolding le finiteOf
