@@ -7,6 +7,7 @@ pub mod Signs
 pub mod Wholes
 pub mod Bits
 pub mod Roots
+pub mod Judge
 pub mod Above
 pub mod Mantissa
 pub mod Bounds

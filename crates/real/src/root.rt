@@ -1,9 +1,9 @@
 // The root of a double that is finite and above 0: a guess in doubles, judged in whole numbers.
 ghost use mathlib.Core.Path.{_≡_};
-ghost use Prim.Native.Nat.{_+_, _*_, _/_, _^_, _≤_, _<_};
+ghost use Prim.Native.Nat.{_+_, _*_, _^_, _≤_, _<_};
 ghost use lib.Dec.{T};
 ghost use lib.Ieee.Positive.{positive};
-ghost use Rattle.real.specs.Digits.{NearRoot};
+ghost use Rattle.real.specs.Digits.{Words, Radicand, NearRoot, Tells, Wrong, Closer};
 ghost use Rattle.real.specs.Root.{rootOf};
 
 // 1.0, or where odd is 1 the double whose bits lie `above` those of 1.0: a choice with no branch.
@@ -50,38 +50,59 @@ fn first(digits: u64, odd: u64) -> u64
     leading(guess(m, scale, lift))
 }
 
-// The high word of r * (r + 1), a product in two words of 52 binary digits, from halves of 26. The judge
-// needs no more: the number whose root is sought has the low word 0.
-fn high_word(r: u64) -> u64
-    requires { ⌜ r < 2 ^ 53 ⌝ }
-    ensures { λ h. ⌜ h ≡ r * (r + 1) / 2 ^ 52 ⌝ }
-{
-    let a = r / 0x400_0000;
-    let b = r % 0x400_0000;
-    let middle = 2 * a * b + (b * b + r) / 0x400_0000;
-    a * a + middle / 0x400_0000
+struct Wide {
+    high: u64,
+    low: u64,
 }
 
-// The guess, or the first number below it that is not above the one nearest to the root of d * 2^52.
-fn lowered(guess: u64, d: u64) -> u64
-    requires { ⌜ (1 ≤ guess) × (guess < 2 ^ 53) × (1 ≤ d) ⌝ }
-    ensures { λ q. ⌜ (q < 2 ^ 53) × (q * q < d * 2 ^ 52 + q) ⌝ }
+// q * (q + 1) in two words of 52 binary digits, from halves of 26.
+fn product(q: u64) -> Wide
+    requires { ⌜ q < 2 ^ 53 ⌝ }
+    ensures { λ p. ⌜ Words (q * (q + 1)) (p .high) (p .low) ⌝ }
 {
-    let mut q = guess;
-    while d <= high_word(q - 1) {
-        q -= 1;
+    let a = q / 0x400_0000;
+    let b = q % 0x400_0000;
+    let last = b * b + q;
+    let middle = 2 * a * b + last / 0x400_0000;
+    let high = a * a + middle / 0x400_0000;
+    let low = middle % 0x400_0000 * 0x400_0000 + last % 0x400_0000;
+    Wide {
+        high: high,
+        low: low,
     }
-    q
+}
+
+// Whether q is the whole number nearest to the root of d * 2^52, (q - 1) * q < d * 2^52 <= q * (q + 1).
+// The lower product is the upper one less 2q; 2^54 is lent to it, and paid back as 4 in the high word.
+fn is_near(q: u64, d: u64) -> bool
+    requires { ⌜ (q < 2 ^ 53) × (d < 2 ^ 54) ⌝ }
+    ensures { λ r. ⌜ Tells r (NearRoot (d * 2 ^ 52) q) ⌝ }
+{
+    let p = product(q);
+    let lower = p.high + (p.low + 0x40_0000_0000_0000 - 2 * q) / 0x10_0000_0000_0000;
+    (d <= p.high) & (lower < d + 4)
+}
+
+// A step from a q that is not nearest towards the one that is.
+fn moved(q: u64, d: u64) -> u64
+    requires { ⌜ Wrong d q ⌝ }
+    ensures { λ r. ⌜ Closer d q r ⌝ }
+{
+    let p = product(q);
+    if p.high < d {
+        return q + 1;
+    }
+    q - 1
 }
 
 // The whole number nearest to the root of d * 2^52, from any guess.
 fn nearest(guess: u64, d: u64) -> u64
-    requires { ⌜ (1 ≤ guess) × (guess < 2 ^ 53) × (1 ≤ d) × (d + 2 ≤ 2 ^ 54) ⌝ }
+    requires { ⌜ (1 ≤ guess) × (guess < 2 ^ 53) × Radicand d ⌝ }
     ensures { λ q. ⌜ NearRoot (d * 2 ^ 52) q × (q < 2 ^ 53) ⌝ }
 {
-    let mut q = lowered(guess, d);
-    while high_word(q) < d {
-        q += 1;
+    let mut q = guess;
+    while !is_near(q, d) {
+        q = moved(q, d);
     }
     q
 }

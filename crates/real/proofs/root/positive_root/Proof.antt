@@ -3,7 +3,8 @@ use Prim.Native.Nat.{ℕ, _+_, _*_, _/_, _%_, _^_, _≤_, _<_}
 use native.Mathlib.Omega.{arith}
 use borrow.Author.Needs.{needs}
 use Rattle.real.proofs.Bits.{no-nan-bits}
-use Rattle.real.proofs.Roots.{Radicand, radicand, root-bits}
+use Rattle.real.specs.Digits.{Radicand}
+use Rattle.real.proofs.Roots.{radicand, root-bits}
 use Rattle.real.proofs.root.positive_root.Statement.{statement}
 use Rattle.real.proofs.root.positive_root.Tie as tie
 
@@ -26,7 +27,7 @@ mul-nearest : tie.Need-mul-nearest
 mul-nearest c = let r = taken (c .before .before .before) in omega arith
 
 nearest-requires : tie.Need-nearest-requires
-nearest-requires c κs = let r = taken (c .before .before .before) in let l = c .before .first .ensures in omega arith
+nearest-requires c κs = let l = c .before .first .ensures in (omega arith, l .1, taken (c .before .before .before))
 
 add-result : tie.Need-add-result
 add-result c = search needs
