@@ -1,4 +1,4 @@
--- Which doubles are finite and above 0, by the code's tests `0.0 < x` and `x < 1.0 / 0.0`. Assumes nothing.
+-- Which doubles are finite and above 0, by the code's tests. Assumes nothing.
 use mathlib.Core.Path.{_≡_, refl, sym}
 use Prim.Native.Nat.{ℕ, zero, suc, _*_, _≤_, _<_}
 use native.Mathlib.Nat.{zero-lt-suc, mul-pos}
@@ -10,6 +10,7 @@ use lib.Ieee.Fits.{up-pos}
 use lib.Ieee.Positive.{positive, first-pos}
 use borrow.Author.Tests.{ltb-true, ltb-false, lt-ltb, le-ltb}
 use Rattle.real.specs.Numbers.{zero64, one64}
+use Rattle.real.specs.Finite.{finiteOf}
 
 -- 0 < m / 1, as `lt` compares it
 pub some : (m : ℕ) (e : ℤ) → 0 * down e < m * up e * 1 → 0 < m
@@ -21,7 +22,7 @@ none (suc m) e h =
     let p : 0 < suc m * up e = mul-pos (zero-lt-suc m) (up-pos e) in
     absurd (omega arith)
 
--- where the first test passes, the second decides
+-- where `0.0 < x` holds, `x < 1.0 / 0.0` decides, and so does finiteness
 pub above-is : (x : Float) → lt zero64 x ≡ true → lt x (div binary64 one64 zero64) ≡ positive x
 unfolding lt ofBits div
 above-is nan h = refl
@@ -29,6 +30,13 @@ above-is (inf true) h = absurd (false≢true h)
 above-is (inf false) h = refl
 above-is (fin true m e) h = absurd (false≢true h)
 above-is (fin false m e) h = sym (lt-ltb 0 m (some m e (ltb-true (0 * down e) (m * up e * 1) h)))
+
+pub above-finite : (x : Float) → lt zero64 x ≡ true → finiteOf x ≡ positive x
+unfolding lt ofBits finiteOf
+above-finite nan h = refl
+above-finite (inf s) h = refl
+above-finite (fin true m e) h = absurd (false≢true h)
+above-finite (fin false m e) h = sym (lt-ltb 0 m (some m e (ltb-true (0 * down e) (m * up e * 1) h)))
 
 pub not-above : (x : Float) → lt zero64 x ≡ false → false ≡ positive x
 unfolding lt ofBits

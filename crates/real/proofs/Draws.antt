@@ -60,7 +60,7 @@ module _ (n K : ℕ) (N : 1 ≤ n) (k : K < 2 ^ 53) where
       go (suc d) e =
           let b : 2 ^ (52 + suc d) * 2 ^ 53 ≤ n * K * 2 ^ 1074 = subst (λ (z : ℕ). 2 ^ (52 + z) * 2 ^ 53 ≤ n * K * 2 ^ 1074) e (dropped-below binary64 (n * K) (2 ^ 53) (pow-pos 53) (subst (λ (z : ℕ). 0 < z) (sym e) (some d))) in
           let c : 2 ^ (52 + suc d) * 2 ^ 53 < n * 2 ^ 53 * 2 ^ 1074 = lt-of-le-of-lt b (mul-lt-mul-of-pos-right below (pow-pos 1074)) in
-          lt-of-mul-lt-mul-right (2 ^ 105) (lt-of-le-of-lt (le-of-eq (ap (λ (z : ℕ). 2 ^ suc d * z) refl ∙ sym (mul-assoc (2 ^ suc d) (2 ^ 52) (2 ^ 53)) ∙ ap (λ (z : ℕ). z * 2 ^ 53) (mul-comm (2 ^ suc d) (2 ^ 52) ∙ sym (pow-add 2 52 (suc d))))) (lt-of-lt-of-le c (le-of-eq (ends n))))
+          lt-of-mul-lt-mul-right (2 ^ 105) (lt-of-le-of-lt (le-of-eq (sym (mul-assoc (2 ^ suc d) (2 ^ 52) (2 ^ 53)) ∙ ap (λ (z : ℕ). z * 2 ^ 53) (mul-comm (2 ^ suc d) (2 ^ 52) ∙ sym (pow-add 2 52 (suc d))))) (lt-of-lt-of-le c (le-of-eq (ends n))))
         where
           some : (d : ℕ) → 0 < suc d
           some d = omega arith

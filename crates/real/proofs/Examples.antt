@@ -45,8 +45,10 @@ table =
     ∷ root 0x3ff0000000000000 0x3ff0000000000000
     ∷ root 0x1 0x1e60000000000000
     ∷ root 0x7fefffffffffffff 0x5fefffffffffffff
-    -- the whole part of this root is the middle of two doubles, and the root lies above it
     ∷ root 0x3739a252b281 0x1fcdb9b6d15869b2
+    -- these roots lie just below the middle of two doubles
+    ∷ root 0x3ff0000000000001 0x3ff0000000000000
+    ∷ root 0x3fefffffffffffff 0x3fefffffffffffff
     ∷ root 0x8000000000000000 0x8000000000000000
     ∷ root 0xbff0000000000000 0x7ff8000000000000
     ∷ root 0x7ff0000000000000 0x7ff0000000000000

@@ -7,6 +7,7 @@ pub mod Signs
 pub mod Wholes
 pub mod Bits
 pub mod Roots
+pub mod Judge
 pub mod Above
 pub mod Mantissa
 pub mod Bounds
@@ -16,7 +17,7 @@ pub mod Nearest
 pub mod Unique
 pub mod Ladder
 pub mod Examples
-pub mod Sums
+pub mod Finiteness
 pub mod Monotone
 pub mod Steps
 pub mod Sterbenz

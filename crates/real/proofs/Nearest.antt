@@ -2,22 +2,23 @@
 -- that no tie can be. Assumes nothing.
 use mathlib.Core.Path.{_≡_, refl, sym, ap, ap₂, _∙_, subst}
 use Prim.Native.Nat.{ℕ, zero, suc, _+_, _-_, _*_, _/_, _%_, _^_, _≤_, _<_}
-use native.Mathlib.Nat.{le-trans, le-of-eq, le-of-lt, lt-of-lt-of-le, lt-of-le-of-lt, lt-of-not-le, not-le-of-lt, mul-assoc, mul-right-comm, mul-le-mul, mul-le-mul-right, mul-le-mul-left, mul-pos, lt-of-mul-lt-mul-right, mul-lt-mul-of-pos-right, pow-succ', add-mul, zero-lt-suc}
+use native.Mathlib.Nat.{le-trans, le-of-eq, le-of-lt, lt-of-lt-of-le, lt-of-le-of-lt, lt-of-not-le, not-le-of-lt, mul-assoc, mul-right-comm, mul-le-mul, mul-le-mul-right, mul-le-mul-left, mul-pos, lt-of-mul-lt-mul-right, mul-lt-mul-of-pos-right, pow-succ', add-mul}
 use native.Mathlib.Omega.{arith}
 use mathlib.Core.Bool.{Bool, true, false, not}
 use lib.IntN.{ℤ}
-use lib.Dec.{T, leb, leb→le, nleb→lt, lit≤}
+use lib.Dec.{T, leb, leb→le, nleb→lt}
 use lib.Pow.{pow-add, pow-pos, pow-mono}
 use lib.Ieee.{Float, fin, binary64, up, down, fits, lt}
 use lib.Ieee.Fits.{down-pos}
 use lib.Ieee.Exact.{HasValue}
 use lib.Ieee.Positive.{positive, num, den, den-pos, value→cross}
-use Rattle.real.specs.Root.{isqrt, squares, rootOf, MiddleBelow, MiddleAbove}
+use Rattle.real.specs.Root.{squares, rootOf, MiddleBelow, MiddleAbove}
 use Rattle.real.specs.Digits.{NearRoot}
 use Rattle.real.proofs.Exact.{held}
 use Rattle.real.proofs.Fractions.{lt-values}
 use Rattle.real.proofs.Bits.{split-of}
-use Rattle.real.proofs.Roots.{Rooted, isqrt-is, Radicand, radicand, squares-is, squares-digits, long, root-value}
+use Rattle.real.proofs.Roots.{radicand, squares-is, squares-digits, long, root-value}
+use Rattle.real.proofs.Judge.{nearOf, near-root}
 
 -- ---- on whole numbers: U = q * P is the root that was chosen, Y another double, and P is the distance of doubles at U
 square-mono : (a b : ℕ) → a ≤ b → a * a ≤ b * b
@@ -100,40 +101,6 @@ module _ (c j g q A : ℕ) (h : c < 2 ^ 53) (l : 2 ^ 52 ≤ q) (t : 2 ^ 104 ≤ 
       go true y f = below-low (2 ^ g) A q (c * 2 ^ j) (pow-pos g) n (y tt) v
       go false y f = last q l n (f tt) v
 
--- ---- every number of digits has a nearest root
-pub near-root : (d : ℕ) → Radicand d → (q : ℕ) × NearRoot (d * 2 ^ 52) q × (q < 2 ^ 53)
-near-root d r =
-    let a : d * 2 ^ 52 < 4 ^ 53 = let h = r .short in omega arith in
-    go (isqrt 53 (d * 2 ^ 52)) (isqrt-is 53 (d * 2 ^ 52) a)
-  where
-    beyond : (B e A : ℕ) → 1 ≤ B → A + B ≤ B * B → (B + e) * (B + e) < A + (B + e) → ⊥
-    beyond B e A b h l =
-        let i : 1 * e ≤ B * e = mul-le-mul-right e b in
-        let j : 0 ≤ e * e = omega arith in
-        omega arith
-
-    some : (s A : ℕ) → 0 < A → A ≤ s * s + s → 0 < s
-    some zero A a h = absurd (omega arith)
-    some (suc s) A a h = zero-lt-suc s
-
-    small : (q : ℕ) → NearRoot (d * 2 ^ 52) q → q < 2 ^ 53
-    small q n = lt-of-not-le (λ (b : 2 ^ 53 ≤ q). let i : 2 ^ 53 + (q - 2 ^ 53) ≡ q = omega arith in beyond (2 ^ 53) (q - 2 ^ 53) (d * 2 ^ 52) (lit≤ tt) top (subst (λ (z : ℕ). z * z < d * 2 ^ 52 + z) (sym i) (n .low)))
-      where
-        top : d * 2 ^ 52 + 2 ^ 53 ≤ 2 ^ 53 * 2 ^ 53
-        top = let h = r .short in omega arith
-
-    go : (s : ℕ) → Rooted s (d * 2 ^ 52) → (q : ℕ) × NearRoot (d * 2 ^ 52) q × (q < 2 ^ 53)
-    go s i = pick (leb (d * 2 ^ 52) (s * s + s)) (leb→le (d * 2 ^ 52) (s * s + s)) (nleb→lt (d * 2 ^ 52) (s * s + s))
-      where
-        pick : (b : Bool) → (T b → d * 2 ^ 52 ≤ s * s + s) → (T (not b) → s * s + s < d * 2 ^ 52) → (q : ℕ) × NearRoot (d * 2 ^ 52) q × (q < 2 ^ 53)
-        pick true y f =
-            let n : NearRoot (d * 2 ^ 52) s = record { high = y tt; low = (let lo = i .low in let p = some s (d * 2 ^ 52) (let k = r .long in omega arith) (y tt) in omega arith) } in
-            (s, n, small s n)
-        pick false y f =
-            let u = f tt in
-            let n : NearRoot (d * 2 ^ 52) (suc s) = record { high = (let hi = i .high in omega arith); low = omega arith } in
-            (suc s, n, small (suc s) n)
-
 -- ---- fractions: r = U / L and y = Y / L as fractions, and x = W / (L * L)
 record Same (nr dr ny dy nx dx U Y W L : ℕ) : Type 0 where
   unit : 0 < L
@@ -196,14 +163,14 @@ root-nearest x n e fx px fy =
     let g = k / 2 + 485 in
     let d = m * (1 + k % 2) in
     let r = radicand m k (sp .2 .long) (sp .2 .short) in
+    let q = nearOf d in
     let nr = near-root d r in
-    let q = nr .0 in
     let h = held binary64 false n e fy in
-    let v = root-value x m k q px (sp .2) (nr .1) (nr .2) in
+    let v = root-value x m k q px (sp .2) (nr .near) (nr .short) in
     let w : HasValue (fin false n e) false (h .q * 2 ^ h .j) (2 ^ 1074) = (refl, h .units) in
-    let W : squares x ≡ d * 2 ^ 52 * (2 ^ g * 2 ^ g) = squares-digits x m k q px (sp .2) (nr .1) (nr .2) in
+    let W : squares x ≡ d * 2 ^ 52 * (2 ^ g * 2 ^ g) = squares-digits x m k q px (sp .2) (nr .near) (nr .short) in
     let t : 2 ^ 104 ≤ d * 2 ^ 52 = tall d (r .long) in
-    let l = long x m k q px (sp .2) (nr .1) (nr .2) in
+    let l = long x m k q px (sp .2) (nr .near) (nr .short) in
     let s : Same (num (rootOf x)) (den (rootOf x)) (n * up e) (down e) (num x) (den x) (q * 2 ^ g) (h .q * 2 ^ h .j) (d * 2 ^ 52 * (2 ^ g * 2 ^ g)) (2 ^ 1074) = record {
       unit = pow-pos 1074;
       root = value→cross (rootOf x) (q * 2 ^ g) (2 ^ 1074) v;
@@ -215,9 +182,9 @@ root-nearest x n e fx px fy =
     } in
     record {
       from-below = λ b. below (num (rootOf x)) (den (rootOf x)) (n * up e) (down e) (num x) (den x) (q * 2 ^ g) (h .q * 2 ^ h .j) (d * 2 ^ 52 * (2 ^ g * 2 ^ g)) (2 ^ 1074) s
-          (units-below (h .q) (h .j) g q (d * 2 ^ 52) (h .short) l t (nr .1) (lt-of-mul-lt-mul-right (2 ^ 1074) (lt-values (fin false n e) (rootOf x) (h .q * 2 ^ h .j) (2 ^ 1074) (q * 2 ^ g) (2 ^ 1074) (pow-pos 1074) (pow-pos 1074) w v b)));
+          (units-below (h .q) (h .j) g q (d * 2 ^ 52) (h .short) l t (nr .near) (lt-of-mul-lt-mul-right (2 ^ 1074) (lt-values (fin false n e) (rootOf x) (h .q * 2 ^ h .j) (2 ^ 1074) (q * 2 ^ g) (2 ^ 1074) (pow-pos 1074) (pow-pos 1074) w v b)));
       from-above = λ b. above (num (rootOf x)) (den (rootOf x)) (n * up e) (down e) (num x) (den x) (q * 2 ^ g) (h .q * 2 ^ h .j) (d * 2 ^ 52 * (2 ^ g * 2 ^ g)) (2 ^ 1074) s
-          (units-above (h .q) (h .j) g q (d * 2 ^ 52) (h .short) l t (nr .1) (lt-of-mul-lt-mul-right (2 ^ 1074) (lt-values (rootOf x) (fin false n e) (q * 2 ^ g) (2 ^ 1074) (h .q * 2 ^ h .j) (2 ^ 1074) (pow-pos 1074) (pow-pos 1074) v w b)));
+          (units-above (h .q) (h .j) g q (d * 2 ^ 52) (h .short) l t (nr .near) (lt-of-mul-lt-mul-right (2 ^ 1074) (lt-values (rootOf x) (fin false n e) (q * 2 ^ g) (2 ^ 1074) (h .q * 2 ^ h .j) (2 ^ 1074) (pow-pos 1074) (pow-pos 1074) v w b)));
     }
   where
     tall : (d : ℕ) → 2 ^ 52 ≤ d → 2 ^ 104 ≤ d * 2 ^ 52

@@ -13,7 +13,7 @@ use lib.Ieee.Exact.{HasValue, units-val}
 use lib.Ieee.Nearest.{closest, closest-same}
 use lib.Ieee.Positive.{positive}
 use Rattle.real.specs.Root.{isqrt, squares, rootOf}
-use Rattle.real.specs.Digits.{Split, NearRoot}
+use Rattle.real.specs.Digits.{Split, Radicand, NearRoot}
 use Rattle.real.proofs.Bits.{bits-of, dropped}
 
 -- ---- `isqrt` is the whole part of the root
@@ -98,11 +98,6 @@ half-is R = mul-div-mul-right (2 * R + 1) 2 (pow-pos 1074) ∙ half R
   where
     half : (R : ℕ) → (2 * R + 1) / 2 ≡ R
     half R = omega arith
-
--- the digits d * 2 ^ 52 of which the root is taken
-pub record Radicand (d : ℕ) : Type 0 where
-  pub long : 2 ^ 52 ≤ d
-  pub short : d + 2 ≤ 2 ^ 54
 
 digits-dropped : (R d g : ℕ) → Radicand d → Rooted R (d * 2 ^ 52 * (2 ^ g * 2 ^ g)) → size R - 53 ≡ g
 digits-dropped R d g r s =

@@ -11,10 +11,12 @@ use lib.Ieee.Exact.{HasValue, round-exact}
 use lib.Ieee.Order.{round-mono}
 use lib.Ieee.Scale.{round-same}
 use Rattle.real.specs.Numbers.{zero64, one64}
+use Rattle.real.specs.Finite.{finiteOf}
 use Rattle.real.specs.Count.{countOf}
 use Rattle.real.specs.Inverse.{invOf}
 use Rattle.real.proofs.Truth.{is}
-use Rattle.real.proofs.Order.{lt-le-trans, le-lt-trans}
+use Rattle.real.proofs.Order.{lt-le, lt-le-trans, le-lt-trans}
+use Rattle.real.proofs.Finiteness.{between-finite}
 use Rattle.real.proofs.Fractions.{values-lt}
 use Rattle.real.proofs.Wholes.{count-div}
 
@@ -69,3 +71,7 @@ inv-above n N M =
 pub inv-at-most : (n : ℕ) → 1 ≤ n → n ≤ 1024 → le (invOf (countOf n)) one64 ≡ true
 unfolding invOf countOf ofInt
 inv-at-most n N M = rw (one-is, step-is 1 n N M (lit≤ tt)) (is (round-mono binary64 1 n 1 1 N (lit< tt) (omega arith)))
+
+pub inv-finite : (n : ℕ) → 1 ≤ n → n ≤ 1024 → finiteOf (invOf (countOf n)) ≡ true
+unfolding finiteOf ofBits
+inv-finite n N M = between-finite zero64 (invOf (countOf n)) one64 refl refl (lt-le zero64 (invOf (countOf n)) (inv-above n N M)) (inv-at-most n N M)

@@ -1,20 +1,27 @@
 // The root of a double that is finite and above 0: a guess in doubles, judged in whole numbers.
 ghost use mathlib.Core.Path.{_≡_};
-ghost use Prim.Native.Nat.{_+_, _-_, _*_, _/_, _^_, _≤_, _<_};
+ghost use Prim.Native.Nat.{_+_, _*_, _^_, _≤_, _<_};
 ghost use lib.Dec.{T};
 ghost use lib.Ieee.Positive.{positive};
-ghost use Rattle.real.specs.Digits.{NearRoot};
+ghost use Rattle.real.specs.Digits.{Words, Radicand, NearRoot, Tells, Wrong, Closer};
 ghost use Rattle.real.specs.Root.{rootOf};
 
-// About the root of m, or of 2m where odd is 1, for an m from 1 to 2: a polynomial, one step of Heron's
-// rule, and the remainder of its leading half, whose square is a double. Nothing is promised of it: the
-// judge moves whatever it is given, and moves this one or two times in ten thousand, by one.
-fn guess(m: f64, odd: f64) -> f64 {
-    let x = m + m * odd;
+// 1.0, or where odd is 1 the double whose bits lie `above` those of 1.0: a choice with no branch.
+fn one_or(odd: u64, above: u64) -> f64
+    requires { ⌜ (odd ≤ 1) × (above ≤ 2 ^ 52) ⌝ }
+{
+    f64::from_bits(0x3ff0_0000_0000_0000 + odd * above)
+}
+
+// About the root of m * scale, for an m from 1 to 2 and lift the root of scale: a polynomial, one step of
+// Heron's rule, and the remainder of its leading half, whose square is a double. Nothing is promised of
+// it: the judge moves whatever it is given, and moves this one or two times in ten thousand, by one.
+fn guess(m: f64, scale: f64, lift: f64) -> f64 {
+    let x = m * scale;
     let mm = m * m;
     let near = (0.3264033 + 0.912781 * m) + mm * ((0.08530806 * m - 0.3142877) - 0.01019205 * mm);
-    let scaled = near + near * (0.41421356 * odd);
-    let close = 0.5 * (scaled + x / scaled);
+    let lifted = near * lift;
+    let close = 0.5 * (lifted + x / lifted);
     let head = (close + 201326592.0) - 201326592.0;
     head + (x - head * head) / (close + head)
 }
@@ -32,50 +39,81 @@ fn leading(g: f64) -> u64
     0x1f_ffff_ffff_ffff
 }
 
-// The high word of r * (r + 1), a product in two words of 52 binary digits, from halves of 26. The judge
-// needs no more: the number whose root is sought has the low word 0.
-fn high_word(r: u64) -> u64
-    requires { ⌜ r < 2 ^ 53 ⌝ }
-    ensures { λ h. ⌜ h ≡ r * (r + 1) / 2 ^ 52 ⌝ }
+// About the digits of the root of `digits`, or of twice that where odd is 1.
+fn first(digits: u64, odd: u64) -> u64
+    requires { ⌜ (digits < 2 ^ 53) × (odd ≤ 1) ⌝ }
+    ensures { λ r. ⌜ (2 ^ 52 ≤ r) × (r < 2 ^ 53) ⌝ }
 {
-    let a = r / 0x400_0000;
-    let b = r % 0x400_0000;
-    let middle = 2 * a * b + (b * b + r) / 0x400_0000;
-    a * a + middle / 0x400_0000
+    let m = crate::digits::mantissa(digits);
+    let scale = one_or(odd, 0x10_0000_0000_0000);
+    let lift = one_or(odd, 0x6_a09e_667f_3bcd);
+    leading(guess(m, scale, lift))
 }
 
-// q, or the first number below it that is not above the nearest to the root of d * 2^52.
-fn lowered(guess: u64, d: u64) -> u64
-    requires { ⌜ (1 ≤ guess) × (guess < 2 ^ 53) × (1 ≤ d) ⌝ }
-    ensures { λ q. ⌜ (q < 2 ^ 53) × (q * q < d * 2 ^ 52 + q) ⌝ }
+struct Wide {
+    high: u64,
+    low: u64,
+}
+
+// q * (q + 1) in two words of 52 binary digits, from halves of 26.
+fn product(q: u64) -> Wide
+    requires { ⌜ q < 2 ^ 53 ⌝ }
+    ensures { λ p. ⌜ Words (q * (q + 1)) (p .high) (p .low) ⌝ }
 {
-    let mut q = guess;
-    while d <= high_word(q - 1) {
-        q -= 1;
+    let a = q / 0x400_0000;
+    let b = q % 0x400_0000;
+    let last = b * b + q;
+    let middle = 2 * a * b + last / 0x400_0000;
+    let high = a * a + middle / 0x400_0000;
+    let low = middle % 0x400_0000 * 0x400_0000 + last % 0x400_0000;
+    Wide {
+        high: high,
+        low: low,
     }
-    q
+}
+
+// Whether q is the whole number nearest to the root of d * 2^52, (q - 1) * q < d * 2^52 <= q * (q + 1).
+// The lower product is the upper one less 2q; 2^54 is lent to it, and paid back as 4 in the high word.
+fn is_near(q: u64, d: u64) -> bool
+    requires { ⌜ (q < 2 ^ 53) × (d < 2 ^ 54) ⌝ }
+    ensures { λ r. ⌜ Tells r (NearRoot (d * 2 ^ 52) q) ⌝ }
+{
+    let p = product(q);
+    let lower = p.high + (p.low + 0x40_0000_0000_0000 - 2 * q) / 0x10_0000_0000_0000;
+    (d <= p.high) & (lower < d + 4)
+}
+
+// A step from a q that is not nearest towards the one that is.
+fn moved(q: u64, d: u64) -> u64
+    requires { ⌜ Wrong d q ⌝ }
+    ensures { λ r. ⌜ Closer d q r ⌝ }
+{
+    let p = product(q);
+    if p.high < d {
+        return q + 1;
+    }
+    q - 1
 }
 
 // The whole number nearest to the root of d * 2^52, from any guess.
 fn nearest(guess: u64, d: u64) -> u64
-    requires { ⌜ (1 ≤ guess) × (guess < 2 ^ 53) × (1 ≤ d) × (d + 2 ≤ 2 ^ 54) ⌝ }
+    requires { ⌜ (1 ≤ guess) × (guess < 2 ^ 53) × Radicand d ⌝ }
     ensures { λ q. ⌜ NearRoot (d * 2 ^ 52) q × (q < 2 ^ 53) ⌝ }
 {
-    let mut q = lowered(guess, d);
-    while high_word(q) < d {
-        q += 1;
+    let mut q = guess;
+    while !is_near(q, d) {
+        q = moved(q, d);
     }
     q
 }
 
+// The root of x, which is finite and above 0.
 pub fn positive_root(x: f64) -> f64
     requires { ⌜ T (positive x) ⌝ }
     ensures { λ r. ⌜ r ≡ rootOf x ⌝ }
 {
     let p = crate::digits::split(x);
     let odd = p.shift % 2;
-    let m = crate::digits::mantissa(p.digits);
-    let first = leading(guess(m, (odd as u32) as f64));
-    let q = nearest(first, p.digits * (1 + odd));
+    let q = nearest(first(p.digits, odd), p.digits * (1 + odd));
     f64::from_bits((p.shift / 2 + 485) * 0x10_0000_0000_0000 + q)
 }

@@ -3,12 +3,13 @@ use Prim.Native.Nat.{ℕ, _+_, _*_, _/_, _%_, _^_, _≤_, _<_}
 use native.Mathlib.Omega.{arith}
 use borrow.Author.Needs.{needs}
 use Rattle.real.proofs.Bits.{no-nan-bits}
-use Rattle.real.proofs.Roots.{Radicand, radicand, root-bits}
+use Rattle.real.specs.Digits.{Radicand}
+use Rattle.real.proofs.Roots.{radicand, root-bits}
 use Rattle.real.proofs.root.positive_root.Statement.{statement}
 use Rattle.real.proofs.root.positive_root.Tie as tie
 
-root-room : (k q : ℕ) → k < 2098 → q < 2 ^ 53 → (k / 2 + 485) * 2 ^ 52 + q ≤ 2047 * 2 ^ 52
-root-room k q a b = omega arith
+room : (k q : ℕ) → k < 2098 → q < 2 ^ 53 → (k / 2 + 485) * 2 ^ 52 + q ≤ 2047 * 2 ^ 52
+room k q a b = omega arith
 
 taken : (c : tie.After-split) → Radicand (c .split .result .digits * (1 + c .split .result .shift % 2))
 taken c = radicand (c .split .result .digits) (c .split .result .shift) (c .split .ensures .long) (c .split .ensures .short)
@@ -16,29 +17,17 @@ taken c = radicand (c .split .result .digits) (c .split .result .shift) (c .spli
 split-requires : tie.Need-split-requires
 split-requires c κs = search needs
 
-mantissa-requires : tie.Need-mantissa-requires
-mantissa-requires c κs = search needs
-
-cast-guess : tie.Need-cast-guess
-cast-guess c = search needs
-
-int-to-float-guess : tie.Need-int-to-float-guess
-int-to-float-guess c = search needs
-
-guess-requires : tie.Need-guess-requires
-guess-requires c κs = search needs
-
-leading-requires : tie.Need-leading-requires
-leading-requires c κs = search needs
+first-requires : tie.Need-first-requires
+first-requires c κs = search needs
 
 add-nearest : tie.Need-add-nearest
 add-nearest c = search needs
 
 mul-nearest : tie.Need-mul-nearest
-mul-nearest c = let r = taken (c .before .before .before .before .before .before) in omega arith
+mul-nearest c = let r = taken (c .before .before .before) in omega arith
 
 nearest-requires : tie.Need-nearest-requires
-nearest-requires c κs = let r = taken (c .before .before .before .before .before .before) in let l = c .before .leading .ensures in omega arith
+nearest-requires c κs = let l = c .before .first .ensures in (omega arith, l .1, taken (c .before .before .before))
 
 add-result : tie.Need-add-result
 add-result c = search needs
@@ -50,11 +39,11 @@ add-result-2 : tie.Need-add-result-2
 add-result-2 c = search needs
 
 float-from-bits-result : tie.Need-float-from-bits-result
-float-from-bits-result c = no-nan-bits _ (root-room _ _ (c .before .before .before .before .before .before .before .before .split .ensures .small) (c .before .nearest .ensures .1))
+float-from-bits-result c = no-nan-bits _ (room _ _ (c .before .before .before .before .before .split .ensures .small) (c .before .nearest .ensures .1))
 
 returns : tie.Need-returns
 returns c =
-    let s = c .before .before .before .before .before .before .before .before in
+    let s = c .before .before .before .before .before in
     root-bits (s .before .args .x) (s .split .result .digits) (s .split .result .shift) (c .before .nearest .result) (s .before .pre) (s .split .ensures) (c .before .nearest .ensures .0) (c .before .nearest .ensures .1)
 
 pub positive-root-spec : {M : Type 1} → statement M
@@ -62,11 +51,7 @@ positive-root-spec =
     tie.close
     (tie.spec
     split-requires
-    mantissa-requires
-    cast-guess
-    int-to-float-guess
-    guess-requires
-    leading-requires
+    first-requires
     add-nearest
     mul-nearest
     nearest-requires

@@ -1,12 +1,31 @@
--- What is not finite stays so under sums, differences, products and as a numerator; so a finite total says that every term was finite.
--- Assumes nothing.
+-- What has a value is finite, and so is what lies between finite values. What is not finite stays so under sums, differences, products and as a numerator; so a finite
+-- total says that every term was finite. Assumes nothing.
 use mathlib.Core.Path.{_≡_, refl}
 use mathlib.Core.List.{List, [], _∷_}
 use mathlib.Core.Bool.{Bool, true, false, cond, false≢true}
+use Prim.Native.Nat.{ℕ}
 use lib.Dec.{eqb}
-use lib.Ieee.{Float, nan, inf, fin, Format, binary64, neg, add, sub, mul, div, unlike}
+use lib.Ieee.{Float, nan, inf, fin, Format, binary64, neg, add, sub, mul, div, le, unlike}
+use lib.Ieee.Exact.{HasValue}
 use Rattle.real.specs.Finite.{finiteOf}
 use Rattle.real.specs.Total.{totalOf, allFinite}
+
+pub value-finite : (x : Float) (s : Bool) (a c : ℕ) → HasValue x s a c → finiteOf x ≡ true
+unfolding finiteOf
+value-finite nan s a c v = absurd v
+value-finite (inf t) s a c v = absurd v
+value-finite (fin t m e) s a c v = refl
+
+pub between-finite : (a x b : Float) → finiteOf a ≡ true → finiteOf b ≡ true → le a x ≡ true → le x b ≡ true → finiteOf x ≡ true
+unfolding le finiteOf
+between-finite nan x b p q h k = absurd (false≢true p)
+between-finite (inf s) x b p q h k = absurd (false≢true p)
+between-finite (fin s m e) nan b p q h k = absurd (false≢true h)
+between-finite (fin s m e) (inf true) b p q h k = absurd (false≢true h)
+between-finite (fin s m e) (inf false) nan p q h k = absurd (false≢true q)
+between-finite (fin s m e) (inf false) (inf u) p q h k = absurd (false≢true q)
+between-finite (fin s m e) (inf false) (fin u l g) p q h k = absurd (false≢true k)
+between-finite (fin s m e) (fin t n d) b p q h k = refl
 
 pub add-finite : (f : Format) (x y : Float) → finiteOf (add f x y) ≡ true → (finiteOf x ≡ true) × (finiteOf y ≡ true)
 unfolding add finiteOf
