@@ -19,7 +19,7 @@ use Rattle.plan.specs.Reading.{Out, Outs, treeOf, treesOf, fromBytes, st
 use Rattle.plan.specs.Table.{link, linkAt}
 use Rattle.plan.specs.Bytes.{axesBytes, pairs, evolutionBytes, binsBytes, encode, encodeAll, valid, validAll}
 use Rattle.plan.specs.Bounds.{Roomy, Bytes, Inside}
-use Rattle.plan.proofs.Numbers.{below-four, below-eight, spell-one, spell-number, spell-values, evolution-bytes, values-length}
+use Rattle.plan.proofs.Numbers.{below-four, below-eight, spell-one, spell-number, spell-values, evolution-bytes, values-length, sixteen, eleven}
 use Rattle.plan.proofs.Faults.{Evolution, absent, there, evolution-few}
 use Rattle.plan.proofs.Trees.{AxesValid, valid-axes, BinsValid, valid-bins, roomy-after}
 use Rattle.plan.proofs.Here.{NothingHere, AxesHere, BinsHere, NothingFound, AxesFound, BinsFound, nothing-found, axes-found, bins-found, here-evolved, here-bounded, here-most, here-reach, whole, length-here}
@@ -41,14 +41,6 @@ pub record SoundAll (bs : List ℕ) (l n : ℕ) (p : Place) (ts : Trees) (q : Pl
   pub number : count ts ≡ n
 
 -- 1. A field's bytes ------------------------------------------------------------------------------------
-
-sixteen : bytesOf 2 16 ≡ 16 ∷ (0 ∷ [])
-unfolding bytesOf
-sixteen = refl
-
-eleven : bytesOf 2 11 ≡ 11 ∷ (0 ∷ [])
-unfolding bytesOf
-eleven = refl
 
 least-small : (bs : List ℕ) → Bytes bs → (at : ℕ) → axesAt bs at .least < 0x1_0000_0000
 unfolding axesAt

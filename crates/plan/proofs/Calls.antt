@@ -41,24 +41,27 @@ pub grid-some : (bs : List ℕ) {x : ℕ} {p : Place} {r : Step} → x ≡ getD 
 unfolding gridOf
 grid-some bs e h b d = rw (ne-eqb (getD bs 0 0) 4 (λ y. h (e ∙ y))) (d ∙ ap (λ (q : Place). stepOf (treeOf (fromBytes bs) 4 q)) b)
 
-pub record GridRead (bs : List ℕ) (q : Place) : Type 0 where
-  pub tree : Tree
-  pub grid : gridOf bs ≡ Out.reads tree q
-  pub read : treeOf (fromBytes bs) 4 begin ≡ Out.reads tree q
+pub record GridRead (bs : List ℕ) (t : Tree) (q : Place) : Type 0 where
+  pub grid : gridOf bs ≡ Out.reads t q
+  pub read : treeOf (fromBytes bs) 4 begin ≡ Out.reads t q
   pub tag : getD bs 0 0 ≡ 4 → ⊥
 
 grid-case : (b : Bool) (o : Out) (t : Tree) (q : Place) → cond b (Out.stops 1 0) o ≡ Out.reads t q → (b ≡ false) × (o ≡ Out.reads t q)
 grid-case true o t q e = stops-reads e
 grid-case false o t q e = (refl, e)
 
-pub grid-read : (bs : List ℕ) (t : Tree) (q : Place) → gridOf bs ≡ Out.reads t q → GridRead bs q
+pub grid-read : (bs : List ℕ) (t : Tree) (q : Place) → gridOf bs ≡ Out.reads t q → GridRead bs t q
 unfolding gridOf
 grid-read bs t q e =
     let k = grid-case (eqb (getD bs 0 0) 4) (treeOf (fromBytes bs) 4 begin) t q e in
-    record { tree = t; grid = e; read = k .1; tag = eqb-false (getD bs 0 0) 4 (k .0) }
+    record { grid = e; read = k .1; tag = eqb-false (getD bs 0 0) 4 (k .0) }
 
-grid-done : (bs : List ℕ) (q : Place) → step.Done q ≡ stepOf (gridOf bs) → GridRead bs q
-grid-done bs q e = let s = some (gridOf bs) q e in grid-read bs (s .tree) q (s .read)
+record GridDone (bs : List ℕ) (q : Place) : Type 0 where
+  tree : Tree
+  reads : GridRead bs tree q
+
+grid-done : (bs : List ℕ) (q : Place) → step.Done q ≡ stepOf (gridOf bs) → GridDone bs q
+grid-done bs q e = let s = some (gridOf bs) q e in record { tree = s .tree; reads = grid-read bs (s .tree) q (s .read) }
 
 -- 2. Reading ----------------------------------------------------------------------------------------------
 
@@ -74,27 +77,27 @@ module _ (bs xs : List ℕ) where
   module _ {q : Place} (e : step.Done q ≡ stepOf (gridOf bs)) where
     pub put-short : length xs < q .tally .words → end (paperRead (answer.Refused 10 0)) xs ≡ readPrefixOf bs xs
     unfolding readPrefixOf writtenOf paperRead
-    put-short m = rw (grid-done bs q e .grid, lt-ltb (length xs) (q .tally .words) m)
+    put-short m = rw (grid-done bs q e .reads .grid, lt-ltb (length xs) (q .tally .words) m)
 
     pub plan-surplus : q .at < length bs → end (paperRead (answer.Refused 1 (q .at))) xs ≡ readPlanOf bs xs
     unfolding readPlanOf paperRead
-    plan-surplus m = rw (grid-done bs q e .grid, lt-ltb (q .at) (length bs) m)
+    plan-surplus m = rw (grid-done bs q e .reads .grid, lt-ltb (q .at) (length bs) m)
 
     pub plan-whole : length bs ≤ q .at → readPrefixOf bs xs ≡ readPlanOf bs xs
     unfolding readPlanOf readPrefixOf
-    plan-whole m = rw (grid-done bs q e .grid, le-ltb (q .at) (length bs) m)
+    plan-whole m = rw (grid-done bs q e .reads .grid, le-ltb (q .at) (length bs) m)
 
     module _ (m : q .tally .words ≤ length xs) where
       pub writable : Bytes bs → {p : Place} → p ≡ begin → Writable bs 4 p (length xs)
-      writable small b = let s = grid-done bs q e in rw b record { inside = begin-inside bs small refl; tree = s .tree; stop = q; read = s .read; room = m }
+      writable small b = let s = grid-done bs q e in rw b record { inside = begin-inside bs small refl; tree = s .tree; stop = q; read = s .reads .read; room = m }
 
       pub put-whole : {p : Place} {n : Needs} (new : List ℕ) → p ≡ begin → n ≡ needsOf (q .tally) → new ≡ laid 4 (p .tally) (treeOf (fromBytes bs) 4 p) xs
           → end (paperRead (answer.Plan (q .at) n)) new ≡ readPrefixOf bs xs
       unfolding readPrefixOf writtenOf paperRead
       put-whole {p} new b n w =
           let s = grid-done bs q e in
-          let v : new ≡ sets xs 0 (rows 4 (s .tree) untaken) = w ∙ ap (λ (p : Place). laid 4 (p .tally) (treeOf (fromBytes bs) 4 p) xs) b ∙ ap (λ (o : Out). laid 4 untaken o xs) (s .read) in
-          rw (s .grid, le-ltb (length xs) (q .tally .words) m, n, v)
+          let v : new ≡ sets xs 0 (rows 4 (s .tree) untaken) = w ∙ ap (λ (p : Place). laid 4 (p .tally) (treeOf (fromBytes bs) 4 p) xs) b ∙ ap (λ (o : Out). laid 4 untaken o xs) (s .reads .read) in
+          rw (s .reads .grid, le-ltb (length xs) (q .tally .words) m, n, v)
 
 -- 3. A table's sizes --------------------------------------------------------------------------------------
 

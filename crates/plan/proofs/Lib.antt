@@ -14,3 +14,8 @@ pub mod Stores
 pub mod Writes
 pub mod Rows
 pub mod Calls
+pub mod Encodes
+pub mod Tables
+pub mod Rereads
+pub mod Plans
+pub mod Unique

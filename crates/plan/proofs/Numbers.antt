@@ -130,3 +130,12 @@ pub pairs-length : (vs : List ℕ) → length (pairs vs) ≡ 2 * length vs
 unfolding pairs
 pairs-length [] = refl
 pairs-length (v ∷ vs) = simp (length-append, bytes-length) (omega (arith, pairs-length vs))
+
+-- the lengths of 01 and 03 as bytes
+pub sixteen : bytesOf 2 16 ≡ 16 ∷ (0 ∷ [])
+unfolding bytesOf
+sixteen = refl
+
+pub eleven : bytesOf 2 11 ≡ 11 ∷ (0 ∷ [])
+unfolding bytesOf
+eleven = refl
