@@ -5,31 +5,43 @@ use Prim.Native.Nat.{ℕ, zero, suc, _+_, _-_, _*_, _/_, _%_, _^_, _≤_, _<_}
 use native.Mathlib.Nat.{le-trans, le-of-eq, le-of-lt, lt-of-lt-of-le, lt-of-le-of-lt, mul-one, mul-comm, mul-assoc, mul-right-comm, mul-le-mul, mul-le-mul-right, mul-le-mul-left, mul-lt-mul-of-pos-right, le-of-mul-le-mul-right, lt-of-mul-lt-mul-right, div-lt-iff-lt-mul, mod-lt, mod-le, div-add-mod', add-mul, mul-mod-left, div-mul-le-self, mul-div-cancel, add-sub-cancel-left}
 use native.Mathlib.Omega.{arith}
 use mathlib.Core.Bool.{Bool, true, false, not}
-use lib.IntN.{negsuc}
+use lib.IntN.{pos, negsuc}
 use lib.Arith.{digits-mod}
 use lib.Dec.{T, leb, leb→le, nleb→lt, lit<, lit≤}
 use lib.Pow.{pow-add, pow-pos, pow-mono, shr-mono}
 use lib.Ieee.{Float, nan, inf, fin, binary64, down, fits, round, mul, sub, le, ofBits}
-use lib.Ieee.Fits.{down-pos}
+use lib.Ieee.Fits.{down-pos, mul-fits}
 use lib.Ieee.Exact.{HasValue, round-exact}
 use lib.Ieee.Order.{drop}
 use lib.Ieee.Scale.{grid, round-val}
-use lib.Ieee.Positive.{num, den}
+use lib.Ieee.Positive.{num, den, value→cross}
+use Rattle.real.specs.Numbers.{zero64}
 use Rattle.real.specs.Count.{countOf}
 use Rattle.real.specs.Whole.{wholeOf}
-use Rattle.real.proofs.Exact.{held}
+use Rattle.real.proofs.Exact.{held, dyadic}
 use Rattle.real.proofs.Fractions.{values-le}
 use Rattle.real.proofs.Rounding.{mul-at, sub-at}
-use Rattle.real.proofs.Monotone.{unsigned}
+use Rattle.real.proofs.Monotone.{unsigned, value-unsigned}
 use Rattle.real.proofs.Wholes.{count-value, whole-is}
 use Rattle.real.proofs.Error.{round-error, dropped-below}
 
 -- ---- the draw
+-- 1 - 2 ^ -53, the greatest
+abbrev pub last64 : Float
+last64 = ofBits binary64 0x3fef_ffff_ffff_ffff
+
+last-value : HasValue last64 false (2 ^ 53 - 1) (2 ^ 53)
+unfolding ofBits
+last-value = (refl, refl)
+
 pub draw-exact : (K : ℕ) → K < 2 ^ 53 → HasValue (mul binary64 (countOf K) (ofBits binary64 0x3ca0_0000_0000_0000)) false K (2 ^ 53)
 unfolding ofBits
 draw-exact K h =
     subst (λ (x : Float). HasValue x false K (2 ^ 53)) (sym (mul-at binary64 (countOf K) (fin false 1 (negsuc 52)) K 1 1 (2 ^ 53) (lit< tt) (lit< tt) (count-value K (le-of-lt h)) (refl, refl) ∙ ap (λ (z : ℕ). round binary64 false z (2 ^ 53)) (mul-one K)))
-    (round-exact binary64 false K (2 ^ 53) K 1021 (pow-pos 53) h (lt-of-lt-of-le (mul-lt-mul-of-pos-right h (pow-pos 1021)) (lit≤ tt)) (sym (mul-assoc K (2 ^ 1021) (2 ^ 53))))
+    (dyadic K 53 h (lit≤ tt))
+
+pub draw-at-most : (K : ℕ) (r : Float) → K < 2 ^ 53 → HasValue r false K (2 ^ 53) → le r last64 ≡ true
+draw-at-most K r h v = values-le r last64 K (2 ^ 53) (2 ^ 53 - 1) (2 ^ 53) (lit< tt) (lit< tt) v last-value (omega arith)
 
 -- ---- n times a draw is below n: the product falls short of n by n * 2 ^ -53, more than half a unit of its last digit
 -- U is 2 ^ 1021, G the rounded product in units of 2 ^ -1074, D a unit of its last digit
@@ -168,9 +180,22 @@ offset-exact (fin false m e) f u w =
     let i : wholeOf (fin false m e) ≡ X / 2 ^ 1074 = whole-is (fin false m e) X (2 ^ 1074) (pow-pos 1074) (refl, h .units) (lt-of-le-of-lt l (lit< tt)) in
     subst (λ (z : ℕ). Offset (fin false m e) z) (sym i) (offset-at (fin false m e) (h .q) (h .j) (h .short) l (refl, h .units))
 
--- at most 1 - 2 ^ -53, the greatest draw
-pub offset-at-most : (x : Float) (i : ℕ) → Offset x i → le (sub binary64 x (countOf i)) (ofBits binary64 0x3fef_ffff_ffff_ffff) ≡ true
-unfolding ofBits
+pub offset-at-most : (x : Float) (i : ℕ) → Offset x i → le (sub binary64 x (countOf i)) last64 ≡ true
 offset-at-most x i o =
-    values-le (sub binary64 x (countOf i)) (fin false (2 ^ 53 - 1) (negsuc 52)) (o .t) (2 ^ 1074) (2 ^ 53 - 1) (2 ^ 53) (pow-pos 1074) (lit< tt) (o .exact) (refl, refl)
+    values-le (sub binary64 x (countOf i)) last64 (o .t) (2 ^ 1074) (2 ^ 53 - 1) (2 ^ 53) (pow-pos 1074) (lit< tt) (o .exact) last-value
     (le-trans (mul-le-mul-right (2 ^ 53) (o .small)) (lit≤ tt))
+
+pub offset-from-zero : (x : Float) (i : ℕ) → Offset x i → le zero64 (sub binary64 x (countOf i)) ≡ true
+unfolding ofBits
+offset-from-zero x i o = values-le (fin false 0 (pos 0)) (sub binary64 x (countOf i)) 0 1 (o .t) (2 ^ 1074) (lit< tt) (pow-pos 1074) (refl, refl) (o .exact) (none (2 ^ 1074) (o .t))
+  where
+    none : (l t : ℕ) → 0 * l ≤ t * 1
+    none l t = omega arith
+
+-- of n times a draw
+pub draw-offset : (n K : ℕ) (r : Float) → 1 ≤ n → n ≤ 2 ^ 53 → K < 2 ^ 53 → HasValue r false K (2 ^ 53) → Offset (mul binary64 (countOf n) r) (wholeOf (mul binary64 (countOf n) r))
+draw-offset n K r N M k v =
+    let x = mul binary64 (countOf n) r in
+    let p = draw-product n K r N M k v in
+    let b : num x * 2 ^ 1074 ≤ 2 ^ 53 * den x * 2 ^ 1074 = le-trans (le-of-eq (value→cross x (p .0) (2 ^ 1074) (p .1))) (le-trans (mul-le-mul-right (den x) (le-trans (le-of-lt (p .2)) (mul-le-mul-right (2 ^ 1074) M))) (le-of-eq (mul-right-comm (2 ^ 53) (2 ^ 1074) (den x)))) in
+    offset-exact x (mul-fits binary64 (countOf n) r) (value-unsigned x (p .0) (2 ^ 1074) (p .1)) (le-of-mul-le-mul-right b (pow-pos 1074))

@@ -1,13 +1,14 @@
--- Where nothing is rounded away: a value that the format holds is known by its sign and its size, and rounds to itself. Assumes nothing.
+-- Where nothing is rounded away: a value that the format holds is known by its sign and its size, and rounds to itself; so do fractions by
+-- powers of two, and products with powers of two. Assumes nothing.
 use mathlib.Core.Path.{_≡_, sym, ap, ap₂, _∙_, subst}
 use Prim.Native.Nat.{ℕ, zero, suc, _+_, _-_, _*_, _/_, _%_, _^_, _≤_, _<_}
-use native.Mathlib.Nat.{mul-one, mul-comm, mul-assoc, mul-right-comm, mul-lt-mul-of-pos-right, eq-of-mul-eq-mul-right, not-le-of-lt, lt-of-not-le, zero-mul}
+use native.Mathlib.Nat.{one-mul, le-of-eq, le-of-lt, lt-of-lt-of-le, lt-of-le-of-lt, mul-le-mul, lt-of-mul-lt-mul-right, mul-one, mul-comm, mul-assoc, mul-right-comm, mul-lt-mul-of-pos-right, eq-of-mul-eq-mul-right, not-le-of-lt, lt-of-not-le, zero-mul}
 use native.Mathlib.Omega.{arith}
-use mathlib.Core.Bool.{Bool, _&&_, cond}
+use mathlib.Core.Bool.{Bool, false, _&&_, cond}
 use lib.IntN.{ℤ, pos, negsuc}
-use lib.Dec.{T, eqb, leb, ltb, leb→le, ltb→lt}
-use lib.Pow.{pow-add, pow-pos, pow-lt}
-use lib.Ieee.{Float, nan, inf, fin, Format, prec, emax, low, hid, top, up, down, size, fits, round, toBits, ofBits}
+use lib.Dec.{T, eqb, leb, ltb, leb→le, ltb→lt, lit<}
+use lib.Pow.{pow-add, pow-pos, pow-lt, pow-mono}
+use lib.Ieee.{Float, nan, inf, fin, Format, binary64, mul, prec, emax, low, hid, top, up, down, size, fits, round, toBits, ofBits}
 use lib.Ieee.Fits.{and-l, and-r, down-pos, round-fits}
 use lib.Ieee.Exact.{HasValue, round-exact}
 use lib.Ieee.Nearest.{div-same}
@@ -109,3 +110,25 @@ own-exact f s (fin u m e) a c C t v =
 
 pub round-self : (f : Format) (s : Bool) (x : Float) (a c : ℕ) → 0 < c → T (fits f x) → HasValue x s a c → round f s a c ≡ x
 round-self f s x a c C t v = value-unique f (round f s a c) x s a c C (round-fits f s a c) t (own-exact f s x a c C t v) v
+
+-- ---- fractions by powers of two, and products with them
+pub dyadic : (q s : ℕ) → q < 2 ^ 53 → s ≤ 1074 → HasValue (round binary64 false q (2 ^ s)) false q (2 ^ s)
+dyadic q s h l =
+    let i : 1074 - s + s ≡ 1074 = omega arith in
+    let e : q * 2 ^ 1074 ≡ q * 2 ^ (1074 - s) * 2 ^ s = ap (λ (z : ℕ). q * 2 ^ z) (sym i) ∙ ap (λ (z : ℕ). q * z) (pow-add 2 (1074 - s) s) ∙ sym (mul-assoc q (2 ^ (1074 - s)) (2 ^ s)) in
+    round-exact binary64 false q (2 ^ s) q (1074 - s) (pow-pos s) h (lt-of-le-of-lt (mul-le-mul (le-of-lt h) (pow-mono (less s))) (lit< tt)) e
+  where
+    less : (s : ℕ) → 1074 - s ≤ 1074
+    less s = omega arith
+
+-- x * 2 ^ k, where it does not overflow
+pub power-exact : (f : Format) (m : ℕ) (e : ℤ) (k : ℕ) → T (fits f (fin false m e)) → m * up e * 2 ^ k < 2 ^ suc (emax f) * down e
+    → HasValue (mul f (fin false m e) (fin false 1 (pos k))) false (m * up e * 2 ^ k) (down e)
+unfolding mul
+power-exact f m e k t h =
+    let d = held f false m e t in
+    let i : m * up e * (1 * 2 ^ k) ≡ m * up e * 2 ^ k = ap (λ (z : ℕ). m * up e * z) (one-mul (2 ^ k)) in
+    let u : m * up e * 2 ^ k * 2 ^ low f ≡ d .q * 2 ^ (d .j + k) * down e = mul-right-comm (m * up e) (2 ^ k) (2 ^ low f) ∙ ap (λ (z : ℕ). z * 2 ^ k) (d .units) ∙ mul-right-comm (d .q * 2 ^ d .j) (down e) (2 ^ k) ∙ ap (λ (z : ℕ). z * down e) (mul-assoc (d .q) (2 ^ d .j) (2 ^ k) ∙ ap (λ (z : ℕ). d .q * z) (sym (pow-add 2 (d .j) k))) in
+    let b : d .q * 2 ^ (d .j + k) < 2 ^ (low f + suc (emax f)) = lt-of-mul-lt-mul-right (down e) (lt-of-le-of-lt (le-of-eq (sym u)) (lt-of-lt-of-le (mul-lt-mul-of-pos-right h (pow-pos (low f))) (le-of-eq (mul-right-comm (2 ^ suc (emax f)) (down e) (2 ^ low f) ∙ ap (λ (z : ℕ). z * down e) (mul-comm (2 ^ suc (emax f)) (2 ^ low f) ∙ sym (pow-add 2 (low f) (suc (emax f)))))))) in
+    subst (λ (x : Float). HasValue x false (m * up e * 2 ^ k) (down e)) (sym (ap₂ (λ (a c : ℕ). round f false a c) i (mul-one (down e))))
+    (round-exact f false (m * up e * 2 ^ k) (down e) (d .q) (d .j + k) (down-pos e) (d .short) b u)

@@ -33,13 +33,14 @@ pub record Tells (b : Bool) (P : Type 0) : Type 0 where
   pub yes : b ≡ true → P
   pub no : b ≡ false → P → ⊥
 
--- q is not the nearest to the root of d * 2 ^ 52, and r is closer to the one that is
+-- q is not the nearest to the root of d * 2 ^ 52
 pub record Wrong (d q : ℕ) : Type 0 where
   pub some : 1 ≤ q
   pub short : q < 2 ^ 53
   pub digits : Radicand d
   pub far : NearRoot (d * 2 ^ 52) q → ⊥
 
+-- r is closer than q to whatever is nearest to it
 pub record Closer (d q r : ℕ) : Type 0 where
   pub some : 1 ≤ r
   pub short : r < 2 ^ 53
