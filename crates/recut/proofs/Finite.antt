@@ -9,7 +9,7 @@ use Rattle.real.specs.Finite.{finiteOf}
 use Rattle.real.specs.Total.{totalOf, allFinite}
 use Rattle.real.specs.Paper.{Paper, refuses}
 use Rattle.real.proofs.Truth.{both}
-use Rattle.real.proofs.Sums.{add-finite, mul-finite, div-finite, total-finite}
+use Rattle.real.proofs.Finiteness.{add-finite, mul-finite, div-finite, total-finite}
 use Rattle.recut.specs.Weights.{three64, four64, six64, eight64, firstOf, innerOf, lastOf, smoothedFrom, smoothed, damped}
 use Rattle.recut.specs.Cut.{cutsOf}
 use Rattle.recut.specs.Renew.{finiteTotal, stepOf, edgesOf, fromDamped, fromSmoothed, fromDivided}
