@@ -9,7 +9,7 @@ use lib.Ieee.{Float, nan, binary64, add}
 use Rattle.real.specs.Numbers.{zero64, one64}
 use Rattle.recut.specs.declared.cut.Spot.{Spot}
 use Rattle.recut.specs.Cut.{spot, walkTo, edgeAt, edgesFrom, cutsOf}
-use Rattle.recut.proofs.Writes.{write-next, write-end}
+use Rattle.recut.proofs.Writes.{rest-next, rest-done}
 
 module _ (es qs : List Float) (step : Float) where
   pub cut-next : (l : List Float) (i : ℕ) (t v : Float) (s s′ : Spot) → i < length l
@@ -18,11 +18,11 @@ module _ (es qs : List Float) (step : Float) where
       ≡ take i l ++ edgesFrom es qs step t s (length (drop i l))
   unfolding edgesFrom
   cut-next l i t v s s′ h e d =
-      write-next nan l i v (λ (x : List Float). edgesFrom es qs step t s (length x)) (λ (x : List Float). edgesFrom es qs step (add binary64 t step) s′ (length x)) h (rw (d, e))
+      rest-next nan l i v (λ (x : List Float). edgesFrom es qs step t s (length x)) (λ (x : List Float). edgesFrom es qs step (add binary64 t step) s′ (length x)) h (rw (d, e))
 
   pub cut-end : (l : List Float) (i : ℕ) (t : Float) (s : Spot) → length l ≤ i → take i l ++ edgesFrom es qs step t s (length (drop i l)) ≡ l
   unfolding edgesFrom
-  cut-end l i t s h = write-end l i (λ (x : List Float). edgesFrom es qs step t s (length x)) (rw (drop-of-length-le l h))
+  cut-end l i t s h = rest-done l i (λ (x : List Float). edgesFrom es qs step t s (length x)) (rw (drop-of-length-le l h))
 
   pub cut-whole : (room : List Float) → 0 < length room
       → set (take 1 (set room 0 zero64) ++ edgesFrom es qs step zero64 (spot zero64 0) (length (drop 1 (set room 0 zero64)))) (length room - 1) one64

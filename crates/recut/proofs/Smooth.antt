@@ -9,7 +9,7 @@ use lib.ListN.{length, getD, take, drop, set}
 use lib.Seq.{drop-cons}
 use lib.Ieee.{Float, nan}
 use Rattle.recut.specs.Weights.{firstOf, innerOf, lastOf, smoothedFrom, smoothed}
-use Rattle.recut.proofs.Writes.{write-next}
+use Rattle.recut.proofs.Writes.{rest-next}
 
 pub smooth-short : (l : List Float) → length l < 2 → l ≡ smoothed l
 unfolding smoothed
@@ -32,7 +32,7 @@ unfolding smoothedFrom
 smooth-next l i p c h =
     let n = getD l (i + 1) nan in
     let k : suc i < length l = omega arith in
-    write-next nan l i (innerOf p c n) (λ (t : List Float). smoothedFrom p c (drop 1 t)) (λ (t : List Float). smoothedFrom c n (drop 1 t)) (omega arith) (rw (add-one, drop-cons l (suc i) nan k))
+    rest-next nan l i (innerOf p c n) (λ (t : List Float). smoothedFrom p c (drop 1 t)) (λ (t : List Float). smoothedFrom c n (drop 1 t)) (omega arith) (rw (add-one, drop-cons l (suc i) nan k))
 
 pub smooth-end : (l : List Float) (k : ℕ) (p c : Float) → length l ≡ suc k → set l k (lastOf p c) ≡ take k l ++ smoothedFrom p c (drop 1 (drop k l))
 unfolding smoothedFrom

@@ -11,7 +11,8 @@ use Rattle.recut.specs.declared.cut.Spot.{Spot}
 abbrev pub spot : Float → ℕ → Spot
 spot a j = record { passed = a; bin = j }
 
--- over the weights from the bin j on, while the weight passed with the bin's own is below the target; the last bin is never left
+-- Over the weights from the bin j on, while the weight passed with the bin's own is below the target. The last bin is never left, though its
+-- weight is passed, once for each target beyond it.
 unfoldable pub walk : Float → Float → ℕ → List Float → Spot
 walk t a j [] = spot a j
 walk t a j (q ∷ []) = cond (lt (add binary64 a q) t) (spot (add binary64 a q) j) (spot a j)

@@ -30,8 +30,9 @@ perCount q n = cond (ltb 0 n) (div binary64 (normOf q) (countOf n)) (normOf q)
 unfoldable pub normalised : List Float → List ℕ → List Float
 normalised = pairwise perCount
 
--- ---- smooth: each with its neighbours, as they were before
+-- ---- smooth, from two bins on: each with its neighbours, as they were before
 
+-- (3·a + b) / 4, ((p + c·6) + n) / 8 and (p + 3·c) / 4
 unfoldable pub firstOf : Float → Float → Float
 firstOf a b = div binary64 (add binary64 (mul binary64 three64 a) b) four64
 

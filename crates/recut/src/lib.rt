@@ -28,7 +28,7 @@ pub fn gather(importances: &mut [f64], added: &[f64])
     }
 }
 
-// The sum of two counts, where neither is above 2^53.
+// A count with its waiting samples, where neither is above 2^53; else the count alone.
 fn joined_count(n: u64, waiting: u64) -> u64
     ensures { λ r. ⌜ r ≡ joinedCount n waiting ⌝ }
 {
@@ -101,8 +101,8 @@ fn from_damped(edges: &[f64], damped: &[f64], room: &mut [f64]) -> Renewed
     Renewed::Done
 }
 
-// The room's edges, cut by importances that are divided by their counts: these are smoothed and damped first. What is not
-// finite makes the total after it so, at whatever stage it arises; so the totals alone are tested. Refused: 8, 9.
+// The room's edges, cut by importances that are divided by their counts: these are smoothed and damped first. An importance
+// that is not finite, at whatever stage, leaves the next total not finite, so only the two totals are tested. Refused: 8, 9.
 fn from_divided(edges: &[f64], importances: &mut [f64], rate: f64, room: &mut [f64]) -> Renewed
     requires { ⌜ (0 < length (now importances)) × (length (now importances) < length (now edges)) × (2 ≤ length (now room)) ⌝ }
     ensures { λ r. ⌜ paperRenewed r (now (room .exit)) ≡ fromDivided (now (edges .entry)) (now (importances .entry)) rate (length (now (room .entry))) ⌝ }
