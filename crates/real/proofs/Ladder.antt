@@ -1,6 +1,7 @@
 -- A ladder of refusals: one that gives an answer has passed each of its tests.
 use mathlib.Core.Path.{_≡_, refl}
 use mathlib.Core.Bool.{Bool, true, false, cond}
+use mathlib.Core.Logic.{_⊎_, inl, inr}
 use Prim.Native.Nat.{ℕ}
 use native.Mathlib.Omega.{arith}
 use Rattle.real.specs.Paper.{Paper, gives, refuses}
@@ -12,3 +13,8 @@ passes false n p x e = (refl, e)
 -- the answer given is the one
 pub given : {A : Type 0} (x y : A) → _≡_ {A = Paper A} (gives x) (gives y) → x ≡ y
 given x y e = cc
+
+-- a test whose two ways may both give
+pub branch : {A : Type 0} (c : Bool) (p q : Paper A) (x : A) → cond c p q ≡ gives x → ((c ≡ true) × (p ≡ gives x)) ⊎ ((c ≡ false) × (q ≡ gives x))
+branch true p q x e = inl (refl, e)
+branch false p q x e = inr (refl, e)
