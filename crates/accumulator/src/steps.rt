@@ -143,9 +143,9 @@ fn processed(weighted: bool, a: StatisticsAccumulator) -> StatisticsAccumulator
     let weighted_avg = sigma * r.avg_sum;
     let all = real::count(r.processed_samples);
     let avg = r.total_sum / all;
-    let err = real::sqrt(variance(avg, r.total_sum_sq / all, all));
+    let spread = variance(avg, r.total_sum_sq / all, all);
     r.avg = either(weighted, weighted_avg, avg);
-    r.err = either(weighted, real::sqrt(sigma), err);
+    r.err = real::sqrt(either(weighted, sigma, spread));
     r.guess = either(a.cur_iter == 0, mean, a.guess);
     let off = w * (mean - r.guess);
     r.chi_sum = a.chi_sum + off;
