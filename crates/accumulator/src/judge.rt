@@ -4,7 +4,7 @@ ghost use Rattle.accumulator.specs.Record.{finiteSums, boundedCounts, we
 use crate::StatisticsAccumulator;
 
 // Whether the kept sums are finite. A number less itself is 0, or a NaN where it is not finite, so that one comparison
-// judges all four: on the way of every sample it takes a third of the time of four tests.
+// judges all four, which is cheaper than four tests on the way of every sample.
 pub fn has_finite_sums(a: StatisticsAccumulator) -> bool
     ensures { λ r. ⌜ r ≡ finiteSums a ⌝ }
 {
