@@ -1,6 +1,6 @@
 -- An iteration's processing: what the code's calls answer, put together, is the definition.
 use mathlib.Core.Path.{_≡_, refl}
-use mathlib.Core.Bool.{Bool, cond}
+use mathlib.Core.Bool.{Bool, true, false, cond}
 use Prim.Native.Nat.{ℕ, _+_}
 use lib.Dec.{eqb}
 use lib.Ieee.{Float, binary64, add, sub, mul, div}
@@ -12,7 +12,12 @@ use Rattle.accumulator.specs.Record.{withWaiting}
 use Rattle.accumulator.specs.Steps.{clearedOf}
 use Rattle.accumulator.specs.Update.{varianceOf, weightOf, processedOf}
 
-module _ (weighted : Bool) (a z : StatisticsAccumulator) (n v w sigma all u e s av er gu : Float) where
+-- the root of one of two is one of their roots
+root-of-choice : (b : Bool) (x y : Float) → rootOf (cond b x y) ≡ cond b (rootOf x) (rootOf y)
+root-of-choice true x y = refl
+root-of-choice false x y = refl
+
+module _ (weighted : Bool) (a z : StatisticsAccumulator) (n v w sigma all u t av er gu : Float) where
   -- the iteration's mean, the sums that it moves on, and how far it lies from the guess
   abbrev mean : Float
   mean = div binary64 (a .sum) n
@@ -63,10 +68,10 @@ module _ (weighted : Bool) (a z : StatisticsAccumulator) (n v w sigma all u e s 
 
   pub steps-are : n ≡ countOf (a .«new_samples») → v ≡ varianceOf mean (div binary64 (a .«sum_sq») n) n → w ≡ weightOf v → z ≡ clearedOf a
       → sigma ≡ invOf (add binary64 (a .«weight_sum») w) → all ≡ countOf (a .«processed_samples» + a .«new_samples»)
-      → u ≡ varianceOf (div binary64 total all) (div binary64 squares all) all → e ≡ rootOf u
-      → av ≡ cond weighted (mul binary64 sigma averages) (div binary64 total all) → s ≡ rootOf sigma → er ≡ cond weighted s e
+      → u ≡ varianceOf (div binary64 total all) (div binary64 squares all) all
+      → av ≡ cond weighted (mul binary64 sigma averages) (div binary64 total all) → t ≡ cond weighted sigma u → er ≡ rootOf t
       → gu ≡ cond (eqb (a .«cur_iter») 0) mean (a .guess)
       → after ≡ processedOf weighted a
   unfolding processedOf clearedOf withWaiting
-  steps-are is-n is-v is-w is-z is-sigma is-all is-u is-e is-av is-s is-er is-gu =
-      rw (is-gu, is-er, is-s, is-av, is-e, is-u, is-all, is-sigma, is-z, is-w, is-v, is-n)
+  steps-are is-n is-v is-w is-z is-sigma is-all is-u is-av is-t is-er is-gu =
+      rw (is-gu, is-er, is-t, root-of-choice weighted sigma u, is-av, is-u, is-all, is-sigma, is-z, is-w, is-v, is-n)

@@ -3,14 +3,14 @@ ghost use mathlib.Core.Path.{_≡_};
 ghost use Rattle.accumulator.specs.Record.{finiteSums, boundedCounts, wellFormed};
 use crate::StatisticsAccumulator;
 
-// Whether the kept sums are finite.
+// Whether the kept sums are finite. A number less itself is 0, or a NaN where it is not finite, so that one comparison
+// judges all four, which is cheaper than four tests on the way of every sample.
 pub fn has_finite_sums(a: StatisticsAccumulator) -> bool
     ensures { λ r. ⌜ r ≡ finiteSums a ⌝ }
 {
-    real::finite(a.sum)
-        & real::finite(a.sum_sq)
-        & real::finite(a.total_sum)
-        & real::finite(a.total_sum_sq)
+    ((a.sum - a.sum) + (a.sum_sq - a.sum_sq))
+        + ((a.total_sum - a.total_sum) + (a.total_sum_sq - a.total_sum_sq))
+        == 0.0
 }
 
 // Whether no count is above 2^53.

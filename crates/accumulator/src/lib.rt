@@ -6,8 +6,12 @@ mod judge;
 mod steps;
 
 ghost use mathlib.Core.Path.{_≡_};
-ghost use Rattle.accumulator.specs.Record.{fresh};
-ghost use Rattle.accumulator.specs.Calls.{paperChanged, paperMerged, paperUpdated, paperEstimated, paperSummed, keptOf, addSampleOf, mergeOf, mergeClearingOf, clearOf, copyOf, updateOf, liveEstimateOf, summarizeOf};
+ghost use mathlib.Core.Bool.{false, _&&_};
+ghost use Rattle.real.specs.Paper.{refuses};
+ghost use Rattle.accumulator.specs.Record.{fresh, wellFormed};
+ghost use Rattle.accumulator.specs.Steps.{addedOf};
+ghost use Rattle.accumulator.specs.Calls.{paperChanged, paperMerged, paperUpdated, paperEstimated, paperSummed, keptOf, numbered, addSampleOf, mergeOf, mergeClearingOf, clearOf, copyOf, updateOf, liveEstimateOf, summarizeOf};
+use judge::has_bounded_counts;
 use judge::is_well_formed;
 
 // The record, in the order of the Rust's declaration. A sample of an extreme is its number, 0 for none.
@@ -121,20 +125,19 @@ impl StatisticsAccumulator {
     }
 
     // The record with one evaluation more, of the sample with this number, 0 for none. Refused: 12; 3 for a number above 2^53;
-    // 7 for an evaluation that is not finite; 8.
+    // 7 for an evaluation that is not finite; 8. Sums that are finite afterwards were so before, and so was the evaluation:
+    // a sample that is accepted is judged once, on the record after it.
     pub fn add_sample(self, eval: f64, number: u64) -> Changed
         ensures { λ r. ⌜ paperChanged r ≡ addSampleOf self eval number ⌝ }
     {
-        if !is_well_formed(self) {
+        if !has_bounded_counts(self) {
             return Changed::Refused(12);
         }
-        if 9007199254740992 < number {
-            return Changed::Refused(3);
+        let after = steps::added(self, eval, number);
+        if !is_accepted(number, after) {
+            return Changed::Refused(sample_refusal(self, eval, number));
         }
-        if !real::finite(eval) {
-            return Changed::Refused(7);
-        }
-        kept(steps::added(self, eval, number))
+        Changed::Record(after)
     }
 
     // The record with the other's waiting samples; the other keeps them. Refused: 12, 8.
@@ -235,4 +238,28 @@ fn kept(a: StatisticsAccumulator) -> Changed
         return Changed::Refused(8);
     }
     Changed::Record(a)
+}
+
+// Whether a sample's number and the record after it are as they have to be.
+fn is_accepted(number: u64, after: StatisticsAccumulator) -> bool
+    ensures { λ r. ⌜ r ≡ (numbered number && wellFormed after) ⌝ }
+{
+    (number <= 9007199254740992) & is_well_formed(after)
+}
+
+// Why a sample is refused.
+fn sample_refusal(a: StatisticsAccumulator, eval: f64, number: u64) -> u64
+    requires { ⌜ (numbered number && wellFormed (addedOf a eval number)) ≡ false ⌝ }
+    ensures { λ r. ⌜ refuses r ≡ addSampleOf a eval number ⌝ }
+{
+    if !is_well_formed(a) {
+        return 12;
+    }
+    if 9007199254740992 < number {
+        return 3;
+    }
+    if !real::finite(eval) {
+        return 7;
+    }
+    8
 }

@@ -34,7 +34,7 @@ fn is_replaced(number: u64, beaten: bool) -> bool
     (number == 0) | beaten
 }
 
-// The record with one evaluation more.
+// The record with one evaluation more. Most replace no extreme, and a branch past both costs less than four choices.
 pub fn added(a: StatisticsAccumulator, eval: f64, number: u64) -> StatisticsAccumulator
     requires { ⌜ boundedCounts a ≡ true ⌝ }
     ensures { λ r. ⌜ r ≡ addedOf a eval number ⌝ }
@@ -46,6 +46,9 @@ pub fn added(a: StatisticsAccumulator, eval: f64, number: u64) -> StatisticsAccu
     r.sum_sq = a.sum_sq + eval * eval;
     r.new_samples = a.new_samples + 1;
     r.new_zero_evaluations = a.new_zero_evaluations + zero_count(eval);
+    if !(high | low) {
+        return r;
+    }
     r.max_eval_positive = either(high, eval, a.max_eval_positive);
     r.max_eval_positive_number = either_number(high, number, a.max_eval_positive_number);
     r.max_eval_negative = either(low, eval, a.max_eval_negative);
@@ -140,9 +143,9 @@ fn processed(weighted: bool, a: StatisticsAccumulator) -> StatisticsAccumulator
     let weighted_avg = sigma * r.avg_sum;
     let all = real::count(r.processed_samples);
     let avg = r.total_sum / all;
-    let err = real::sqrt(variance(avg, r.total_sum_sq / all, all));
+    let spread = variance(avg, r.total_sum_sq / all, all);
     r.avg = either(weighted, weighted_avg, avg);
-    r.err = either(weighted, real::sqrt(sigma), err);
+    r.err = real::sqrt(either(weighted, sigma, spread));
     r.guess = either(a.cur_iter == 0, mean, a.guess);
     let off = w * (mean - r.guess);
     r.chi_sum = a.chi_sum + off;

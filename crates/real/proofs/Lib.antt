@@ -2,6 +2,7 @@ pub mod Truth
 pub mod Order
 pub mod Fractions
 pub mod Exact
+pub mod Finites
 pub mod Rounding
 pub mod Signs
 pub mod Wholes

@@ -1,0 +1,47 @@
+-- A sample judged on the record after it: sums that are finite there were finite before, and so is the evaluation.
+use mathlib.Core.Path.{_≡_, refl}
+use mathlib.Core.Bool.{Bool, true, false, not, _&&_, _||_, false≢true}
+use Prim.Native.Nat.{ℕ}
+use lib.Ieee.{Float}
+use Rattle.real.specs.Finite.{finiteOf}
+use Rattle.real.specs.Paper.{gives}
+use Rattle.real.proofs.Truth.{both}
+use Rattle.real.proofs.Finites.{add-finite}
+use Rattle.accumulator.specs.declared.StatisticsAccumulator.{StatisticsAccumulator}
+use Rattle.accumulator.specs.Record.{finiteSums, boundedCounts, wellFormed, withWaiting, withExtremes}
+use Rattle.accumulator.specs.Steps.{addedOf}
+use Rattle.accumulator.specs.Calls.{keptOf, numbered, addSampleOf}
+
+module _ (a : StatisticsAccumulator) (e : Float) (k : ℕ) where
+  finite-before : finiteSums (addedOf a e k) ≡ true → (finiteSums a ≡ true) × (finiteOf e ≡ true)
+  unfolding finiteSums addedOf withExtremes withWaiting
+  finite-before h =
+      let all = both _ _ h in
+      let three = both _ _ (all .0) in
+      let two = both _ _ (three .0) in
+      let sums = add-finite _ _ (two .0) in
+      let squares = add-finite _ _ (two .1) in
+      (rw (sums .0, squares .0, three .1, all .1), sums .1)
+
+  pub accepted : boundedCounts a ≡ true → (numbered k && wellFormed (addedOf a e k)) ≡ true → addSampleOf a e k ≡ gives (addedOf a e k)
+  unfolding addSampleOf keptOf wellFormed
+  accepted counts h =
+      let judged = both (numbered k) (wellFormed (addedOf a e k)) h in
+      let after = both (finiteSums (addedOf a e k)) (boundedCounts (addedOf a e k)) (judged .1) in
+      let before = finite-before (after .0) in
+      rw (before .0, counts, judged .0, before .1, after .0, after .1)
+
+-- a record with a count beyond its bound is not well formed
+pub miscounted : (a : StatisticsAccumulator) → boundedCounts a ≡ false → wellFormed a ≡ false
+unfolding wellFormed
+miscounted a h = rw h (fails (finiteSums a))
+  where
+    fails : (b : Bool) → (b && false) ≡ false
+    fails true = refl
+    fails false = refl
+
+-- where neither of two holds
+pub neither : (p q : Bool) → not (p || q) ≡ true → (p ≡ false) × (q ≡ false)
+neither true q e = absurd (false≢true e)
+neither false true e = absurd (false≢true e)
+neither false false e = (refl, refl)
