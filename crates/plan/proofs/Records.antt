@@ -1,8 +1,8 @@
 -- How to reason about a table that passed: a grid's record at its word, its children's links, and the stretches of lent memory,
 -- which follow one another without a gap.
 use mathlib.Core.Path.{_≡_, refl, sym, ap, _∙_}
-use mathlib.Core.Bool.{Bool, true, false}
-use mathlib.Core.List.{List, [], _∷_, _++_, append-assoc}
+use mathlib.Core.Bool.{true}
+use mathlib.Core.List.{List, _++_, append-assoc}
 use Prim.Native.Nat.{ℕ, zero, suc, _+_, _-_, _≤_, _<_}
 use native.Mathlib.Nat.{add-zero}
 use native.Mathlib.Omega.{arith}
@@ -22,11 +22,11 @@ use Rattle.plan.specs.Walk.{axesRow, binsRow}
 use Rattle.plan.specs.Paper.{gives}
 use Rattle.plan.specs.Calls.{sizesOf}
 use Rattle.plan.proofs.Faults.{AxesOk, BinsOk, axes-free, bins-free}
-use Rattle.plan.proofs.Trees.{AxesValid, axes-valid, BinsValid, bins-valid, more-valid, links-count, rows-words}
+use Rattle.plan.proofs.Trees.{AxesValid, axes-valid, bins-valid, more-valid, links-count, rows-words}
 use Rattle.plan.proofs.Rows.{axes-met, bins-met, placed-shows}
 use Rattle.plan.proofs.Tables.{Words}
 use Rattle.plan.proofs.Rereads.{words-of, row-axes, row-bins, past-axes, past-bins, taken-words}
-use Rattle.plan.proofs.Plans.{Plan, Holds, passed-holds}
+use Rattle.plan.proofs.Plans.{passed-holds}
 
 -- 1. What stands in a table ---------------------------------------------------------------------------------------
 

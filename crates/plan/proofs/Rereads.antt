@@ -1,8 +1,8 @@
 -- The table that a plan is written to passes, and gives the plan back.
 use mathlib.Core.Path.{_≡_, refl, sym, ap, _∙_}
-use mathlib.Core.Bool.{Bool, true, false}
+use mathlib.Core.Bool.{true}
 use mathlib.Core.List.{List, [], _∷_, _++_, append-assoc}
-use Prim.Native.Nat.{ℕ, zero, suc, _+_, _-_, _≤_, _<_}
+use Prim.Native.Nat.{ℕ, _+_, _-_, _<_}
 use native.Mathlib.Nat.{add-zero}
 use native.Mathlib.Omega.{arith}
 use lib.ListN.{length, getD, drop}
@@ -17,7 +17,7 @@ use Rattle.plan.specs.Numbers.{runOf, wordsAt}
 use Rattle.plan.specs.Plan.{Tree, Trees, nothing, axes, bins, none, more, count}
 use Rattle.plan.specs.Needs.{axesTaken, binsTaken, after, afterAll}
 use Rattle.plan.specs.Fields.{binsFault}
-use Rattle.plan.specs.Reading.{Out, Outs, then, binsTo, treesOf, treeOf}
+use Rattle.plan.specs.Reading.{Out, Outs, binsTo, treesOf, treeOf}
 use Rattle.plan.specs.Table.{headAxes, headBins, link, links, rows, rowsAll}
 use Rattle.plan.specs.Bytes.{valid, validAll}
 use Rattle.plan.specs.Walk.{axesRow, binsRow, placed, evolved, axesAtWord, binsAtWord, rowOf, childOf, fromTable}
