@@ -1,27 +1,26 @@
 -- What reading accepts is a plan, whose bytes stand there.
 use mathlib.Core.Path.{_≡_, refl, sym, ap, _∙_}
-use mathlib.Core.Bool.{Bool, true, false}
-use mathlib.Core.List.{List, [], _∷_, _++_, append-assoc}
-use Prim.Native.Nat.{ℕ, zero, suc, _+_, _-_, _*_, _≤_, _<_}
+use mathlib.Core.Bool.{true}
+use mathlib.Core.List.{List, _∷_, _++_, append-assoc}
+use Prim.Native.Nat.{ℕ, suc, _+_, _-_, _*_, _≤_, _<_}
 use native.Mathlib.Omega.{arith}
 use lib.ListN.{length, getD, drop}
 use borrow.Author.Tests.{ne-eqb}
 use Rattle.plan.specs.declared.Place.{Place}
 use Rattle.plan.specs.declared.AxesPlan.{AxesPlan}
 use Rattle.plan.specs.declared.BinsPlan.{BinsPlan}
-use Rattle.plan.specs.declared.Step.{Step}
 use Rattle.plan.specs.declared.Step.the-variants as step
 use Rattle.plan.specs.Numbers.{numberAt, bytesOf, runOf, valuesAt}
 use Rattle.plan.specs.Plan.{Tree, Trees, nothing, axes, bins, none, more, count}
-use Rattle.plan.specs.Needs.{axesTaken, binsTaken, after, afterAll}
+use Rattle.plan.specs.Needs.{binsTaken, after, afterAll}
 use Rattle.plan.specs.Fields.{formed, spanOf, axesAt, binsAt, binsFault}
 use Rattle.plan.specs.Reading.{Out, Outs, treeOf, treesOf, fromBytes, stepOf}
 use Rattle.plan.specs.Table.{link, linkAt}
 use Rattle.plan.specs.Bytes.{axesBytes, pairs, evolutionBytes, binsBytes, encode, encodeAll, valid, validAll}
-use Rattle.plan.specs.Bounds.{Roomy, Bytes, Inside}
+use Rattle.plan.specs.Bounds.{Bytes, Inside}
 use Rattle.plan.proofs.Numbers.{below-four, below-eight, spell-one, spell-number, spell-values, evolution-bytes, values-length, sixteen, eleven}
 use Rattle.plan.proofs.Faults.{Evolution, absent, there, evolution-few}
-use Rattle.plan.proofs.Trees.{AxesValid, valid-axes, BinsValid, valid-bins, roomy-after}
+use Rattle.plan.proofs.Trees.{AxesValid, valid-axes, valid-bins, roomy-after}
 use Rattle.plan.proofs.Here.{NothingHere, AxesHere, BinsHere, NothingFound, AxesFound, BinsFound, nothing-found, axes-found, bins-found, here-evolved, here-bounded, here-most, here-reach, whole, length-here}
 use Rattle.plan.proofs.Readings.{Kept, kept, kept-trees}
 use Rattle.plan.proofs.Steps.{some}

@@ -2,15 +2,14 @@
 use mathlib.Core.Path.{_≡_, refl, sym, ap, _∙_}
 use mathlib.Core.Bool.{Bool, true, false, cond}
 use mathlib.Core.List.{List}
-use Prim.Native.Nat.{ℕ, _+_, _≤_, _<_}
+use Prim.Native.Nat.{ℕ, _≤_, _<_}
 use native.Mathlib.Omega.{arith}
 use lib.ListN.{length, getD}
 use lib.Seq.{sets}
-use lib.Dec.{eqb, ltb}
+use lib.Dec.{eqb}
 use borrow.Author.Tests.{eqb-false, eq-eqb, ne-eqb, lt-ltb, le-ltb, le-leb, lt-leb}
 use Rattle.plan.specs.declared.Place.{Place}
 use Rattle.plan.specs.declared.Needs.{Needs}
-use Rattle.plan.specs.declared.Read.{Read}
 use Rattle.plan.specs.declared.Read.the-variants as answer
 use Rattle.plan.specs.declared.Sized.the-variants as sized
 use Rattle.plan.specs.declared.Step.{Step}
@@ -23,10 +22,10 @@ use Rattle.plan.specs.Walk.{fromTable}
 use Rattle.plan.specs.Bounds.{Bytes, Inside}
 use Rattle.plan.specs.Writing.{Writable, laid}
 use Rattle.plan.specs.Paper.{paperRead, paperSized}
-use Rattle.plan.specs.Calls.{begin, gridOf, End, end, writtenOf, prefixEnd, readPrefixOf, planEnd, readPlanOf, sizedEnd, sizesOf}
+use Rattle.plan.specs.Calls.{begin, gridOf, end, writtenOf, readPrefixOf, readPlanOf, sizesOf}
 use Rattle.plan.proofs.Trees.{start-roomy}
 use Rattle.plan.proofs.Readings.{stops-reads}
-use Rattle.plan.proofs.Steps.{Some, some, stopped}
+use Rattle.plan.proofs.Steps.{some, stopped}
 
 pub begin-inside : (bs : List ℕ) → Bytes bs → {p : Place} → p ≡ begin → Inside bs p
 begin-inside bs small e = rw e record { small = small; reach = omega arith; roomy = start-roomy }

@@ -1,12 +1,11 @@
 -- The bytes of a plan are accepted, and give the plan back.
 use mathlib.Core.Path.{_≡_, refl, sym, ap, _∙_}
-use mathlib.Core.Bool.{Bool, true, false}
+use mathlib.Core.Bool.{true}
 use mathlib.Core.List.{List, [], _∷_, _++_, append-assoc}
-use Prim.Native.Nat.{ℕ, zero, suc, _+_, _-_, _*_, _/_, _%_, _≤_, _<_}
+use Prim.Native.Nat.{ℕ, _+_, _-_, _*_, _/_, _%_, _≤_, _<_}
 use native.Mathlib.Omega.{arith}
 use lib.ListN.{length, getD, drop, length-append}
 use lib.Seq.{getD-drop, drop-drop, drop-append-seam}
-use lib.Dec.{leb, eqb}
 use borrow.Author.Tests.{eq-eqb, ne-eqb, le-leb}
 use Rattle.plan.specs.declared.Place.{Place}
 use Rattle.plan.specs.declared.AxesPlan.{AxesPlan}
@@ -16,14 +15,14 @@ use Rattle.plan.specs.Numbers.{numberAt, bytesOf, runOf, valuesAt}
 use Rattle.plan.specs.Ranges.{within, bounded, scanned}
 use Rattle.plan.specs.Plan.{Tree, Trees, nothing, axes, bins, none, more, count}
 use Rattle.plan.specs.Needs.{axesTaken, binsTaken, after, afterAll}
-use Rattle.plan.specs.Fields.{formed, valuesIn, evolutionFault, spanOf, axesAt, binsAt, axesFault, binsFault, axesField, binsField, nothingField, fieldOf}
-use Rattle.plan.specs.Reading.{Out, Outs, then, binsTo, treesOf, treeOf, fromBytes}
+use Rattle.plan.specs.Fields.{formed, valuesIn, evolutionFault, spanOf, axesAt, binsAt, binsFault, axesField, binsField, nothingField, fieldOf}
+use Rattle.plan.specs.Reading.{Out, Outs, binsTo, treesOf, treeOf, fromBytes}
 use Rattle.plan.specs.Bytes.{axesBytes, pairs, evolutionBytes, binsBytes, encode, encodeAll, valid, validAll}
 use Rattle.plan.proofs.Flags.{at-most}
 use Rattle.plan.proofs.Ranges.{scan-most}
-use Rattle.plan.proofs.Numbers.{Read, read-one, ReadNumber, read-number, read-values, long, bytes-length, pairs-length, sixteen, eleven}
+use Rattle.plan.proofs.Numbers.{read-one, read-number, read-values, long, bytes-length, pairs-length, sixteen, eleven}
 use Rattle.plan.proofs.Faults.{axes-free, bins-free}
-use Rattle.plan.proofs.Trees.{AxesValid, axes-valid, BinsValid, bins-valid, more-valid}
+use Rattle.plan.proofs.Trees.{AxesValid, axes-valid, bins-valid, more-valid}
 use Rattle.plan.proofs.Here.{found}
 use Rattle.plan.proofs.Readings.{tree-nothing, tree-axes, tree-bins}
 

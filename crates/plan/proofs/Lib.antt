@@ -18,4 +18,5 @@ pub mod Encodes
 pub mod Tables
 pub mod Rereads
 pub mod Plans
+pub mod Records
 pub mod Unique

@@ -1,8 +1,6 @@
 -- What the judging walk over the bytes meets, in the form in which its code meets it.
-use mathlib.Core.Path.{_≡_, refl, sym, ap, _∙_}
-use mathlib.Core.List.{List}
+use mathlib.Core.Path.{_≡_, sym, ap, _∙_}
 use Prim.Native.Nat.{ℕ, _-_, _<_}
-use native.Mathlib.Omega.{arith}
 use Rattle.plan.specs.declared.Place.{Place}
 use Rattle.plan.specs.declared.AxesPlan.{AxesPlan}
 use Rattle.plan.specs.declared.BinsPlan.{BinsPlan}

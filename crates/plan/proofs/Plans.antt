@@ -2,23 +2,23 @@
 use mathlib.Core.Path.{_≡_, refl, sym, ap, _∙_}
 use mathlib.Core.Bool.{Bool, true, false, cond}
 use mathlib.Core.List.{List, [], _∷_, _++_, append-nil}
-use Prim.Native.Nat.{ℕ, _+_, _≤_, _<_}
+use Prim.Native.Nat.{ℕ, _+_, _≤_}
 use native.Mathlib.Omega.{arith}
 use lib.ListN.{length, getD, drop, length-append, length-drop}
 use lib.Seq.{sets, sets-eq, drop-append-seam}
-use lib.Dec.{leb, ltb, eqb}
+use lib.Dec.{leb, ltb}
 use borrow.Author.Tests.{leb-true, le-leb, le-ltb, ltb-false, ne-eqb}
 use Rattle.plan.specs.declared.Place.{Place}
 use Rattle.plan.specs.declared.Tally.{Tally}
 use Rattle.plan.specs.declared.Needs.{Needs}
 use Rattle.plan.specs.Plan.{Tree, nothing, axes, bins}
 use Rattle.plan.specs.Needs.{untaken, needsOf, after}
-use Rattle.plan.specs.Reading.{Out, treeOf, fromBytes}
+use Rattle.plan.specs.Reading.{Out, treeOf}
 use Rattle.plan.specs.Table.{rows}
 use Rattle.plan.specs.Bytes.{axesBytes, binsBytes, encode, valid}
 use Rattle.plan.specs.Walk.{fromTable}
 use Rattle.plan.specs.Bounds.{Bytes}
-use Rattle.plan.specs.Paper.{Paper, gives, refuses, refusesAt, PlanRead, planRead}
+use Rattle.plan.specs.Paper.{gives, refuses, refusesAt, PlanRead, planRead}
 use Rattle.plan.specs.Calls.{begin, gridOf, End, end, writtenOf, prefixEnd, planEnd, readPlanOf, readPrefixOf, sizedEnd, sizesOf}
 use Rattle.plan.proofs.Trees.{rows-words}
 use Rattle.plan.proofs.Accepts.{sound}

@@ -1,13 +1,12 @@
 -- The largest bin number, and doubles in their ranges.
-use mathlib.Core.Path.{_≡_, refl, sym, ap, _∙_}
-use mathlib.Core.Bool.{Bool, true, false, not, _&&_, cond}
+use mathlib.Core.Path.{_≡_, refl}
+use mathlib.Core.Bool.{Bool, true, false, cond}
 use mathlib.Core.List.{List, [], _∷_}
 use Prim.Native.Nat.{ℕ, _≤_, _<_}
 use native.Mathlib.Omega.{arith}
-use lib.Dec.{ltb, eqb}
-use borrow.Author.Tests.{ltb-true, ltb-false, ne-eqb}
+use lib.Dec.{ltb}
+use borrow.Author.Tests.{ltb-true}
 use lib.Ieee.{Float, nan, inf, fin, isNan, binary64, ofBits, le}
-use lib.Ieee.Bits.{nanBits-is}
 use Rattle.plan.specs.Ranges.{within, floorFits, ratioFits, bounded, larger, mostOf, scanned}
 use Rattle.plan.proofs.Flags.{and-left, and-right, at-most}
 

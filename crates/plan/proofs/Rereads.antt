@@ -1,8 +1,8 @@
 -- The table that a plan is written to passes, and gives the plan back.
 use mathlib.Core.Path.{_≡_, refl, sym, ap, _∙_}
-use mathlib.Core.Bool.{Bool, true, false}
+use mathlib.Core.Bool.{true}
 use mathlib.Core.List.{List, [], _∷_, _++_, append-assoc}
-use Prim.Native.Nat.{ℕ, zero, suc, _+_, _-_, _≤_, _<_}
+use Prim.Native.Nat.{ℕ, _+_, _-_, _<_}
 use native.Mathlib.Nat.{add-zero}
 use native.Mathlib.Omega.{arith}
 use lib.ListN.{length, getD, drop}
@@ -17,7 +17,7 @@ use Rattle.plan.specs.Numbers.{runOf, wordsAt}
 use Rattle.plan.specs.Plan.{Tree, Trees, nothing, axes, bins, none, more, count}
 use Rattle.plan.specs.Needs.{axesTaken, binsTaken, after, afterAll}
 use Rattle.plan.specs.Fields.{binsFault}
-use Rattle.plan.specs.Reading.{Out, Outs, then, binsTo, treesOf, treeOf}
+use Rattle.plan.specs.Reading.{Out, Outs, binsTo, treesOf, treeOf}
 use Rattle.plan.specs.Table.{headAxes, headBins, link, links, rows, rowsAll}
 use Rattle.plan.specs.Bytes.{valid, validAll}
 use Rattle.plan.specs.Walk.{axesRow, binsRow, placed, evolved, axesAtWord, binsAtWord, rowOf, childOf, fromTable}
@@ -33,14 +33,14 @@ use Rattle.plan.proofs.Tables.{axes-grid, bins-grid}
 word-of : (xs : List ℕ) (w : ℕ) (enc : List ℕ) (i : ℕ) → drop w xs ≡ enc → getD xs (w + i) 0 ≡ getD enc i 0
 word-of xs w enc i e = sym (getD-drop w xs i 0) ∙ ap (λ (l : List ℕ). getD l i 0) e
 
-words-of : (xs : List ℕ) (w : ℕ) (ys rest : List ℕ) → drop w xs ≡ ys ++ rest → wordsAt xs w (length ys) ≡ ys
+pub words-of : (xs : List ℕ) (w : ℕ) (ys rest : List ℕ) → drop w xs ≡ ys ++ rest → wordsAt xs w (length ys) ≡ ys
 unfolding wordsAt runOf
 words-of xs w [] rest e = refl
 words-of xs w (y ∷ ys) rest e =
     let r = read-one xs w (w + 1) y (ys ++ rest) refl e in
     rw (r .value, words-of xs (w + 1) ys rest (r .next))
 
-row-axes : (xs : List ℕ) (l : ℕ) (p : Place) (a : AxesPlan) (es rest : List ℕ) → AxesValid a es (p .tally .left) → drop (p .tally .words) xs ≡ headAxes l a (p .tally) ++ (es ++ rest)
+pub row-axes : (xs : List ℕ) (l : ℕ) (p : Place) (a : AxesPlan) (es rest : List ℕ) → AxesValid a es (p .tally .left) → drop (p .tally .words) xs ≡ headAxes l a (p .tally) ++ (es ++ rest)
     → wordsAt xs (p .tally .words + 11) (a .values) ≡ es → rowOf xs l p ≡ found (child.Axes a) (p .at) (axesTaken a (p .tally))
 unfolding headAxes rowOf axesAtWord placed evolved axesRow
 row-axes xs l p a es rest v e g =
@@ -81,7 +81,7 @@ row-axes xs l p a es rest v e g =
       eq-eqb _ _ (v .most),
     )
 
-row-bins : (xs : List ℕ) (l : ℕ) (p : Place) (b : BinsPlan) (rest : List ℕ) → binsFault b (p .tally .left) l ≡ 0 → drop (p .tally .words) xs ≡ headBins l b (p .tally) ++ rest
+pub row-bins : (xs : List ℕ) (l : ℕ) (p : Place) (b : BinsPlan) (rest : List ℕ) → binsFault b (p .tally .left) l ≡ 0 → drop (p .tally .words) xs ≡ headBins l b (p .tally) ++ rest
     → rowOf xs l p ≡ found (child.Bins b) (p .at) (binsTaken b (p .tally))
 unfolding headBins rowOf binsAtWord placed binsRow
 row-bins xs l p b rest f e =
@@ -97,11 +97,11 @@ row-bins xs l p b rest f e =
     let k6 : getD xs (w + 6) 0 ≡ y .counts = word-of xs w _ 6 e in
     rw (k0, k1, k2, k3, k4, k5, k6, eq-eqb l l refl, eq-eqb (y .reals) (y .reals) refl, eq-eqb (y .counts) (y .counts) refl, f)
 
-past-axes : (xs : List ℕ) (l : ℕ) (a : AxesPlan) (y : Tally) (rest : List ℕ) → drop (y .words) xs ≡ headAxes l a y ++ rest → drop (y .words + 11) xs ≡ rest
+pub past-axes : (xs : List ℕ) (l : ℕ) (a : AxesPlan) (y : Tally) (rest : List ℕ) → drop (y .words) xs ≡ headAxes l a y ++ rest → drop (y .words + 11) xs ≡ rest
 unfolding headAxes
 past-axes xs l a y rest e = sym (drop-drop 11 (y .words) xs) ∙ ap (drop 11) e
 
-past-bins : (xs : List ℕ) (l : ℕ) (b : BinsPlan) (y : Tally) (rest : List ℕ) → drop (y .words) xs ≡ headBins l b y ++ rest → drop (y .words + 7) xs ≡ rest
+pub past-bins : (xs : List ℕ) (l : ℕ) (b : BinsPlan) (y : Tally) (rest : List ℕ) → drop (y .words) xs ≡ headBins l b y ++ rest → drop (y .words + 7) xs ≡ rest
 unfolding headBins
 past-bins xs l b y rest e = sym (drop-drop 7 (y .words) xs) ∙ ap (drop 7) e
 
@@ -136,7 +136,7 @@ taken-slot : (b : BinsPlan) (y : Tally) → binsTaken b y .words - b .bins ≡ y
 unfolding binsTaken
 taken-slot b y = omega arith
 
-taken-words : (b : BinsPlan) (y : Tally) → binsTaken b y .words ≡ y .words + 7 + b .bins
+pub taken-words : (b : BinsPlan) (y : Tally) → binsTaken b y .words ≡ y .words + 7 + b .bins
 unfolding binsTaken
 taken-words b y = omega arith
 

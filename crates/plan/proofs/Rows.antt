@@ -1,11 +1,11 @@
 -- What a record shows of the words where it stands.
 use mathlib.Core.Path.{_≡_, refl, sym, ap, _∙_}
-use mathlib.Core.Bool.{Bool, true, false, not, _&&_, cond}
+use mathlib.Core.Bool.{Bool, true, false, not, cond}
 use mathlib.Core.List.{List}
-use Prim.Native.Nat.{ℕ, _+_, _-_, _≤_, _<_}
+use Prim.Native.Nat.{ℕ, _+_, _≤_, _<_}
 use native.Mathlib.Omega.{arith}
 use lib.Dec.{leb, ltb, eqb}
-use lib.ListN.{length, getD}
+use lib.ListN.{getD}
 use borrow.Author.Tests.{not-false, leb-true, ltb-true, eqb-true, eq-eqb, ne-eqb}
 use Rattle.plan.specs.declared.Place.{Place}
 use Rattle.plan.specs.declared.Tally.{Tally}
@@ -20,7 +20,7 @@ use Rattle.plan.specs.declared.Step.{Step}
 use Rattle.plan.specs.declared.Step.the-variants as step
 use Rattle.plan.specs.Numbers.{wordsAt}
 use Rattle.plan.specs.Ranges.{bounded, mostOf}
-use Rattle.plan.specs.Plan.{Tree, Trees, nothing}
+use Rattle.plan.specs.Plan.{Tree, nothing}
 use Rattle.plan.specs.Fields.{axesFault, binsFault}
 use Rattle.plan.specs.Needs.{axesTaken, binsTaken}
 use Rattle.plan.specs.Reading.{Out, treeOf, stepOf}
@@ -32,7 +32,7 @@ use Rattle.plan.proofs.Faults.{axes-free, axes-fit, bins-free, bins-fit
 use Rattle.plan.proofs.Trees.{roomy-axes, roomy-bins}
 use Rattle.plan.proofs.Here.{found, pick, hangs, past, stop-found, other-child, axes-nothing}
 use Rattle.plan.proofs.Readings.{Kept, kept, stops-reads}
-use Rattle.plan.proofs.Steps.{stopped-done, some}
+use Rattle.plan.proofs.Steps.{some}
 
 -- 1. A record -------------------------------------------------------------------------------------------
 

@@ -1,13 +1,12 @@
 -- The walk over children as the code takes it: the whole's answer is the rest's.
-use mathlib.Core.Path.{_≡_, refl, sym, ap, _∙_}
-use Prim.Native.Nat.{ℕ, zero, suc, _+_, _-_, _≤_, _<_}
+use mathlib.Core.Path.{_≡_, refl, sym, _∙_}
+use Prim.Native.Nat.{ℕ, suc, _+_, _-_, _≤_, _<_}
 use native.Mathlib.Nat.{sub-zero, add-zero}
 use native.Mathlib.Omega.{arith}
 use Rattle.plan.specs.declared.Place.{Place}
 use Rattle.plan.specs.declared.BinsPlan.{BinsPlan}
-use Rattle.plan.specs.declared.Step.{Step}
 use Rattle.plan.specs.declared.Step.the-variants as step
-use Rattle.plan.specs.Plan.{Tree, Trees}
+use Rattle.plan.specs.Plan.{Tree}
 use Rattle.plan.specs.Reading.{Out, Outs, consTo, then, binsTo, treesOf, stepOf, stepsOf}
 
 pub stopped-done : {P : Type 0} {n at : ℕ} {q : Place} → step.Stopped n at ≡ step.Done q → P

@@ -1,32 +1,27 @@
 -- A table that passes is what some plan was written to, and what a plan is written to passes.
 use mathlib.Core.Path.{_≡_, refl, sym, ap, _∙_}
-use mathlib.Core.Bool.{Bool, true, false}
+use mathlib.Core.Bool.{true}
 use mathlib.Core.List.{List, [], _∷_, _++_, append-assoc}
 use Prim.Native.Nat.{ℕ, zero, suc, _+_, _-_, _≤_, _<_}
 use native.Mathlib.Nat.{add-zero}
 use native.Mathlib.Omega.{arith}
 use lib.ListN.{length, getD, drop}
-use lib.Seq.{drop-cons, drop-drop, drop-append-seam, getD-drop}
-use lib.Dec.{eqb}
-use borrow.Author.Tests.{eq-eqb, ne-eqb, le-leb, lt-ltb}
+use lib.Seq.{drop-cons}
 use Rattle.plan.specs.declared.Place.{Place}
 use Rattle.plan.specs.declared.Tally.{Tally}
 use Rattle.plan.specs.declared.AxesPlan.{AxesPlan}
 use Rattle.plan.specs.declared.BinsPlan.{BinsPlan}
-use Rattle.plan.specs.declared.Child.the-variants as child
 use Rattle.plan.specs.Numbers.{runOf, wordsAt}
 use Rattle.plan.specs.Plan.{Tree, Trees, nothing, axes, bins, none, more, count}
 use Rattle.plan.specs.Needs.{axesTaken, binsTaken, after, afterAll}
-use Rattle.plan.specs.Fields.{axesFault, binsFault}
-use Rattle.plan.specs.Reading.{Out, Outs, then, binsTo, treesOf, treeOf}
+use Rattle.plan.specs.Fields.{binsFault}
+use Rattle.plan.specs.Reading.{Out, treeOf}
 use Rattle.plan.specs.Table.{headAxes, headBins, link, links, rows, rowsAll}
 use Rattle.plan.specs.Bytes.{valid, validAll}
-use Rattle.plan.specs.Walk.{axesRow, binsRow, placed, evolved, axesAtWord, binsAtWord, rowOf, childOf, fromTable}
-use Rattle.plan.proofs.Numbers.{Read, read-one, words-length}
-use Rattle.plan.proofs.Faults.{bins-free}
-use Rattle.plan.proofs.Trees.{AxesValid, valid-axes, axes-valid, BinsValid, valid-bins, bins-valid, more-valid, links-count, rows-words}
-use Rattle.plan.proofs.Here.{found}
-use Rattle.plan.proofs.Readings.{Kept, kept, tree-axes, tree-bins}
+use Rattle.plan.specs.Walk.{axesRow, binsRow, childOf, fromTable}
+use Rattle.plan.proofs.Numbers.{words-length}
+use Rattle.plan.proofs.Trees.{AxesValid, valid-axes, valid-bins}
+use Rattle.plan.proofs.Readings.{Kept, kept}
 use Rattle.plan.proofs.Rows.{AxesMet, BinsMet, axes-met, bins-met, nothing-met, evolved-shows, placed-shows, child-case}
 
 -- every element of a list is a word

@@ -1,8 +1,8 @@
 -- What a plan's tree takes: its grids find room, and its rows are as long as the words that it takes.
-use mathlib.Core.Path.{_≡_, refl, sym, ap, _∙_}
-use mathlib.Core.Bool.{Bool, true, false, _&&_}
-use mathlib.Core.List.{List, [], _∷_, _++_}
-use Prim.Native.Nat.{ℕ, zero, suc, _+_, _-_, _*_, _≤_, _<_}
+use mathlib.Core.Path.{_≡_, refl, ap}
+use mathlib.Core.Bool.{true}
+use mathlib.Core.List.{List}
+use Prim.Native.Nat.{ℕ, suc, _+_, _-_, _≤_, _<_}
 use native.Mathlib.Omega.{arith}
 use lib.ListN.{length, length-append}
 use lib.Dec.{leb, ltb, eqb}
@@ -14,12 +14,12 @@ use Rattle.plan.specs.Ranges.{bounded, mostOf}
 use Rattle.plan.specs.Plan.{Tree, Trees, nothing, axes, bins, none, more, count}
 use Rattle.plan.specs.Needs.{axesReals, axesCounts, binsReals, binsCounts, axesTaken, binsTaken, after, afterAll, untaken}
 use Rattle.plan.specs.Fields.{axesFault, binsFault}
-use Rattle.plan.specs.Table.{headAxes, headBins, link, links, rows, rowsAll}
+use Rattle.plan.specs.Table.{headAxes, headBins, links, rows, rowsAll}
 use Rattle.plan.specs.Bytes.{axesPlanned, binsPlanned, valid, validAll}
 use Rattle.plan.specs.Bounds.{Roomy, AxesFit, BinsFit}
 use Rattle.plan.proofs.Flags.{and-left, and-right, at-most}
 use Rattle.plan.proofs.Ranges.{most-within}
-use Rattle.plan.proofs.Faults.{AxesOk, BinsOk, axes-free, bins-free, axes-fit, bins-fit, area, reals-area, counts-area}
+use Rattle.plan.proofs.Faults.{axes-free, axes-fit, bins-fit, area, reals-area, counts-area}
 
 -- 1. A grid's part of what `valid` says ----------------------------------------------------------------
 

@@ -8,7 +8,7 @@ use Rattle.plan.specs.declared.Read.{Read}
 use Rattle.plan.specs.declared.Read.the-variants as read
 use Rattle.plan.specs.declared.Sized.{Sized}
 use Rattle.plan.specs.declared.Sized.the-variants as sized
-use Rattle.plan.specs.Paper.{Paper, gives, refuses, refusesAt, PlanRead, planRead, paperRead, paperSized}
+use Rattle.plan.specs.Paper.{PlanRead, planRead, paperRead, paperSized}
 use Rattle.plan.specs.Calls.{End}
 use Rattle.plan.proofs.read_plan.Kinds as read-plan
 use Rattle.plan.proofs.read_plan.Reads as read-plan-reads

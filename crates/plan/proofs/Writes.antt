@@ -1,7 +1,7 @@
 -- The writer: what stands in the table, and then what is left to write, is the whole.
 use mathlib.Core.Path.{_≡_, refl, sym, ap, _∙_}
-use mathlib.Core.List.{List, [], _∷_, _++_}
-use Prim.Native.Nat.{ℕ, zero, suc, _+_, _-_, _≤_, _<_}
+use mathlib.Core.List.{List, _++_}
+use Prim.Native.Nat.{ℕ, suc, _+_, _-_, _≤_, _<_}
 use native.Mathlib.Nat.{sub-zero, add-zero}
 use native.Mathlib.Numerals.{add-one}
 use native.Mathlib.Omega.{arith}
@@ -16,10 +16,10 @@ use Rattle.plan.specs.declared.Child.the-variants as child
 use Rattle.plan.specs.declared.Field.the-variants as field
 use Rattle.plan.specs.declared.Step.the-variants as step
 use Rattle.plan.specs.Numbers.{valuesAt}
-use Rattle.plan.specs.Plan.{Tree, Trees, nothing, axes, bins, none, more, count}
-use Rattle.plan.specs.Needs.{axesTaken, binsTaken, after, afterAll}
-use Rattle.plan.specs.Fields.{axesAt, binsAt, fieldOf}
-use Rattle.plan.specs.Reading.{Out, Outs, then, binsTo, treesOf, treeOf, fromBytes, stepOf, stepsOf}
+use Rattle.plan.specs.Plan.{Tree, Trees, axes, bins, none, more}
+use Rattle.plan.specs.Needs.{axesTaken, binsTaken, after}
+use Rattle.plan.specs.Fields.{axesAt, fieldOf}
+use Rattle.plan.specs.Reading.{Out, Outs, binsTo, treesOf, treeOf, fromBytes, stepOf, stepsOf}
 use Rattle.plan.specs.Table.{headAxes, headBins, link, links, rows, rowsAll, linkAt}
 use Rattle.plan.specs.Bounds.{Inside}
 use Rattle.plan.specs.Writing.{Writable, AllWritable, laid, spread, laidAll}

@@ -1,5 +1,5 @@
 -- What a plan needs of each lent slice: the words of its table, reals and counts, each axis at its largest bin number.
-use Prim.Native.Nat.{ℕ, _+_, _-_, _*_}
+use Prim.Native.Nat.{ℕ, zero, suc, _+_, _-_, _*_}
 use Rattle.plan.specs.declared.AxesPlan.{AxesPlan}
 use Rattle.plan.specs.declared.BinsPlan.{BinsPlan}
 use Rattle.plan.specs.declared.Tally.{Tally}
@@ -50,6 +50,17 @@ unfoldable mutual
   pub afterAll : Trees → Tally → Tally
   afterAll none y = y
   afterAll (more t ts) y = afterAll ts (after t y)
+
+-- the i-th child, nothing past the last; and what is taken where it begins
+unfoldable pub childAt : Trees → ℕ → Tree
+childAt none i = nothing
+childAt (more t ts) zero = t
+childAt (more t ts) (suc i) = childAt ts i
+
+unfoldable pub before : Trees → ℕ → Tally → Tally
+before none i y = y
+before (more t ts) zero y = y
+before (more t ts) (suc i) y = before ts i (after t y)
 
 -- 64 grids may come
 abbrev pub untaken : Tally

@@ -9,7 +9,7 @@ use Rattle.plan.specs.declared.Tally.{Tally}
 use Rattle.plan.specs.declared.AxesPlan.{AxesPlan}
 use Rattle.plan.specs.declared.BinsPlan.{BinsPlan}
 use Rattle.plan.specs.Plan.{Tree, Trees, nothing, axes, bins, none, more}
-use Rattle.plan.specs.Needs.{axesTaken, binsTaken, after, afterAll}
+use Rattle.plan.specs.Needs.{binsTaken, after}
 
 -- an axes grid's record, its bin evolution behind it: kind, levels left, the numbers of its plan, the largest bin number,
 -- the number of values, where its reals and its counts begin

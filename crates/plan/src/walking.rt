@@ -1,7 +1,7 @@
 // Knowing a table again: the walk that judges it as the bytes were judged.
 ghost use mathlib.Core.Path.{_≡_};
-ghost use Prim.Native.Nat.{_+_, _*_, _-_, _≤_, _<_};
-ghost use lib.ListN.{length, getD};
+ghost use Prim.Native.Nat.{_+_, _-_, _≤_, _<_};
+ghost use lib.ListN.{getD};
 ghost use Rattle.plan.specs.Numbers.{wordsAt};
 ghost use Rattle.plan.specs.Ranges.{scanned};
 ghost use Rattle.plan.specs.Reading.{treeOf, treesOf, stepOf, stepsOf};

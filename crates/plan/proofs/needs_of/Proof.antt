@@ -1,11 +1,9 @@
+-- The fields are the same.
 use mathlib.Core.Path.{refl}
 use Rattle.plan.specs.Needs.{needsOf}
 use Rattle.plan.proofs.needs_of.Statement.{statement}
 use Rattle.plan.proofs.needs_of.Tie as tie
-use Rattle.plan.proofs.needs_of.Reads as reads
-use Rattle.plan.proofs.needs_of.Lts as lts
 
--- src/lib.rt:116:1
 returns : tie.Need-returns
 unfolding needsOf
 returns c = refl

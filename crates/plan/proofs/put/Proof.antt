@@ -1,36 +1,26 @@
+-- What was judged is written where there is room.
 use native.Mathlib.Omega.{arith}
 use denote.Ref.{now}
 use Rattle.plan.proofs.Calls.{put-short, writable, put-whole}
 use borrow.Author.Needs.{needs}
 use Rattle.plan.proofs.put.Statement.{statement}
 use Rattle.plan.proofs.put.Tie as tie
-use Rattle.plan.proofs.put.Reads as reads
-use Rattle.plan.proofs.put.Lts as lts
-use Rattle.plan.proofs.needs_of.Reads as needs-of-reads
-use Rattle.plan.proofs.start.Reads as start-reads
-use Rattle.plan.proofs.writing.write.Reads as write-reads
 
--- src/lib.rt:144:9
 returns : tie.Need-returns
 returns c = put-short _ _ (c .before .before .before .before .before .pre) (c .if1 .taken)
 
--- src/lib.rt:149:14
 start-requires : tie.Need-start-requires
 start-requires c κs = search needs
 
--- src/lib.rt:149:5
 write-requires : tie.Need-write-requires
 write-requires c κs = let e1 = c .before .before in let k = e1 .before .before .before .before in writable _ (now (k .before .args .table)) (k .before .pre) (e1 .if1 .left) (λ i. omega (arith, k .shared-slice-known .given i)) (c .before .start .ensures)
 
--- src/lib.rt:152:16
 needs-of-requires : tie.Need-needs-of-requires
 needs-of-requires c κs = search needs
 
--- src/lib.rt:138:1
 same-length : tie.Need-same-length
 same-length c = c .before .before .before .write .kept .1 .1 .1 .0
 
--- src/lib.rt:138:1
 returns-2 : tie.Need-returns-2
 returns-2 c = let w = c .before .before .before in let e1 = w .before .before .before in let k = e1 .before .before .before .before in
     put-whole _ _ (k .before .pre) (e1 .if1 .left) _ (w .before .before .start .ensures) (c .needs-of .ensures) (w .write .ensures .1)

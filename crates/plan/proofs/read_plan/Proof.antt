@@ -1,42 +1,31 @@
+-- The judge's answer, then surplus bytes, then what `put` answers.
 use mathlib.Core.Path.{sym, _∙_}
 use Rattle.plan.proofs.Calls.{plan-refused, plan-surplus, plan-whole}
 use borrow.Author.Needs.{needs}
 use Rattle.plan.proofs.read_plan.Statement.{statement}
 use Rattle.plan.proofs.read_plan.Tie as tie
-use Rattle.plan.proofs.read_plan.Reads as reads
-use Rattle.plan.proofs.read_plan.Lts as lts
-use Rattle.plan.proofs.judge.Reads as judge-reads
-use Rattle.plan.proofs.put.Reads as put-reads
 
--- src/lib.rt:160:11
 judge-requires : tie.Need-judge-requires
 judge-requires c κs = search needs
 
--- src/lib.rt:161:25
 enum-known-number : tie.Need-enum-known-number
 enum-known-number c = search needs
 
--- src/lib.rt:162:20
 enum-known-past : tie.Need-enum-known-past
 enum-known-past c = search needs
 
--- src/lib.rt:165:17
 returns : tie.Need-returns
 returns c = let p = c .before .before in plan-surplus _ _ (sym (p .past .given .1) ∙ p .before .before .judge .ensures) (c .if1 .taken)
 
--- src/lib.rt:170:13
 put-requires : tie.Need-put-requires
 put-requires c κs = let p = c .before .before .before in sym (p .past .given .1) ∙ p .before .before .judge .ensures
 
--- src/lib.rt:157:1
 returns-2 : tie.Need-returns-2
 returns-2 c = plan-refused _ _ (sym (c .before .number .given .1) ∙ c .before .before .before .judge .ensures)
 
--- src/lib.rt:157:1
 same-length : tie.Need-same-length
 same-length c = c .before .before .put .kept .1 .1 .0
 
--- src/lib.rt:157:1
 returns-3 : tie.Need-returns-3
 returns-3 c = let u = c .before .before in let e1 = u .before .before in let p = e1 .before .before in u .put .ensures ∙ plan-whole _ _ (sym (p .past .given .1) ∙ p .before .before .judge .ensures) (e1 .if1 .left)
 

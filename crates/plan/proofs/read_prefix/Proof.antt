@@ -1,38 +1,28 @@
+-- The judge's answer, then what `put` answers.
 use mathlib.Core.Path.{sym, _∙_}
 use Rattle.plan.proofs.Calls.{prefix-refused}
 use borrow.Author.Needs.{needs}
 use Rattle.plan.proofs.read_prefix.Statement.{statement}
 use Rattle.plan.proofs.read_prefix.Tie as tie
-use Rattle.plan.proofs.read_prefix.Reads as reads
-use Rattle.plan.proofs.read_prefix.Lts as lts
-use Rattle.plan.proofs.judge.Reads as judge-reads
-use Rattle.plan.proofs.put.Reads as put-reads
 
--- src/lib.rt:179:11
 judge-requires : tie.Need-judge-requires
 judge-requires c κs = search needs
 
--- src/lib.rt:180:25
 enum-known-number : tie.Need-enum-known-number
 enum-known-number c = search needs
 
--- src/lib.rt:181:20
 enum-known-past : tie.Need-enum-known-past
 enum-known-past c = search needs
 
--- src/lib.rt:181:29
 put-requires : tie.Need-put-requires
 put-requires c κs = let p = c .before .before in sym (p .past .given .1) ∙ p .before .before .judge .ensures
 
--- src/lib.rt:176:1
 returns : tie.Need-returns
 returns c = prefix-refused _ _ (sym (c .before .number .given .1) ∙ c .before .before .before .judge .ensures)
 
--- src/lib.rt:176:1
 same-length : tie.Need-same-length
 same-length c = c .before .before .put .kept .1 .1 .0
 
--- src/lib.rt:176:1
 returns-2 : tie.Need-returns-2
 returns-2 c = c .before .before .put .ensures
 

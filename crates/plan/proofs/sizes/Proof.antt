@@ -1,44 +1,32 @@
-use mathlib.Core.Path.{sym, ap, _∙_}
+-- The walk's answer; a table that ends before its plan does is cut.
+use mathlib.Core.Path.{sym, _∙_}
 use Rattle.plan.proofs.Trees.{start-roomy}
 use Rattle.plan.proofs.Calls.{sizes-stray, sizes-cut, sizes-whole}
 use borrow.Author.Needs.{needs}
 use Rattle.plan.proofs.sizes.Statement.{statement}
 use Rattle.plan.proofs.sizes.Tie as tie
-use Rattle.plan.proofs.sizes.Reads as reads
-use Rattle.plan.proofs.sizes.Lts as lts
-use Rattle.plan.proofs.needs_of.Reads as needs-of-reads
-use Rattle.plan.proofs.start.Reads as start-reads
-use Rattle.plan.proofs.walking.known.Reads as known-reads
 
--- src/lib.rt:189:20
 start-requires : tie.Need-start-requires
 start-requires c κs = search needs
 
--- src/lib.rt:189:11
 known-requires : tie.Need-known-requires
 known-requires c κs = rw (c .start .ensures) start-roomy
 
--- src/lib.rt:190:47
 enum-told : tie.Need-enum-told
 enum-told c = search needs
 
--- src/lib.rt:191:20
 enum-known-past : tie.Need-enum-known-past
 enum-known-past c = search needs
 
--- src/lib.rt:194:36
 needs-of-requires : tie.Need-needs-of-requires
 needs-of-requires c κs = search needs
 
--- src/lib.rt:194:17
 returns : tie.Need-returns
 returns c = let t = c .before in let p = t .before .before .before .before in let k = p .before .before in sizes-whole _ (k .before .start .ensures) (sym (p .past .given .1) ∙ k .known .ensures) (c .needs-of .ensures) (t .if1 .taken)
 
--- src/lib.rt:186:1
 returns-2 : tie.Need-returns-2
 returns-2 c = let k = c .before .before in sizes-stray _ (k .before .start .ensures) (sym (c .enum-told .given .1) ∙ k .known .ensures)
 
--- src/lib.rt:186:1
 returns-3 : tie.Need-returns-3
 returns-3 c = let p = c .before .before .before .before in let k = p .before .before in sizes-cut _ (k .before .start .ensures) (sym (p .past .given .1) ∙ k .known .ensures) (c .if1 .left)
 

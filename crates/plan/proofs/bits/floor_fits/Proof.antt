@@ -1,3 +1,4 @@
+-- A NaN is in no range; any other double is compared as it stands.
 use mathlib.Core.Path.{sym, _∙_}
 use lib.Ieee.{binary64}
 use lib.Ieee.Bits.{nanBits-is}
@@ -6,28 +7,20 @@ use Rattle.plan.proofs.Ranges.{nan-floor}
 use borrow.Author.Needs.{needs}
 use Rattle.plan.proofs.bits.floor_fits.Statement.{statement}
 use Rattle.plan.proofs.bits.floor_fits.Tie as tie
-use Rattle.plan.proofs.bits.floor_fits.Reads as reads
-use Rattle.plan.proofs.bits.floor_fits.Lts as lts
-use Rattle.plan.proofs.bits.is_nan.Reads as is-nan-reads
 
--- src/bits.rt:16:8
 is-nan-requires : tie.Need-is-nan-requires
 is-nan-requires c κs = search needs
 
--- src/bits.rt:17:9
 returns : tie.Need-returns
 returns c = nan-floor _ (sym (nanBits-is binary64 (c .before .before .args .bits)) ∙ sym (c .before .is-nan .ensures) ∙ c .if1 .taken)
 
--- src/bits.rt:19:13
 float-from-bits-x : tie.Need-float-from-bits-x
 float-from-bits-x c = rw (sym (c .before .is-nan .ensures) ∙ c .if1 .left) tt
 
--- src/bits.rt:21:9
 returns-2 : tie.Need-returns-2
 unfolding floorFits
 returns-2 c = rw (c .if2 .taken)
 
--- src/bits.rt:13:1
 returns-3 : tie.Need-returns-3
 unfolding floorFits
 returns-3 c = rw (c .if2 .left)

@@ -1,12 +1,10 @@
+-- The bits of a NaN, without their sign, lie above those of infinity.
 use mathlib.Core.Path.{sym}
 use lib.Ieee.{binary64}
 use lib.Ieee.Bits.{nanBits-above}
 use Rattle.plan.proofs.bits.is_nan.Statement.{statement}
 use Rattle.plan.proofs.bits.is_nan.Tie as tie
-use Rattle.plan.proofs.bits.is_nan.Reads as reads
-use Rattle.plan.proofs.bits.is_nan.Lts as lts
 
--- src/bits.rt:6:1
 returns : tie.Need-returns
 returns c = sym (nanBits-above binary64 (c .args .bits))
 

@@ -1,3 +1,4 @@
+-- A list reads as 0 past its end.
 use mathlib.Core.Path.{refl, sym}
 use native.Mathlib.Omega.{arith}
 use lib.ListN.{List·getD-eq-default}
@@ -5,22 +6,16 @@ use denote.Ref.{now}
 use borrow.Author.Needs.{needs}
 use Rattle.plan.proofs.bytes.byte_at.Statement.{statement}
 use Rattle.plan.proofs.bytes.byte_at.Tie as tie
-use Rattle.plan.proofs.bytes.byte_at.Reads as reads
-use Rattle.plan.proofs.bytes.byte_at.Lts as lts
 
--- src/bytes.rt:11:16
 shared-slice-read-result : tie.Need-shared-slice-read-result
 shared-slice-read-result c = search needs
 
--- src/bytes.rt:11:16
 cast-result : tie.Need-cast-result
 cast-result c = omega (arith, c .shared-slice-known .given (c .before .before .args .at))
 
--- src/bytes.rt:11:9
 returns : tie.Need-returns
 returns c = (refl, omega (arith, c .shared-slice-known .given (c .before .before .args .at)))
 
--- src/bytes.rt:7:1
 returns-2 : tie.Need-returns-2
 returns-2 c = (sym (List·getD-eq-default (now (c .before .args .bytes)) 0 (c .if1 .left)), omega arith)
 

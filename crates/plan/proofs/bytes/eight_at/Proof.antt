@@ -1,32 +1,24 @@
+-- Two fours side by side are a number of eight bytes.
 use Rattle.plan.proofs.Numbers.{eight-bytes}
 use borrow.Author.Needs.{needs}
 use Rattle.plan.proofs.bytes.eight_at.Statement.{statement}
 use Rattle.plan.proofs.bytes.eight_at.Tie as tie
-use Rattle.plan.proofs.bytes.eight_at.Reads as reads
-use Rattle.plan.proofs.bytes.eight_at.Lts as lts
-use Rattle.plan.proofs.bytes.four_at.Reads as four-at-reads
 
--- src/bytes.rt:38:9
 four-at-requires : tie.Need-four-at-requires
 four-at-requires c κs = search needs
 
--- src/bytes.rt:39:31
 add-four-at : tie.Need-add-four-at
 add-four-at c = search needs
 
--- src/bytes.rt:39:9
 four-at-requires-2 : tie.Need-four-at-requires-2
 four-at-requires-2 c κs = search needs
 
--- src/bytes.rt:40:20
 mul-result : tie.Need-mul-result
 mul-result c = search needs
 
--- src/bytes.rt:40:5
 add-result : tie.Need-add-result
 add-result c = search needs
 
--- src/bytes.rt:34:1
 returns : tie.Need-returns
 returns c = rw (c .before .four-at .ensures .0, c .four-at2 .ensures .0) (eight-bytes _ _)
 

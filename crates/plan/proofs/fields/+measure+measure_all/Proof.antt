@@ -1,3 +1,4 @@
+-- The levels left fall; the answer for all children is the answer for those that are left.
 use Rattle.plan.proofs.Accepts.{step-inside}
 use Prim.Native.Nat.{_+_, _-_}
 use mathlib.Core.Path.{sym, _∙_}
@@ -41,7 +42,6 @@ abbrev measure-all-below : ℕ → In 1 measure-all-kinds.ps
 measure-all-below t =
     and 1 measure-all-kinds.ps (falls 1 measure-all-kinds.ps _<_ μ-measure-all t) measure-all.Pre
 
--- src/fields.rt:330:11
 measure-field-at-requires : (t : ℕ) → measure-lts.Need-field-at-requires (
   field-at-reads.Asked,
   field-at-reads.Learnt,
@@ -50,7 +50,6 @@ measure-field-at-requires : (t : ℕ) → measure-lts.Need-field-at-requires (
 ) (measure-at t) measure.Post
 measure-field-at-requires t c κs = c .before .pre .1
 
--- src/fields.rt:331:23
 measure-enum-known-number : (t : ℕ) → measure-lts.Need-enum-known-number (
   field-at-reads.Asked,
   field-at-reads.Learnt,
@@ -59,7 +58,6 @@ measure-enum-known-number : (t : ℕ) → measure-lts.Need-enum-known-number (
 ) (measure-at t) measure.Post
 measure-enum-known-number t c = search needs
 
--- src/fields.rt:332:22
 measure-enum-known-bin : (t : ℕ) → measure-lts.Need-enum-known-bin (
   field-at-reads.Asked,
   field-at-reads.Learnt,
@@ -68,7 +66,6 @@ measure-enum-known-bin : (t : ℕ) → measure-lts.Need-enum-known-bin (
 ) (measure-at t) measure.Post
 measure-enum-known-bin t c = search needs
 
--- src/fields.rt:336:35
 measure-enum-told : (t : ℕ) → measure-lts.Need-enum-told (
   field-at-reads.Asked,
   field-at-reads.Learnt,
@@ -77,7 +74,6 @@ measure-enum-told : (t : ℕ) → measure-lts.Need-enum-told (
 ) (measure-at t) measure.Post
 measure-enum-told t c = search needs
 
--- src/fields.rt:337:35
 measure-enum-told-2 : (t : ℕ) → measure-lts.Need-enum-told-2 (
   field-at-reads.Asked,
   field-at-reads.Learnt,
@@ -86,7 +82,6 @@ measure-enum-told-2 : (t : ℕ) → measure-lts.Need-enum-told-2 (
 ) (measure-at t) measure.Post
 measure-enum-told-2 t c = search needs
 
--- src/fields.rt:338:29
 measure-enum-known-child : (t : ℕ) → measure-lts.Need-enum-known-child (
   field-at-reads.Asked,
   field-at-reads.Learnt,
@@ -95,7 +90,6 @@ measure-enum-known-child : (t : ℕ) → measure-lts.Need-enum-known-child (
 ) (measure-at t) measure.Post
 measure-enum-known-child t c = search needs
 
--- src/fields.rt:338:47
 measure-sub-measure-all : (t : ℕ) → measure-lts.Need-sub-measure-all (
   field-at-reads.Asked,
   field-at-reads.Learnt,
@@ -105,7 +99,6 @@ measure-sub-measure-all : (t : ℕ) → measure-lts.Need-sub-measure-all (
 measure-sub-measure-all t c = let b = c .before .before .before .before .before in let f = b .before .before in
     deep _ _ _ (sym (b .bin .given .1) ∙ f .field-at .ensures) (c .before .child .given .1)
 
--- src/fields.rt:338:35
 measure-measure-all-requires : (t : ℕ) → measure-lts.Need-measure-all-requires (
   field-at-reads.Asked,
   field-at-reads.Learnt,
@@ -115,7 +108,6 @@ measure-measure-all-requires : (t : ℕ) → measure-lts.Need-measure-all-requir
 measure-measure-all-requires t c κs = let b = c .before .before .before .before .before in let f = b .before .before in let e = sym (b .bin .given .1) ∙ f .field-at .ensures in
     (omega (arith, deep _ _ _ e (c .before .child .given .1), f .before .before .pre .0), past-inside _ (f .before .before .pre .1) _ e)
 
--- src/fields.rt:326:1
 measure-returns : (t : ℕ) → measure-lts.Need-returns (
   field-at-reads.Asked,
   field-at-reads.Learnt,
@@ -124,7 +116,6 @@ measure-returns : (t : ℕ) → measure-lts.Need-returns (
 ) (measure-at t) measure.Post
 measure-returns t c = measure-stop _ _ _ (sym (c .before .number .given .1) ∙ c .before .before .before .field-at .ensures)
 
--- src/fields.rt:326:1
 measure-returns-2 : (t : ℕ) → measure-lts.Need-returns-2 (
   field-at-reads.Asked,
   field-at-reads.Learnt,
@@ -133,7 +124,6 @@ measure-returns-2 : (t : ℕ) → measure-lts.Need-returns-2 (
 ) (measure-at t) measure.Post
 measure-returns-2 t c = let b = c .before .before .before .before in measure-nothing _ _ _ (sym (b .bin .given .1) ∙ b .before .before .field-at .ensures) (c .enum-told .given .1)
 
--- src/fields.rt:326:1
 measure-returns-3 : (t : ℕ) → measure-lts.Need-returns-3 (
   field-at-reads.Asked,
   field-at-reads.Learnt,
@@ -142,7 +132,6 @@ measure-returns-3 : (t : ℕ) → measure-lts.Need-returns-3 (
 ) (measure-at t) measure.Post
 measure-returns-3 t c = let b = c .before .before .before .before in measure-axes _ _ _ (sym (b .bin .given .1) ∙ b .before .before .field-at .ensures) (c .enum-told2 .given .1)
 
--- src/fields.rt:326:1
 measure-returns-4 : (t : ℕ) → measure-lts.Need-returns-4 (
   field-at-reads.Asked,
   field-at-reads.Learnt,
@@ -158,7 +147,6 @@ measure-all-Inv-loop level n bytes here₀ i₀ here i = Walked (λ s q. treeOf 
 abbrev measure-all-μ-loop : measure-all-lts.MeasureT-loop
 measure-all-μ-loop level n bytes here₀ i₀ here i = n - i
 
--- src/fields.rt:351:5
 measure-all-loop-holds :
     (t : ℕ) →
     measure-all-lts.Need-loop-holds
@@ -169,21 +157,18 @@ measure-all-loop-holds :
     measure-all-μ-loop
 measure-all-loop-holds t c = (walked-from _ _ _ _, c .before .pre .1)
 
--- src/fields.rt:352:15
 measure-all-measure-requires : (t : ℕ) → measure-all-lts.Need-measure-requires (
   measure-below t,
   measure.Post,
 ) (measure-all-at t) measure-all.Post measure-all-Inv-loop measure-all-μ-loop
 measure-all-measure-requires t c κs = (omega (arith, c .before .before .before .pre .0), c .before .loop .inv .1)
 
--- src/fields.rt:353:29
 measure-all-enum-known-number : (t : ℕ) → measure-all-lts.Need-enum-known-number (
   measure-below t,
   measure.Post,
 ) (measure-all-at t) measure-all.Post measure-all-Inv-loop measure-all-μ-loop
 measure-all-enum-known-number t c = search needs
 
--- src/fields.rt:354:17
 measure-all-returns :
     (t : ℕ) →
     measure-all-lts.Need-returns
@@ -194,14 +179,12 @@ measure-all-returns :
     measure-all-μ-loop
 measure-all-returns t c = let m = c .before .before .before in let a = m .before .before in walked-stop (a .loop .inv .0) (m .before .loop-test .taken) _ _ (sym (c .before .number .given .1) ∙ m .measure .ensures)
 
--- src/fields.rt:356:24
 measure-all-enum-known-next : (t : ℕ) → measure-all-lts.Need-enum-known-next (
   measure-below t,
   measure.Post,
 ) (measure-all-at t) measure-all.Post measure-all-Inv-loop measure-all-μ-loop
 measure-all-enum-known-next t c = search needs
 
--- src/fields.rt:358:17
 measure-all-add-i :
     (t : ℕ) →
     measure-all-lts.Need-add-i
@@ -212,7 +195,6 @@ measure-all-add-i :
     measure-all-μ-loop
 measure-all-add-i t c = search needs
 
--- src/fields.rt:351:5
 measure-all-loop-less :
     (t : ℕ) →
     measure-all-lts.Need-loop-less
@@ -223,7 +205,6 @@ measure-all-loop-less :
     measure-all-μ-loop
 measure-all-loop-less t c = search needs
 
--- src/fields.rt:351:5
 measure-all-loop-again :
     (t : ℕ) →
     measure-all-lts.Need-loop-again
@@ -235,7 +216,6 @@ measure-all-loop-again :
 measure-all-loop-again t c = let m = c .before .before .before in let a = m .before .before in let e = sym (c .before .next .given .1) ∙ m .measure .ensures in
     (walked-next (a .loop .inv .0) (m .before .loop-test .taken) _ e, step-inside _ _ _ _ (a .loop .inv .1) e)
 
--- src/fields.rt:345:1
 measure-all-returns-2 :
     (t : ℕ) →
     measure-all-lts.Need-returns-2

@@ -1,74 +1,52 @@
+-- Each number is read where the definition reads it; no place wraps.
 use native.Mathlib.Omega.{arith}
 use Rattle.plan.specs.Fields.{axesAt}
 use borrow.Author.Needs.{needs}
 use Rattle.plan.proofs.fields.axes_at.Statement.{statement}
 use Rattle.plan.proofs.fields.axes_at.Tie as tie
-use Rattle.plan.proofs.fields.axes_at.Reads as reads
-use Rattle.plan.proofs.fields.axes_at.Lts as lts
-use Rattle.plan.proofs.bytes.byte_at.Reads as byte-at-reads
-use Rattle.plan.proofs.bytes.eight_at.Reads as eight-at-reads
-use Rattle.plan.proofs.bytes.four_at.Reads as four-at-reads
-use Rattle.plan.proofs.bytes.pair_at.Reads as pair-at-reads
-use Rattle.plan.proofs.fields.most_in.Reads as most-in-reads
-use Rattle.plan.proofs.fields.values_in.Reads as values-in-reads
 
--- src/fields.rt:125:31
 add-byte-at : tie.Need-add-byte-at
 add-byte-at c = search needs
 
--- src/fields.rt:125:9
 byte-at-requires : tie.Need-byte-at-requires
 byte-at-requires c κs = search needs
 
--- src/fields.rt:126:31
 add-pair-at : tie.Need-add-pair-at
 add-pair-at c = search needs
 
--- src/fields.rt:126:9
 pair-at-requires : tie.Need-pair-at-requires
 pair-at-requires c κs = search needs
 
--- src/fields.rt:127:32
 add-four-at : tie.Need-add-four-at
 add-four-at c = search needs
 
--- src/fields.rt:127:9
 four-at-requires : tie.Need-four-at-requires
 four-at-requires c κs = search needs
 
--- src/fields.rt:128:31
 add-byte-at-2 : tie.Need-add-byte-at-2
 add-byte-at-2 c = search needs
 
--- src/fields.rt:128:9
 byte-at-requires-2 : tie.Need-byte-at-requires-2
 byte-at-requires-2 c κs = search needs
 
--- src/fields.rt:129:33
 add-eight-at : tie.Need-add-eight-at
 add-eight-at c = search needs
 
--- src/fields.rt:129:9
 eight-at-requires : tie.Need-eight-at-requires
 eight-at-requires c κs = search needs
 
--- src/fields.rt:130:35
 add-values-in : tie.Need-add-values-in
 add-values-in c = search needs
 
--- src/fields.rt:130:9
 values-in-requires : tie.Need-values-in-requires
 values-in-requires c κs = search needs
 
--- src/fields.rt:131:31
 add-most-in : tie.Need-add-most-in
 add-most-in c = search needs
 
--- src/fields.rt:131:9
 most-in-requires : tie.Need-most-in-requires
 most-in-requires c κs = search needs
 
--- src/fields.rt:121:1
 returns : tie.Need-returns
 unfolding axesAt
 returns c = let v = c .before in let e = v .before in let f = e .before .before in

@@ -1,3 +1,4 @@
+-- Each branch is a rung of the ladder.
 use borrow.Author.Tests.{eq-eqb, ne-eqb, le-leb, lt-leb}
 use mathlib.Core.Path.{sym, _∙_}
 use Rattle.plan.proofs.Flags.{failed, passed}
@@ -5,52 +6,39 @@ use Rattle.plan.specs.Fields.{axesFault}
 use borrow.Author.Needs.{needs}
 use Rattle.plan.proofs.fields.axes_fault.Statement.{statement}
 use Rattle.plan.proofs.fields.axes_fault.Tie as tie
-use Rattle.plan.proofs.fields.axes_fault.Reads as reads
-use Rattle.plan.proofs.fields.axes_fault.Lts as lts
-use Rattle.plan.proofs.bits.floor_fits.Reads as floor-fits-reads
-use Rattle.plan.proofs.fields.is_within.Reads as is-within-reads
 
--- src/fields.rt:147:9
 returns : tie.Need-returns
 unfolding axesFault
 returns c = rw (eq-eqb _ _ (c .if1 .taken))
 
--- src/fields.rt:149:9
 is-within-requires : tie.Need-is-within-requires
 is-within-requires c κs = search needs
 
--- src/fields.rt:150:9
 returns-2 : tie.Need-returns-2
 unfolding axesFault
 returns-2 c = rw (ne-eqb _ _ (c .before .before .if1 .left), failed (c .before .is-within .ensures) (c .if2 .taken))
 
--- src/fields.rt:152:9
 is-within-requires-2 : tie.Need-is-within-requires-2
 is-within-requires-2 c κs = search needs
 
--- src/fields.rt:153:9
 returns-3 : tie.Need-returns-3
 unfolding axesFault
 returns-3 c = let e2 = c .before .before in
     rw (ne-eqb _ _ (e2 .before .before .if1 .left), passed (e2 .before .is-within .ensures) (e2 .if2 .left), failed (c .before .is-within2 .ensures) (c .if3 .taken))
 
--- src/fields.rt:156:9
 returns-4 : tie.Need-returns-4
 unfolding axesFault
 returns-4 c = let e3 = c .before .before in let e2 = e3 .before .before in
     rw (ne-eqb _ _ (e2 .before .before .if1 .left), passed (e2 .before .is-within .ensures) (e2 .if2 .left), passed (e3 .before .is-within2 .ensures) (e3 .if3 .left), lt-leb _ _ (c .if4 .taken))
 
--- src/fields.rt:158:8
 floor-fits-requires : tie.Need-floor-fits-requires
 floor-fits-requires c κs = search needs
 
--- src/fields.rt:159:9
 returns-5 : tie.Need-returns-5
 unfolding axesFault
 returns-5 c = let e4 = c .before .before in let e3 = e4 .before .before in let e2 = e3 .before .before in
     rw (ne-eqb _ _ (e2 .before .before .if1 .left), passed (e2 .before .is-within .ensures) (e2 .if2 .left), passed (e3 .before .is-within2 .ensures) (e3 .if3 .left), le-leb _ _ (e4 .if4 .left), sym (c .before .floor-fits .ensures) ∙ c .if5 .taken)
 
--- src/fields.rt:143:1
 returns-6 : tie.Need-returns-6
 unfolding axesFault
 returns-6 c = let e4 = c .before .before in let e3 = e4 .before .before in let e2 = e3 .before .before in

@@ -1,3 +1,4 @@
+-- Each branch is a rung of the ladder.
 use borrow.Author.Tests.{eq-eqb, ne-eqb, le-leb, lt-leb}
 use mathlib.Core.Path.{sym, _∙_}
 use Rattle.plan.proofs.Flags.{failed, passed}
@@ -5,48 +6,36 @@ use Rattle.plan.specs.Fields.{binsFault}
 use borrow.Author.Needs.{needs}
 use Rattle.plan.proofs.fields.bins_fault.Statement.{statement}
 use Rattle.plan.proofs.fields.bins_fault.Tie as tie
-use Rattle.plan.proofs.fields.bins_fault.Reads as reads
-use Rattle.plan.proofs.fields.bins_fault.Lts as lts
-use Rattle.plan.proofs.bits.ratio_fits.Reads as ratio-fits-reads
-use Rattle.plan.proofs.fields.is_within.Reads as is-within-reads
 
--- src/fields.rt:229:9
 returns : tie.Need-returns
 unfolding binsFault
 returns c = rw (eq-eqb _ _ (c .if1 .taken))
 
--- src/fields.rt:232:9
 returns-2 : tie.Need-returns-2
 unfolding binsFault
 returns-2 c = rw (ne-eqb _ _ (c .before .if1 .left), eq-eqb _ _ (c .if2 .taken))
 
--- src/fields.rt:234:9
 is-within-requires : tie.Need-is-within-requires
 is-within-requires c κs = search needs
 
--- src/fields.rt:235:9
 returns-3 : tie.Need-returns-3
 unfolding binsFault
 returns-3 c = let e2 = c .before .before in
     rw (ne-eqb _ _ (e2 .before .if1 .left), ne-eqb _ _ (e2 .if2 .left), failed (c .before .is-within .ensures) (c .if3 .taken))
 
--- src/fields.rt:238:9
 returns-4 : tie.Need-returns-4
 unfolding binsFault
 returns-4 c = let e3 = c .before .before in let e2 = e3 .before .before in
     rw (ne-eqb _ _ (e2 .before .if1 .left), ne-eqb _ _ (e2 .if2 .left), passed (e3 .before .is-within .ensures) (e3 .if3 .left), lt-leb _ _ (c .if4 .taken))
 
--- src/fields.rt:240:8
 ratio-fits-requires : tie.Need-ratio-fits-requires
 ratio-fits-requires c κs = search needs
 
--- src/fields.rt:241:9
 returns-5 : tie.Need-returns-5
 unfolding binsFault
 returns-5 c = let e4 = c .before .before in let e3 = e4 .before .before in let e2 = e3 .before .before in
     rw (ne-eqb _ _ (e2 .before .if1 .left), ne-eqb _ _ (e2 .if2 .left), passed (e3 .before .is-within .ensures) (e3 .if3 .left), le-leb _ _ (e4 .if4 .left), sym (c .before .ratio-fits .ensures) ∙ c .if5 .taken)
 
--- src/fields.rt:225:1
 returns-6 : tie.Need-returns-6
 unfolding binsFault
 returns-6 c = let e4 = c .before .before in let e3 = e4 .before .before in let e2 = e3 .before .before in

@@ -1,49 +1,36 @@
+-- Form, then faults; what passes both can be taken.
 use mathlib.Core.Path.{sym, _∙_}
-use borrow.Author.Tests.{eq-eqb, ne-eqb}
+use borrow.Author.Tests.{ne-eqb}
 use Rattle.plan.specs.Fields.{binsField}
 use Rattle.plan.proofs.Flags.{failed, passed}
 use Rattle.plan.proofs.Faults.{bins-fit}
 use borrow.Author.Needs.{needs}
 use Rattle.plan.proofs.fields.bins_field.Statement.{statement}
 use Rattle.plan.proofs.fields.bins_field.Tie as tie
-use Rattle.plan.proofs.fields.bins_field.Reads as reads
-use Rattle.plan.proofs.fields.bins_field.Lts as lts
-use Rattle.plan.proofs.fields.bins_at.Reads as bins-at-reads
-use Rattle.plan.proofs.fields.bins_fault.Reads as bins-fault-reads
-use Rattle.plan.proofs.fields.is_formed.Reads as is-formed-reads
-use Rattle.plan.proofs.fields.take_bins.Reads as take-bins-reads
 
--- src/fields.rt:271:9
 is-formed-requires : tie.Need-is-formed-requires
 is-formed-requires c κs = search needs
 
--- src/fields.rt:272:9
 returns : tie.Need-returns
 unfolding binsField
 returns c = rw (failed (c .before .is-formed .ensures) (c .if1 .taken))
 
--- src/fields.rt:274:9
 bins-at-requires : tie.Need-bins-at-requires
 bins-at-requires c κs = search needs
 
--- src/fields.rt:275:9
 bins-fault-requires : tie.Need-bins-fault-requires
 bins-fault-requires c κs = search needs
 
--- src/fields.rt:277:9
 returns-2 : tie.Need-returns-2
 unfolding binsField
 returns-2 c = let e1 = c .before .before .before in rw (passed (e1 .before .is-formed .ensures) (e1 .if1 .left), ← c .before .before .bins-at .ensures, ← c .before .bins-fault .ensures, ne-eqb _ _ (c .if2 .taken))
 
--- src/fields.rt:282:17
 add-t11 : tie.Need-add-t11
 add-t11 c = search needs
 
--- src/fields.rt:283:20
 take-bins-requires : tie.Need-take-bins-requires
 take-bins-requires c κs = bins-fit (c .before .before .before .before .before .before .before .pre .roomy) _ _ (sym (c .before .bins-fault .ensures) ∙ c .if2 .left)
 
--- src/fields.rt:265:1
 returns-3 : tie.Need-returns-3
 unfolding binsField
 returns-3 c = let e2 = c .before in let e1 = e2 .before .before .before in

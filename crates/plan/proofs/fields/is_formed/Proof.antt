@@ -1,35 +1,27 @@
+-- The length is compared first, then the end of the field with the end of the bytes.
 use mathlib.Core.Path.{sym, _∙_}
 use borrow.Author.Tests.{eq-eqb, ne-eqb}
 use Rattle.plan.specs.Fields.{formed}
 use borrow.Author.Needs.{needs}
 use Rattle.plan.proofs.fields.is_formed.Statement.{statement}
 use Rattle.plan.proofs.fields.is_formed.Tie as tie
-use Rattle.plan.proofs.fields.is_formed.Reads as reads
-use Rattle.plan.proofs.fields.is_formed.Lts as lts
-use Rattle.plan.proofs.bytes.pair_at.Reads as pair-at-reads
 
--- src/fields.rt:49:30
 add-pair-at : tie.Need-add-pair-at
 add-pair-at c = search needs
 
--- src/fields.rt:49:9
 pair-at-requires : tie.Need-pair-at-requires
 pair-at-requires c κs = search needs
 
--- src/fields.rt:51:16
 add-result : tie.Need-add-result
 add-result c = search needs
 
--- src/fields.rt:51:16
 add-result-2 : tie.Need-add-result-2
 add-result-2 c = search needs
 
--- src/fields.rt:51:9
 returns : tie.Need-returns
 unfolding formed
 returns c = rw (eq-eqb _ _ (sym (c .before .pair-at .ensures .0) ∙ c .if1 .taken))
 
--- src/fields.rt:45:1
 returns-2 : tie.Need-returns-2
 unfolding formed
 returns-2 c = rw (ne-eqb _ _ (λ e. c .if1 .left (c .before .pair-at .ensures .0 ∙ e)))

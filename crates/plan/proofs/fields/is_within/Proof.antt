@@ -1,16 +1,13 @@
+-- The two comparisons are the range.
 use borrow.Author.Tests.{le-leb, lt-leb}
 use Rattle.plan.specs.Ranges.{within}
 use Rattle.plan.proofs.fields.is_within.Statement.{statement}
 use Rattle.plan.proofs.fields.is_within.Tie as tie
-use Rattle.plan.proofs.fields.is_within.Reads as reads
-use Rattle.plan.proofs.fields.is_within.Lts as lts
 
--- src/fields.rt:30:9
 returns : tie.Need-returns
 unfolding within
 returns c = rw (le-leb _ _ (c .if1 .taken))
 
--- src/fields.rt:26:1
 returns-2 : tie.Need-returns-2
 unfolding within
 returns-2 c = rw (lt-leb _ _ (c .if1 .left))

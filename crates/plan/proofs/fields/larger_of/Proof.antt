@@ -1,16 +1,13 @@
+-- The comparison picks the larger.
 use borrow.Author.Tests.{lt-ltb, le-ltb}
 use Rattle.plan.specs.Ranges.{larger}
 use Rattle.plan.proofs.fields.larger_of.Statement.{statement}
 use Rattle.plan.proofs.fields.larger_of.Tie as tie
-use Rattle.plan.proofs.fields.larger_of.Reads as reads
-use Rattle.plan.proofs.fields.larger_of.Lts as lts
 
--- src/fields.rt:39:9
 returns : tie.Need-returns
 unfolding larger
 returns c = rw (lt-ltb _ _ (c .if1 .taken))
 
--- src/fields.rt:35:1
 returns-2 : tie.Need-returns-2
 unfolding larger
 returns-2 c = rw (le-ltb _ _ (c .if1 .left))

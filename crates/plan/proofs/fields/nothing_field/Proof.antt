@@ -1,26 +1,20 @@
+-- The form is all there is to judge.
 use mathlib.Core.Path.{sym, _∙_}
 use Rattle.plan.specs.Fields.{nothingField}
 use borrow.Author.Needs.{needs}
 use Rattle.plan.proofs.fields.nothing_field.Statement.{statement}
 use Rattle.plan.proofs.fields.nothing_field.Tie as tie
-use Rattle.plan.proofs.fields.nothing_field.Reads as reads
-use Rattle.plan.proofs.fields.nothing_field.Lts as lts
-use Rattle.plan.proofs.fields.is_formed.Reads as is-formed-reads
 
--- src/fields.rt:293:8
 is-formed-requires : tie.Need-is-formed-requires
 is-formed-requires c κs = search needs
 
--- src/fields.rt:298:21
 add-t7 : tie.Need-add-t7
 add-t7 c = search needs
 
--- src/fields.rt:295:9
 returns : tie.Need-returns
 unfolding nothingField
 returns c = rw (sym (c .before .before .is-formed .ensures) ∙ c .before .if1 .taken)
 
--- src/fields.rt:288:1
 returns-2 : tie.Need-returns-2
 unfolding nothingField
 returns-2 c = rw (sym (c .before .is-formed .ensures) ∙ c .if1 .left)

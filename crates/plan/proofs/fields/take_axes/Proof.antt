@@ -1,3 +1,4 @@
+-- A judged axes grid has few axes and bins, so that no product and no sum wraps.
 use mathlib.Core.Path.{refl}
 use native.Mathlib.Omega.{arith}
 use Rattle.plan.specs.Needs.{axesTaken, axesReals, axesCounts}
@@ -5,70 +6,52 @@ use Rattle.plan.proofs.Faults.{area, reals-area, counts-area}
 use borrow.Author.Needs.{needs}
 use Rattle.plan.proofs.fields.take_axes.Statement.{statement}
 use Rattle.plan.proofs.fields.take_axes.Tie as tie
-use Rattle.plan.proofs.fields.take_axes.Reads as reads
-use Rattle.plan.proofs.fields.take_axes.Lts as lts
 
--- src/fields.rt:169:16
 sub-left : tie.Need-sub-left
 sub-left c = search needs
 
--- src/fields.rt:170:28
 add-words : tie.Need-add-words
 add-words c = search needs
 
--- src/fields.rt:170:17
 add-words-2 : tie.Need-add-words-2
 add-words-2 c = search needs
 
--- src/fields.rt:171:43
 mul-reals : tie.Need-mul-reals
 mul-reals c = search needs
 
--- src/fields.rt:171:43
 add-reals : tie.Need-add-reals
 add-reals c = search needs
 
--- src/fields.rt:171:33
 mul-reals-2 : tie.Need-mul-reals-2
 mul-reals-2 c = let f = c .before .before .before .before .before .pre in omega (arith, reals-area (f .axes) (f .most))
 
--- src/fields.rt:171:28
 add-reals-2 : tie.Need-add-reals-2
 add-reals-2 c = let f = c .before .before .before .before .before .pre in omega (arith, reals-area (f .axes) (f .most))
 
--- src/fields.rt:171:17
 add-reals-3 : tie.Need-add-reals-3
 add-reals-3 c = let f = c .before .before .before .before .before .before .pre in omega (arith, reals-area (f .axes) (f .most), f .room .reals)
 
--- src/fields.rt:172:44
 mul-counts : tie.Need-mul-counts
 mul-counts c = search needs
 
--- src/fields.rt:172:44
 add-counts : tie.Need-add-counts
 add-counts c = search needs
 
--- src/fields.rt:172:34
 mul-counts-2 : tie.Need-mul-counts-2
 mul-counts-2 c = let f = c .before .before .before .before .before .before .before .before .pre in omega (arith, counts-area (f .axes) (f .most))
 
--- src/fields.rt:172:30
 add-counts-2 : tie.Need-add-counts-2
 add-counts-2 c = let f = c .before .before .before .before .before .before .before .before .pre in omega (arith, counts-area (f .axes) (f .most))
 
--- src/fields.rt:172:18
 add-counts-3 : tie.Need-add-counts-3
 add-counts-3 c = let f = c .before .before .before .before .before .before .before .before .before .pre in omega (arith, counts-area (f .axes) (f .most), f .room .counts)
 
--- src/fields.rt:173:25
 mul-bins : tie.Need-mul-bins
 mul-bins c = let f = c .before .before .before .before .before .before .before .before .before .before .pre in omega (arith, area (f .axes) (f .most))
 
--- src/fields.rt:173:16
 add-bins : tie.Need-add-bins
 add-bins c = let f = c .before .before .before .before .before .before .before .before .before .before .before .pre in omega (arith, area (f .axes) (f .most), f .room .bins)
 
--- src/fields.rt:165:1
 returns : tie.Need-returns
 unfolding axesTaken axesReals axesCounts
 returns c = refl

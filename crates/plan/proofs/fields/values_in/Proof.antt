@@ -1,3 +1,4 @@
+-- The tag decides whether there are values.
 use mathlib.Core.Path.{sym, _∙_}
 use native.Mathlib.Omega.{arith}
 use borrow.Author.Tests.{eq-eqb, ne-eqb}
@@ -5,29 +6,20 @@ use Rattle.plan.specs.Fields.{valuesIn}
 use borrow.Author.Needs.{needs}
 use Rattle.plan.proofs.fields.values_in.Statement.{statement}
 use Rattle.plan.proofs.fields.values_in.Tie as tie
-use Rattle.plan.proofs.fields.values_in.Reads as reads
-use Rattle.plan.proofs.fields.values_in.Lts as lts
-use Rattle.plan.proofs.bytes.byte_at.Reads as byte-at-reads
-use Rattle.plan.proofs.bytes.pair_at.Reads as pair-at-reads
 
--- src/fields.rt:79:8
 byte-at-requires : tie.Need-byte-at-requires
 byte-at-requires c κs = search needs
 
--- src/fields.rt:80:31
 add-pair-at : tie.Need-add-pair-at
 add-pair-at c = search needs
 
--- src/fields.rt:80:16
 pair-at-requires : tie.Need-pair-at-requires
 pair-at-requires c κs = search needs
 
--- src/fields.rt:80:9
 returns : tie.Need-returns
 unfolding valuesIn
 returns c = (rw (eq-eqb _ _ (sym (c .before .before .byte-at .ensures .0) ∙ c .before .if1 .taken), ← c .pair-at .ensures .0), omega (arith, c .pair-at .ensures .1))
 
--- src/fields.rt:75:1
 returns-2 : tie.Need-returns-2
 unfolding valuesIn
 returns-2 c = (rw (ne-eqb _ _ (λ e. c .if1 .left (c .before .byte-at .ensures .0 ∙ e))), omega arith)

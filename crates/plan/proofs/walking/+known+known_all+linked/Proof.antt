@@ -1,3 +1,4 @@
+-- The levels left fall; the answer for all children is the answer for those that are left.
 use Prim.Native.Nat.{_+_, _-_, _*_, _≤_}
 use mathlib.Core.Path.{sym, _∙_}
 use native.Mathlib.Omega.{arith}
@@ -53,7 +54,6 @@ linked-at t = and 1 linked-kinds.ps (is 1 linked-kinds.ps μ-linked t) linked.Pr
 abbrev linked-below : ℕ → In 1 linked-kinds.ps
 linked-below t = and 1 linked-kinds.ps (falls 1 linked-kinds.ps _<_ μ-linked t) linked.Pre
 
--- src/walking.rt:183:11
 known-row-at-requires : (t : ℕ) → known-lts.Need-row-at-requires (
   row-at-reads.Asked,
   row-at-reads.Learnt,
@@ -62,7 +62,6 @@ known-row-at-requires : (t : ℕ) → known-lts.Need-row-at-requires (
 ) (known-at t) known.Post
 known-row-at-requires t c κs = c .before .pre .1
 
--- src/walking.rt:184:23
 known-enum-known-number : (t : ℕ) → known-lts.Need-enum-known-number (
   row-at-reads.Asked,
   row-at-reads.Learnt,
@@ -71,7 +70,6 @@ known-enum-known-number : (t : ℕ) → known-lts.Need-enum-known-number (
 ) (known-at t) known.Post
 known-enum-known-number t c = search needs
 
--- src/walking.rt:185:22
 known-enum-known-bin : (t : ℕ) → known-lts.Need-enum-known-bin (
   row-at-reads.Asked,
   row-at-reads.Learnt,
@@ -80,7 +78,6 @@ known-enum-known-bin : (t : ℕ) → known-lts.Need-enum-known-bin (
 ) (known-at t) known.Post
 known-enum-known-bin t c = search needs
 
--- src/walking.rt:189:35
 known-enum-told : (t : ℕ) → known-lts.Need-enum-told (
   row-at-reads.Asked,
   row-at-reads.Learnt,
@@ -89,7 +86,6 @@ known-enum-told : (t : ℕ) → known-lts.Need-enum-told (
 ) (known-at t) known.Post
 known-enum-told t c = search needs
 
--- src/walking.rt:190:35
 known-enum-told-2 : (t : ℕ) → known-lts.Need-enum-told-2 (
   row-at-reads.Asked,
   row-at-reads.Learnt,
@@ -98,7 +94,6 @@ known-enum-told-2 : (t : ℕ) → known-lts.Need-enum-told-2 (
 ) (known-at t) known.Post
 known-enum-told-2 t c = search needs
 
--- src/walking.rt:191:29
 known-enum-known-child : (t : ℕ) → known-lts.Need-enum-known-child (
   row-at-reads.Asked,
   row-at-reads.Learnt,
@@ -107,7 +102,6 @@ known-enum-known-child : (t : ℕ) → known-lts.Need-enum-known-child (
 ) (known-at t) known.Post
 known-enum-known-child t c = search needs
 
--- src/walking.rt:191:45
 known-sub-known-all : (t : ℕ) → known-lts.Need-sub-known-all (
   row-at-reads.Asked,
   row-at-reads.Learnt,
@@ -116,7 +110,6 @@ known-sub-known-all : (t : ℕ) → known-lts.Need-sub-known-all (
 ) (known-at t) known.Post
 known-sub-known-all t c = let b = c .before .before .before .before .before in deep-row _ _ _ (sym (b .bin .given .1) ∙ b .before .before .row-at .ensures) (c .before .child .given .1)
 
--- src/walking.rt:191:35
 known-known-all-requires : (t : ℕ) → known-lts.Need-known-all-requires (
   row-at-reads.Asked,
   row-at-reads.Learnt,
@@ -126,7 +119,6 @@ known-known-all-requires : (t : ℕ) → known-lts.Need-known-all-requires (
 known-known-all-requires t c κs = let b = c .before .before .before .before .before in let f = b .before .before in let e = sym (b .bin .given .1) ∙ f .row-at .ensures in
     (omega (arith, deep-row _ _ _ e (c .before .child .given .1), f .before .before .pre .0), (past-roomy _ _ _ (f .before .before .pre .1) _ e, links-before _ _ _ e (c .before .child .given .1)))
 
--- src/walking.rt:179:1
 known-returns : (t : ℕ) → known-lts.Need-returns (
   row-at-reads.Asked,
   row-at-reads.Learnt,
@@ -135,7 +127,6 @@ known-returns : (t : ℕ) → known-lts.Need-returns (
 ) (known-at t) known.Post
 known-returns t c = measure-stop _ _ _ (sym (c .before .number .given .1) ∙ c .before .before .before .row-at .ensures)
 
--- src/walking.rt:179:1
 known-returns-2 : (t : ℕ) → known-lts.Need-returns-2 (
   row-at-reads.Asked,
   row-at-reads.Learnt,
@@ -144,7 +135,6 @@ known-returns-2 : (t : ℕ) → known-lts.Need-returns-2 (
 ) (known-at t) known.Post
 known-returns-2 t c = let b = c .before .before .before .before in measure-nothing _ _ _ (sym (b .bin .given .1) ∙ b .before .before .row-at .ensures) (c .enum-told .given .1)
 
--- src/walking.rt:179:1
 known-returns-3 : (t : ℕ) → known-lts.Need-returns-3 (
   row-at-reads.Asked,
   row-at-reads.Learnt,
@@ -153,7 +143,6 @@ known-returns-3 : (t : ℕ) → known-lts.Need-returns-3 (
 ) (known-at t) known.Post
 known-returns-3 t c = let b = c .before .before .before .before in measure-axes _ _ _ (sym (b .bin .given .1) ∙ b .before .before .row-at .ensures) (c .enum-told2 .given .1)
 
--- src/walking.rt:179:1
 known-returns-4 : (t : ℕ) → known-lts.Need-returns-4 (
   row-at-reads.Asked,
   row-at-reads.Learnt,
@@ -169,7 +158,6 @@ known-all-Inv-loop level n table slot here₀ i₀ here i = Walked (λ s q. chil
 abbrev known-all-μ-loop : known-all-lts.MeasureT-loop
 known-all-μ-loop level n table slot here₀ i₀ here i = n - i
 
--- src/walking.rt:203:16
 known-all-sub-slot :
     (t : ℕ) →
     known-all-lts.Need-sub-slot
@@ -180,7 +168,6 @@ known-all-sub-slot :
     known-all-μ-loop
 known-all-sub-slot t c = c .before .before .before .pre .1 .1
 
--- src/walking.rt:206:5
 known-all-loop-holds :
     (t : ℕ) →
     known-all-lts.Need-loop-holds
@@ -191,7 +178,6 @@ known-all-loop-holds :
     known-all-μ-loop
 known-all-loop-holds t c = (walked-from _ _ _ _, (c .before .before .before .pre .1 .0, omega (arith, c .before .before .before .pre .1 .0 .words)))
 
--- src/walking.rt:207:29
 known-all-add-linked :
     (t : ℕ) →
     known-all-lts.Need-add-linked
@@ -202,21 +188,18 @@ known-all-add-linked :
     known-all-μ-loop
 known-all-add-linked t c = omega (arith, c .before .loop .inv .1 .1)
 
--- src/walking.rt:207:15
 known-all-linked-requires : (t : ℕ) → known-all-lts.Need-linked-requires (
   linked-below t,
   linked.Post,
 ) (known-all-at t) known-all.Post known-all-Inv-loop known-all-μ-loop
 known-all-linked-requires t c κs = (omega (arith, c .before .before .before .before .before .pre .0), c .before .loop .inv .1 .0)
 
--- src/walking.rt:208:29
 known-all-enum-known-number : (t : ℕ) → known-all-lts.Need-enum-known-number (
   linked-below t,
   linked.Post,
 ) (known-all-at t) known-all.Post known-all-Inv-loop known-all-μ-loop
 known-all-enum-known-number t c = search needs
 
--- src/walking.rt:209:17
 known-all-returns :
     (t : ℕ) →
     known-all-lts.Need-returns
@@ -227,14 +210,12 @@ known-all-returns :
     known-all-μ-loop
 known-all-returns t c = let m = c .before .before .before in let a = m .before .before in walked-stop (a .loop .inv .0) (m .before .loop-test .taken) _ _ (sym (c .before .number .given .1) ∙ m .linked .ensures)
 
--- src/walking.rt:211:24
 known-all-enum-known-next : (t : ℕ) → known-all-lts.Need-enum-known-next (
   linked-below t,
   linked.Post,
 ) (known-all-at t) known-all.Post known-all-Inv-loop known-all-μ-loop
 known-all-enum-known-next t c = search needs
 
--- src/walking.rt:213:17
 known-all-add-i :
     (t : ℕ) →
     known-all-lts.Need-add-i
@@ -245,7 +226,6 @@ known-all-add-i :
     known-all-μ-loop
 known-all-add-i t c = search needs
 
--- src/walking.rt:206:5
 known-all-loop-less :
     (t : ℕ) →
     known-all-lts.Need-loop-less
@@ -256,7 +236,6 @@ known-all-loop-less :
     known-all-μ-loop
 known-all-loop-less t c = search needs
 
--- src/walking.rt:206:5
 known-all-loop-again :
     (t : ℕ) →
     known-all-lts.Need-loop-again
@@ -268,7 +247,6 @@ known-all-loop-again :
 known-all-loop-again t c = let m = c .before .before .before in let a = m .before .before in let e = sym (c .before .next .given .1) ∙ m .linked .ensures in
     (walked-next (a .loop .inv .0) (m .before .loop-test .taken) _ e, (known-roomy _ _ _ _ _ (a .loop .inv .1 .0) e, a .loop .inv .1 .1))
 
--- src/walking.rt:198:1
 known-all-returns-2 :
     (t : ℕ) →
     known-all-lts.Need-returns-2
@@ -279,7 +257,6 @@ known-all-returns-2 :
     known-all-μ-loop
 known-all-returns-2 t c = walked-all (c .before .loop .inv .0) (c .loop-test .left)
 
--- src/walking.rt:225:9
 linked-word-at-requires : (t : ℕ) → linked-lts.Need-word-at-requires (
   word-at-reads.Asked,
   word-at-reads.Learnt,
@@ -288,7 +265,6 @@ linked-word-at-requires : (t : ℕ) → linked-lts.Need-word-at-requires (
 ) (linked-at t) linked.Post
 linked-word-at-requires t c κs = search needs
 
--- src/walking.rt:227:9
 linked-returns : (t : ℕ) → linked-lts.Need-returns (
   word-at-reads.Asked,
   word-at-reads.Learnt,
@@ -297,7 +273,6 @@ linked-returns : (t : ℕ) → linked-lts.Need-returns (
 ) (linked-at t) linked.Post
 linked-returns t c = child-none _ _ _ _ (sym (c .before .word-at .ensures) ∙ c .if1 .taken)
 
--- src/walking.rt:231:9
 linked-returns-2 : (t : ℕ) → linked-lts.Need-returns-2 (
   word-at-reads.Asked,
   word-at-reads.Learnt,
@@ -306,7 +281,6 @@ linked-returns-2 : (t : ℕ) → linked-lts.Need-returns-2 (
 ) (linked-at t) linked.Post
 linked-returns-2 t c = let e1 = c .before .before .before in child-astray _ _ _ _ (λ y. e1 .if1 .left (e1 .before .word-at .ensures ∙ y)) (λ y. c .if2 .taken (e1 .before .word-at .ensures ∙ y))
 
--- src/walking.rt:233:5
 linked-known-requires : (t : ℕ) → linked-lts.Need-known-requires (
   word-at-reads.Asked,
   word-at-reads.Learnt,
@@ -315,7 +289,6 @@ linked-known-requires : (t : ℕ) → linked-lts.Need-known-requires (
 ) (linked-at t) linked.Post
 linked-known-requires t c κs = let s = c .before .before .before .before .before .before in (omega (arith, s .pre .0), s .pre .1)
 
--- src/walking.rt:221:1
 linked-returns-3 : (t : ℕ) → linked-lts.Need-returns-3 (
   word-at-reads.Asked,
   word-at-reads.Learnt,

@@ -1,68 +1,51 @@
+-- Each number is read where the definition reads it.
 use Rattle.plan.specs.Walk.{axesRow}
 use borrow.Author.Needs.{needs}
 use Rattle.plan.proofs.walking.axes_row.Statement.{statement}
 use Rattle.plan.proofs.walking.axes_row.Tie as tie
-use Rattle.plan.proofs.walking.axes_row.Reads as reads
-use Rattle.plan.proofs.walking.axes_row.Lts as lts
-use Rattle.plan.proofs.walking.word_at.Reads as word-at-reads
 
--- src/walking.rt:71:31
 add-word-at : tie.Need-add-word-at
 add-word-at c = search needs
 
--- src/walking.rt:71:9
 word-at-requires : tie.Need-word-at-requires
 word-at-requires c κs = search needs
 
--- src/walking.rt:72:31
 add-word-at-2 : tie.Need-add-word-at-2
 add-word-at-2 c = search needs
 
--- src/walking.rt:72:9
 word-at-requires-2 : tie.Need-word-at-requires-2
 word-at-requires-2 c κs = search needs
 
--- src/walking.rt:73:32
 add-word-at-3 : tie.Need-add-word-at-3
 add-word-at-3 c = search needs
 
--- src/walking.rt:73:9
 word-at-requires-3 : tie.Need-word-at-requires-3
 word-at-requires-3 c κs = search needs
 
--- src/walking.rt:74:31
 add-word-at-4 : tie.Need-add-word-at-4
 add-word-at-4 c = search needs
 
--- src/walking.rt:74:9
 word-at-requires-4 : tie.Need-word-at-requires-4
 word-at-requires-4 c κs = search needs
 
--- src/walking.rt:75:32
 add-word-at-5 : tie.Need-add-word-at-5
 add-word-at-5 c = search needs
 
--- src/walking.rt:75:17
 word-at-requires-5 : tie.Need-word-at-requires-5
 word-at-requires-5 c κs = search needs
 
--- src/walking.rt:76:31
 add-word-at-6 : tie.Need-add-word-at-6
 add-word-at-6 c = search needs
 
--- src/walking.rt:76:9
 word-at-requires-6 : tie.Need-word-at-requires-6
 word-at-requires-6 c κs = search needs
 
--- src/walking.rt:77:33
 add-word-at-7 : tie.Need-add-word-at-7
 add-word-at-7 c = search needs
 
--- src/walking.rt:77:9
 word-at-requires-7 : tie.Need-word-at-requires-7
 word-at-requires-7 c κs = search needs
 
--- src/walking.rt:67:1
 returns : tie.Need-returns
 unfolding axesRow
 returns c = let w4 = c .before .before .before in rw (w4 .before .before .before .word-at .ensures, w4 .before .before .word-at2 .ensures, w4 .before .word-at3 .ensures, w4 .word-at4 .ensures, c .before .before .word-at5 .ensures, c .before .word-at6 .ensures, c .word-at7 .ensures)

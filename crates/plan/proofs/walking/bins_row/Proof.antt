@@ -1,36 +1,27 @@
+-- Each number is read where the definition reads it.
 use Rattle.plan.specs.Walk.{binsRow}
 use borrow.Author.Needs.{needs}
 use Rattle.plan.proofs.walking.bins_row.Statement.{statement}
 use Rattle.plan.proofs.walking.bins_row.Tie as tie
-use Rattle.plan.proofs.walking.bins_row.Reads as reads
-use Rattle.plan.proofs.walking.bins_row.Lts as lts
-use Rattle.plan.proofs.walking.word_at.Reads as word-at-reads
 
--- src/walking.rt:135:31
 add-word-at : tie.Need-add-word-at
 add-word-at c = search needs
 
--- src/walking.rt:135:9
 word-at-requires : tie.Need-word-at-requires
 word-at-requires c κs = search needs
 
--- src/walking.rt:136:32
 add-word-at-2 : tie.Need-add-word-at-2
 add-word-at-2 c = search needs
 
--- src/walking.rt:136:17
 word-at-requires-2 : tie.Need-word-at-requires-2
 word-at-requires-2 c κs = search needs
 
--- src/walking.rt:137:31
 add-word-at-3 : tie.Need-add-word-at-3
 add-word-at-3 c = search needs
 
--- src/walking.rt:137:9
 word-at-requires-3 : tie.Need-word-at-requires-3
 word-at-requires-3 c κs = search needs
 
--- src/walking.rt:131:1
 returns : tie.Need-returns
 unfolding binsRow
 returns c = rw (c .before .before .word-at .ensures, c .before .word-at2 .ensures, c .word-at3 .ensures)

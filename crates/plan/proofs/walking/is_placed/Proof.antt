@@ -1,52 +1,39 @@
-use mathlib.Core.Path.{sym, _∙_}
+-- The three comparisons are the definition's.
 use borrow.Author.Tests.{eq-eqb, ne-eqb}
 use Rattle.plan.specs.Walk.{placed}
 use borrow.Author.Needs.{needs}
 use Rattle.plan.proofs.walking.is_placed.Statement.{statement}
 use Rattle.plan.proofs.walking.is_placed.Tie as tie
-use Rattle.plan.proofs.walking.is_placed.Reads as reads
-use Rattle.plan.proofs.walking.is_placed.Lts as lts
-use Rattle.plan.proofs.walking.word_at.Reads as word-at-reads
 
--- src/walking.rt:40:23
 add-word-at : tie.Need-add-word-at
 add-word-at c = search needs
 
--- src/walking.rt:40:8
 word-at-requires : tie.Need-word-at-requires
 word-at-requires c κs = search needs
 
--- src/walking.rt:41:9
 returns : tie.Need-returns
 unfolding placed
 returns c = rw (← c .before .word-at .ensures, ne-eqb _ _ (c .if1 .taken))
 
--- src/walking.rt:43:23
 add-word-at-2 : tie.Need-add-word-at-2
 add-word-at-2 c = search needs
 
--- src/walking.rt:43:8
 word-at-requires-2 : tie.Need-word-at-requires-2
 word-at-requires-2 c κs = search needs
 
--- src/walking.rt:44:9
 returns-2 : tie.Need-returns-2
 unfolding placed
 returns-2 c = let e1 = c .before .before .before .before in rw (← e1 .before .word-at .ensures, eq-eqb _ _ (e1 .if1 .left), ← c .before .before .word-at2 .ensures, ne-eqb _ _ (c .if2 .taken))
 
--- src/walking.rt:46:31
 add-word-at-3 : tie.Need-add-word-at-3
 add-word-at-3 c = search needs
 
--- src/walking.rt:46:20
 add-word-at-4 : tie.Need-add-word-at-4
 add-word-at-4 c = search needs
 
--- src/walking.rt:46:5
 word-at-requires-3 : tie.Need-word-at-requires-3
 word-at-requires-3 c κs = search needs
 
--- src/walking.rt:36:1
 returns-3 : tie.Need-returns-3
 unfolding placed
 returns-3 c = let e2 = c .before .before .before in let e1 = e2 .before .before .before .before in

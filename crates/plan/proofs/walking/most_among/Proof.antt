@@ -1,3 +1,4 @@
+-- The scan of the whole is the scan of what is left, with the largest value so far.
 use Prim.Native.Nat.{_+_, _-_}
 use native.Mathlib.Omega.{arith}
 use lib.ListN.{getD}
@@ -7,11 +8,6 @@ use Rattle.plan.proofs.Flags.{failed, passed}
 use Rattle.plan.proofs.Runs.{Scanning, scanning-from, scanning-all, scanning-out, scanning-next}
 use Rattle.plan.proofs.walking.most_among.Statement.{statement}
 use Rattle.plan.proofs.walking.most_among.Tie as tie
-use Rattle.plan.proofs.walking.most_among.Reads as reads
-use Rattle.plan.proofs.walking.most_among.Lts as lts
-use Rattle.plan.proofs.fields.is_within.Reads as is-within-reads
-use Rattle.plan.proofs.fields.larger_of.Reads as larger-of-reads
-use Rattle.plan.proofs.walking.word_at.Reads as word-at-reads
 
 abbrev Inv-loop : tie.InvT-loop
 Inv-loop table w values least most₀ i₀ most i = Scanning (λ j. getD table j 0) 1 w values least most (w + i) i
@@ -19,44 +15,34 @@ Inv-loop table w values least most₀ i₀ most i = Scanning (λ j. getD table j
 abbrev μ-loop : tie.MeasureT-loop
 μ-loop table w values least most₀ i₀ most i = values - i
 
--- src/walking.rt:56:5
 loop-holds : tie.Need-loop-holds Inv-loop μ-loop
 loop-holds c = scanning-from _ _ _ _ _ _ (omega arith)
 
--- src/walking.rt:57:36
 add-word-at : tie.Need-add-word-at Inv-loop μ-loop
 add-word-at c = omega (arith, c .before .loop .inv .low)
 
--- src/walking.rt:57:13
 word-at-requires : tie.Need-word-at-requires Inv-loop μ-loop
 word-at-requires c κs = search needs
 
--- src/walking.rt:58:13
 is-within-requires : tie.Need-is-within-requires Inv-loop μ-loop
 is-within-requires c κs = search needs
 
--- src/walking.rt:59:13
 returns : tie.Need-returns Inv-loop μ-loop
 unfolding wordsAt
 returns c = let p = c .before .before in scanning-out (p .before .before .loop .inv) (p .before .loop-test .taken) (p .word-at .ensures) (failed (c .before .is-within .ensures) (c .if1 .taken))
 
--- src/walking.rt:61:9
 larger-of-requires : tie.Need-larger-of-requires Inv-loop μ-loop
 larger-of-requires c κs = search needs
 
--- src/walking.rt:62:9
 add-i : tie.Need-add-i Inv-loop μ-loop
 add-i c = search needs
 
--- src/walking.rt:56:5
 loop-less : tie.Need-loop-less Inv-loop μ-loop
 loop-less c = search needs
 
--- src/walking.rt:56:5
 loop-again : tie.Need-loop-again Inv-loop μ-loop
 loop-again c = let e = c .before in let p = e .before .before in scanning-next (p .before .before .loop .inv) (p .before .loop-test .taken) (p .word-at .ensures) (passed (e .before .is-within .ensures) (e .if1 .left)) (c .larger-of .ensures) (omega arith)
 
--- src/walking.rt:50:1
 returns-2 : tie.Need-returns-2 Inv-loop μ-loop
 unfolding wordsAt
 returns-2 c = scanning-all (c .before .loop .inv) (c .loop-test .left)

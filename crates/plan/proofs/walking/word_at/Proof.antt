@@ -1,25 +1,20 @@
+-- A list reads as 0 past its end.
 use mathlib.Core.Path.{sym}
 use lib.ListN.{List·getD-eq-default}
 use denote.Ref.{now}
 use borrow.Author.Needs.{needs}
 use Rattle.plan.proofs.walking.word_at.Statement.{statement}
 use Rattle.plan.proofs.walking.word_at.Tie as tie
-use Rattle.plan.proofs.walking.word_at.Reads as reads
-use Rattle.plan.proofs.walking.word_at.Lts as lts
 
--- src/walking.rt:30:16
 mul-result : tie.Need-mul-result
 mul-result c = search needs
 
--- src/walking.rt:30:16
 shared-slice-read-result : tie.Need-shared-slice-read-result
 shared-slice-read-result c = search needs
 
--- src/walking.rt:30:9
 returns : tie.Need-returns
 returns c = search needs
 
--- src/walking.rt:26:1
 returns-2 : tie.Need-returns-2
 returns-2 c = sym (List·getD-eq-default (now (c .before .args .table)) 0 (c .if1 .left))
 

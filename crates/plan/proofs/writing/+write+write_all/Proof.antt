@@ -1,3 +1,4 @@
+-- The levels left fall; what stands in the table, with what is left to write, is the whole.
 use Prim.Native.Nat.{_+_, _-_}
 use mathlib.Core.Path.{sym, _∙_}
 use native.Mathlib.Omega.{arith}
@@ -40,7 +41,6 @@ abbrev write-all-below : ℕ → In 2 write-all-kinds.ps
 write-all-below t =
     and 2 write-all-kinds.ps (falls 2 write-all-kinds.ps _<_ μ-write-all t) write-all.Pre
 
--- src/writing.rt:86:11
 write-field-at-requires : (t : ℕ) → write-lts.Need-field-at-requires (
   field-at-reads.Asked,
   field-at-reads.Learnt,
@@ -55,7 +55,6 @@ write-field-at-requires : (t : ℕ) → write-lts.Need-field-at-requires (
 ) (write-at t) write.Post
 write-field-at-requires t c κs = c .before .before .before .pre .1 .inside
 
--- src/writing.rt:87:45
 write-enum-told : (t : ℕ) → write-lts.Need-enum-told (
   field-at-reads.Asked,
   field-at-reads.Learnt,
@@ -70,7 +69,6 @@ write-enum-told : (t : ℕ) → write-lts.Need-enum-told (
 ) (write-at t) write.Post
 write-enum-told t c = search needs
 
--- src/writing.rt:88:22
 write-enum-known-bin : (t : ℕ) → write-lts.Need-enum-known-bin (
   field-at-reads.Asked,
   field-at-reads.Learnt,
@@ -85,7 +83,6 @@ write-enum-known-bin : (t : ℕ) → write-lts.Need-enum-known-bin (
 ) (write-at t) write.Post
 write-enum-known-bin t c = search needs
 
--- src/writing.rt:92:35
 write-enum-told-2 : (t : ℕ) → write-lts.Need-enum-told-2 (
   field-at-reads.Asked,
   field-at-reads.Learnt,
@@ -100,7 +97,6 @@ write-enum-told-2 : (t : ℕ) → write-lts.Need-enum-told-2 (
 ) (write-at t) write.Post
 write-enum-told-2 t c = search needs
 
--- src/writing.rt:93:29
 write-enum-known-child : (t : ℕ) → write-lts.Need-enum-known-child (
   field-at-reads.Asked,
   field-at-reads.Learnt,
@@ -115,7 +111,6 @@ write-enum-known-child : (t : ℕ) → write-lts.Need-enum-known-child (
 ) (write-at t) write.Post
 write-enum-known-child t c = search needs
 
--- src/writing.rt:94:21
 write-put-axes-requires : (t : ℕ) → write-lts.Need-put-axes-requires (
   field-at-reads.Asked,
   field-at-reads.Learnt,
@@ -131,7 +126,6 @@ write-put-axes-requires : (t : ℕ) → write-lts.Need-put-axes-requires (
 write-put-axes-requires t c κs = let k = c .before .before in let b = k .before .before .before .before in let f = b .before .before in
     omega (arith, axes-room _ _ _ (sym (b .bin .given .1) ∙ f .field-at .ensures) (k .child .given .1) (f .before .before .before .before .pre .1))
 
--- src/writing.rt:95:39
 write-add-put-values : (t : ℕ) → write-lts.Need-add-put-values (
   field-at-reads.Asked,
   field-at-reads.Learnt,
@@ -147,7 +141,6 @@ write-add-put-values : (t : ℕ) → write-lts.Need-add-put-values (
 write-add-put-values t c = let k = c .before .before .before .before .before .before .before in let f = k .before .before .before .before .before .before in
     omega (arith, f .before .before .before .before .pre .1 .inside .roomy .words)
 
--- src/writing.rt:95:60
 write-add-put-values-2 : (t : ℕ) → write-lts.Need-add-put-values-2 (
   field-at-reads.Asked,
   field-at-reads.Learnt,
@@ -163,7 +156,6 @@ write-add-put-values-2 : (t : ℕ) → write-lts.Need-add-put-values-2 (
 write-add-put-values-2 t c = let k = c .before .before .before .before .before .before .before in let f = k .before .before .before .before .before .before in
     omega (arith, f .before .before .before .before .pre .1 .inside .reach)
 
--- src/writing.rt:95:21
 write-put-values-requires : (t : ℕ) → write-lts.Need-put-values-requires (
   field-at-reads.Asked,
   field-at-reads.Learnt,
@@ -180,7 +172,6 @@ write-put-values-requires t c κs = let a = c .before .before .before .before in
     let e = sym (b .bin .given .1) ∙ f .field-at .ensures in
     (omega (arith, axes-room _ _ _ e (k .child .given .1) (s .pre .1), a .put-axes .kept .0), omega (arith, axes-few _ _ _ e (k .child .given .1), s .pre .1 .inside .reach))
 
--- src/writing.rt:98:29
 write-enum-known-child-2 : (t : ℕ) → write-lts.Need-enum-known-child-2 (
   field-at-reads.Asked,
   field-at-reads.Learnt,
@@ -195,7 +186,6 @@ write-enum-known-child-2 : (t : ℕ) → write-lts.Need-enum-known-child-2 (
 ) (write-at t) write.Post
 write-enum-known-child-2 t c = search needs
 
--- src/writing.rt:99:21
 write-put-bins-requires : (t : ℕ) → write-lts.Need-put-bins-requires (
   field-at-reads.Asked,
   field-at-reads.Learnt,
@@ -211,7 +201,6 @@ write-put-bins-requires : (t : ℕ) → write-lts.Need-put-bins-requires (
 write-put-bins-requires t c κs = let k = c .before .before in let b = k .before .before .before .before in let f = b .before .before in
     bins-room _ _ _ (sym (b .bin .given .1) ∙ f .field-at .ensures) (k .child2 .given .1) (f .before .before .before .before .pre .1)
 
--- src/writing.rt:100:31
 write-sub-write-all : (t : ℕ) → write-lts.Need-sub-write-all (
   field-at-reads.Asked,
   field-at-reads.Learnt,
@@ -227,7 +216,6 @@ write-sub-write-all : (t : ℕ) → write-lts.Need-sub-write-all (
 write-sub-write-all t c = let k = c .before .before .before .before .before in let b = k .before .before .before .before in let f = b .before .before in
     deep _ _ _ (sym (b .bin .given .1) ∙ f .field-at .ensures) (k .child2 .given .1)
 
--- src/writing.rt:100:50
 write-add-write-all : (t : ℕ) → write-lts.Need-add-write-all (
   field-at-reads.Asked,
   field-at-reads.Learnt,
@@ -243,7 +231,6 @@ write-add-write-all : (t : ℕ) → write-lts.Need-add-write-all (
 write-add-write-all t c = let k = c .before .before .before .before .before .before in let f = k .before .before .before .before .before .before in
     omega (arith, f .before .before .before .before .pre .1 .inside .roomy .words)
 
--- src/writing.rt:100:21
 write-write-all-requires : (t : ℕ) → write-lts.Need-write-all-requires (
   field-at-reads.Asked,
   field-at-reads.Learnt,
@@ -260,7 +247,6 @@ write-write-all-requires t c κs = let u = c .before .before .before .before in 
     let e = sym (b .bin .given .1) ∙ f .field-at .ensures in
     (omega (arith, deep _ _ _ e (k .child2 .given .1), s .pre .0), all-writable _ _ _ e (k .child2 .given .1) (s .pre .1) _ (u .put-bins .kept .0))
 
--- src/writing.rt:80:1
 write-returns : (t : ℕ) → write-lts.Need-returns (
   field-at-reads.Asked,
   field-at-reads.Learnt,
@@ -275,7 +261,6 @@ write-returns : (t : ℕ) → write-lts.Need-returns (
 ) (write-at t) write.Post
 write-returns t c = let f = c .before .before in wrote-stop _ _ _ _ (f .before .before .before .before .pre .1) (sym (c .enum-told .given .1) ∙ f .field-at .ensures)
 
--- src/writing.rt:80:1
 write-returns-2 : (t : ℕ) → write-lts.Need-returns-2 (
   field-at-reads.Asked,
   field-at-reads.Learnt,
@@ -290,7 +275,6 @@ write-returns-2 : (t : ℕ) → write-lts.Need-returns-2 (
 ) (write-at t) write.Post
 write-returns-2 t c = let b = c .before .before .before .before in let w = wrote-nothing _ _ _ (sym (b .bin .given .1) ∙ b .before .before .field-at .ensures) _ (c .enum-told2 .given .1) in (w .place, w .table)
 
--- src/writing.rt:80:1
 write-same-length : (t : ℕ) → write-lts.Need-same-length (
   field-at-reads.Asked,
   field-at-reads.Learnt,
@@ -305,7 +289,6 @@ write-same-length : (t : ℕ) → write-lts.Need-same-length (
 ) (write-at t) write.Post
 write-same-length t c = let v = c .before .before in let a = v .before .before .before .before .before in v .put-values .kept .0 ∙ a .put-axes .kept .0
 
--- src/writing.rt:80:1
 write-returns-3 : (t : ℕ) → write-lts.Need-returns-3 (
   field-at-reads.Asked,
   field-at-reads.Learnt,
@@ -321,7 +304,6 @@ write-returns-3 : (t : ℕ) → write-lts.Need-returns-3 (
 write-returns-3 t c = let v = c .before .before in let a = v .before .before .before .before .before in let k = a .before .before .before in let b = k .before .before .before .before in
     let w = wrote-axes _ _ _ (sym (b .bin .given .1) ∙ b .before .before .field-at .ensures) (k .child .given .1) _ _ _ (a .put-axes .ensures) (v .put-values .ensures) in (w .place, w .table)
 
--- src/writing.rt:80:1
 write-same-length-2 : (t : ℕ) → write-lts.Need-same-length-2 (
   field-at-reads.Asked,
   field-at-reads.Learnt,
@@ -336,7 +318,6 @@ write-same-length-2 : (t : ℕ) → write-lts.Need-same-length-2 (
 ) (write-at t) write.Post
 write-same-length-2 t c = let r = c .before .before in let u = r .before .before .before .before .before in r .write-all .kept .1 .1 .1 .1 .1 .0 ∙ u .put-bins .kept .0
 
--- src/writing.rt:80:1
 write-returns-4 : (t : ℕ) → write-lts.Need-returns-4 (
   field-at-reads.Asked,
   field-at-reads.Learnt,
@@ -358,7 +339,6 @@ write-all-Inv-loop level n slot bytes table₀ here₀ i₀ table here i = Writi
 abbrev write-all-μ-loop : write-all-lts.MeasureT-loop
 write-all-μ-loop level n slot bytes table₀ here₀ i₀ table here i = n - i
 
--- src/writing.rt:121:5
 write-all-loop-holds : (t : ℕ) → write-all-lts.Need-loop-holds (
   link-at-reads.Asked,
   link-at-reads.Learnt,
@@ -367,7 +347,6 @@ write-all-loop-holds : (t : ℕ) → write-all-lts.Need-loop-holds (
 ) (write-all-at t) write-all.Post write-all-Inv-loop write-all-μ-loop
 write-all-loop-holds t c = writing-from _ _ _ _ _ _ (c .before .before .pre .1)
 
--- src/writing.rt:122:13
 write-all-link-at-requires : (t : ℕ) → write-all-lts.Need-link-at-requires (
   link-at-reads.Asked,
   link-at-reads.Learnt,
@@ -376,7 +355,6 @@ write-all-link-at-requires : (t : ℕ) → write-all-lts.Need-link-at-requires (
 ) (write-all-at t) write-all.Post write-all-Inv-loop write-all-μ-loop
 write-all-link-at-requires t c κs = search needs
 
--- src/writing.rt:123:15
 write-all-add-table : (t : ℕ) → write-all-lts.Need-add-table (
   link-at-reads.Asked,
   link-at-reads.Learnt,
@@ -385,7 +363,6 @@ write-all-add-table : (t : ℕ) → write-all-lts.Need-add-table (
 ) (write-all-at t) write-all.Post write-all-Inv-loop write-all-μ-loop
 write-all-add-table t c = omega (arith, slot-in (c .before .before .loop .inv) (c .before .loop-test .taken))
 
--- src/writing.rt:123:9
 write-all-mul-table : (t : ℕ) → write-all-lts.Need-mul-table (
   link-at-reads.Asked,
   link-at-reads.Learnt,
@@ -394,7 +371,6 @@ write-all-mul-table : (t : ℕ) → write-all-lts.Need-mul-table (
 ) (write-all-at t) write-all.Post write-all-Inv-loop write-all-μ-loop
 write-all-mul-table t c = omega (arith, slot-in (c .before .before .loop .inv) (c .before .loop-test .taken))
 
--- src/writing.rt:123:9
 write-all-slice-write-table : (t : ℕ) → write-all-lts.Need-slice-write-table (
   link-at-reads.Asked,
   link-at-reads.Learnt,
@@ -403,7 +379,6 @@ write-all-slice-write-table : (t : ℕ) → write-all-lts.Need-slice-write-table
 ) (write-all-at t) write-all.Post write-all-Inv-loop write-all-μ-loop
 write-all-slice-write-table t c = slot-in (c .before .before .loop .inv) (c .before .loop-test .taken)
 
--- src/writing.rt:124:9
 write-all-write-requires : (t : ℕ) → write-all-lts.Need-write-requires (
   link-at-reads.Asked,
   link-at-reads.Learnt,
@@ -412,7 +387,6 @@ write-all-write-requires : (t : ℕ) → write-all-lts.Need-write-requires (
 ) (write-all-at t) write-all.Post write-all-Inv-loop write-all-μ-loop
 write-all-write-requires t c κs = let a = c .before .before .before in (omega (arith, a .before .before .before .pre .0), writing-child (a .loop .inv) (c .before .before .loop-test .taken) _)
 
--- src/writing.rt:125:9
 write-all-add-i : (t : ℕ) → write-all-lts.Need-add-i (
   link-at-reads.Asked,
   link-at-reads.Learnt,
@@ -421,7 +395,6 @@ write-all-add-i : (t : ℕ) → write-all-lts.Need-add-i (
 ) (write-all-at t) write-all.Post write-all-Inv-loop write-all-μ-loop
 write-all-add-i t c = search needs
 
--- src/writing.rt:121:5
 write-all-loop-less : (t : ℕ) → write-all-lts.Need-loop-less (
   link-at-reads.Asked,
   link-at-reads.Learnt,
@@ -430,7 +403,6 @@ write-all-loop-less : (t : ℕ) → write-all-lts.Need-loop-less (
 ) (write-all-at t) write-all.Post write-all-Inv-loop write-all-μ-loop
 write-all-loop-less t c = search needs
 
--- src/writing.rt:121:5
 write-all-loop-again : (t : ℕ) → write-all-lts.Need-loop-again (
   link-at-reads.Asked,
   link-at-reads.Learnt,
@@ -440,7 +412,6 @@ write-all-loop-again : (t : ℕ) → write-all-lts.Need-loop-again (
 write-all-loop-again t c = let w = c .before .before in let k = w .before .before in let a = k .before .before in
     writing-next (a .loop .inv) (k .before .loop-test .taken) _ (k .link-at .ensures) _ (w .write .ensures .0) _ (w .write .ensures .1)
 
--- src/writing.rt:108:1
 write-all-same-length : (t : ℕ) → write-all-lts.Need-same-length (
   link-at-reads.Asked,
   link-at-reads.Learnt,
@@ -449,7 +420,6 @@ write-all-same-length : (t : ℕ) → write-all-lts.Need-same-length (
 ) (write-all-at t) write-all.Post write-all-Inv-loop write-all-μ-loop
 write-all-same-length t c = c .before .loop .inv .same
 
--- src/writing.rt:108:1
 write-all-returns : (t : ℕ) → write-all-lts.Need-returns (
   link-at-reads.Asked,
   link-at-reads.Learnt,

@@ -1,3 +1,4 @@
+-- Seven stores one after the other are one run of stores.
 use mathlib.Core.Path.{_≡_}
 use Prim.Native.Nat.{_+_, suc}
 use native.Mathlib.Omega.{arith}
@@ -6,94 +7,70 @@ use Rattle.plan.specs.Table.{headBins}
 use borrow.Author.Needs.{needs}
 use Rattle.plan.proofs.writing.put_bins.Statement.{statement}
 use Rattle.plan.proofs.writing.put_bins.Tie as tie
-use Rattle.plan.proofs.writing.put_bins.Reads as reads
-use Rattle.plan.proofs.writing.put_bins.Lts as lts
 
--- src/writing.rt:59:5
 mul-table : tie.Need-mul-table
 mul-table c = search needs
 
--- src/writing.rt:59:5
 slice-write-table : tie.Need-slice-write-table
 slice-write-table c = search needs
 
--- src/writing.rt:60:11
 add-table : tie.Need-add-table
 add-table c = search needs
 
--- src/writing.rt:60:5
 mul-table-2 : tie.Need-mul-table-2
 mul-table-2 c = search needs
 
--- src/writing.rt:60:5
 slice-write-table-2 : tie.Need-slice-write-table-2
 slice-write-table-2 c = simp length-set (omega arith)
 
--- src/writing.rt:61:11
 add-table-2 : tie.Need-add-table-2
 add-table-2 c = search needs
 
--- src/writing.rt:61:5
 mul-table-3 : tie.Need-mul-table-3
 mul-table-3 c = search needs
 
--- src/writing.rt:61:5
 slice-write-table-3 : tie.Need-slice-write-table-3
 slice-write-table-3 c = simp length-set (omega arith)
 
--- src/writing.rt:62:11
 add-table-3 : tie.Need-add-table-3
 add-table-3 c = search needs
 
--- src/writing.rt:62:5
 mul-table-4 : tie.Need-mul-table-4
 mul-table-4 c = search needs
 
--- src/writing.rt:62:5
 slice-write-table-4 : tie.Need-slice-write-table-4
 slice-write-table-4 c = simp length-set (omega arith)
 
--- src/writing.rt:63:11
 add-table-4 : tie.Need-add-table-4
 add-table-4 c = search needs
 
--- src/writing.rt:63:5
 mul-table-5 : tie.Need-mul-table-5
 mul-table-5 c = search needs
 
--- src/writing.rt:63:5
 slice-write-table-5 : tie.Need-slice-write-table-5
 slice-write-table-5 c = simp length-set (omega arith)
 
--- src/writing.rt:64:11
 add-table-5 : tie.Need-add-table-5
 add-table-5 c = search needs
 
--- src/writing.rt:64:5
 mul-table-6 : tie.Need-mul-table-6
 mul-table-6 c = search needs
 
--- src/writing.rt:64:5
 slice-write-table-6 : tie.Need-slice-write-table-6
 slice-write-table-6 c = simp length-set (omega arith)
 
--- src/writing.rt:65:11
 add-table-6 : tie.Need-add-table-6
 add-table-6 c = search needs
 
--- src/writing.rt:65:5
 mul-table-7 : tie.Need-mul-table-7
 mul-table-7 c = search needs
 
--- src/writing.rt:65:5
 slice-write-table-7 : tie.Need-slice-write-table-7
 slice-write-table-7 c = simp length-set (omega arith)
 
--- src/writing.rt:54:1
 same-length : tie.Need-same-length
 same-length c = search needs
 
--- src/writing.rt:54:1
 returns : tie.Need-returns
 unfolding headBins
 returns c = let e1 : c .args .t .words + 1 ≡ suc (c .args .t .words) = omega arith in let e2 : c .args .t .words + 2 ≡ suc (suc (c .args .t .words)) = omega arith in let e3 : c .args .t .words + 3 ≡ suc (suc (suc (c .args .t .words))) = omega arith in let e4 : c .args .t .words + 4 ≡ suc (suc (suc (suc (c .args .t .words)))) = omega arith in let e5 : c .args .t .words + 5 ≡ suc (suc (suc (suc (suc (c .args .t .words))))) = omega arith in let e6 : c .args .t .words + 6 ≡ suc (suc (suc (suc (suc (suc (c .args .t .words)))))) = omega arith in

@@ -1,3 +1,4 @@
+-- What is stored and what is left to store are the whole run.
 use Prim.Native.Nat.{_+_, _-_, _*_}
 use native.Mathlib.Omega.{arith}
 use borrow.Author.Needs.{needs}
@@ -5,9 +6,6 @@ use Rattle.plan.specs.Numbers.{numberAt, valuesAt}
 use Rattle.plan.proofs.Runs.{Copying, copying-from, copying-all, copying-next}
 use Rattle.plan.proofs.writing.put_values.Statement.{statement}
 use Rattle.plan.proofs.writing.put_values.Tie as tie
-use Rattle.plan.proofs.writing.put_values.Reads as reads
-use Rattle.plan.proofs.writing.put_values.Lts as lts
-use Rattle.plan.proofs.bytes.pair_at.Reads as pair-at-reads
 
 abbrev Inv-loop : tie.InvT-loop
 Inv-loop table₀ w bytes at values i₀ table i = Copying (λ j. numberAt bytes j 2) 2 at values w table₀ table (at + 2 * i) i
@@ -15,51 +13,39 @@ Inv-loop table₀ w bytes at values i₀ table i = Copying (λ j. numberAt bytes
 abbrev μ-loop : tie.MeasureT-loop
 μ-loop table₀ w bytes at values i₀ table i = values - i
 
--- src/writing.rt:46:5
 loop-holds : tie.Need-loop-holds Inv-loop μ-loop
 loop-holds c = copying-from _ _ _ _ _ _ _ (omega arith)
 
--- src/writing.rt:47:41
 mul-pair-at : tie.Need-mul-pair-at Inv-loop μ-loop
 mul-pair-at c = search needs
 
--- src/writing.rt:47:36
 add-pair-at : tie.Need-add-pair-at Inv-loop μ-loop
 add-pair-at c = omega (arith, c .before .loop .inv .low)
 
--- src/writing.rt:47:13
 pair-at-requires : tie.Need-pair-at-requires Inv-loop μ-loop
 pair-at-requires c κs = omega (arith, c .before .loop .inv .low)
 
--- src/writing.rt:48:15
 add-table : tie.Need-add-table Inv-loop μ-loop
 add-table c = omega (arith, c .before .before .loop .inv .size)
 
--- src/writing.rt:48:9
 mul-table : tie.Need-mul-table Inv-loop μ-loop
 mul-table c = omega (arith, c .before .before .loop .inv .size)
 
--- src/writing.rt:48:9
 slice-write-table : tie.Need-slice-write-table Inv-loop μ-loop
 slice-write-table c = omega (arith, c .before .before .loop .inv .size)
 
--- src/writing.rt:49:9
 add-i : tie.Need-add-i Inv-loop μ-loop
 add-i c = search needs
 
--- src/writing.rt:46:5
 loop-less : tie.Need-loop-less Inv-loop μ-loop
 loop-less c = search needs
 
--- src/writing.rt:46:5
 loop-again : tie.Need-loop-again Inv-loop μ-loop
 loop-again c = copying-next (c .before .before .loop .inv) (c .before .loop-test .taken) (c .pair-at .ensures .0) (omega arith)
 
--- src/writing.rt:41:1
 same-length : tie.Need-same-length Inv-loop μ-loop
 same-length c = c .before .loop .inv .size
 
--- src/writing.rt:41:1
 returns : tie.Need-returns Inv-loop μ-loop
 unfolding valuesAt
 returns c = copying-all (c .before .loop .inv) (c .loop-test .left)
