@@ -33,9 +33,9 @@ fn below(list: &[u8], index: usize, bound: u64) -> usize
     0
 }
 
-fn section(list: &[u8], at: usize) -> Section
+fn head(list: &[u8], at: usize) -> Section
     requires { ⌜ at < 65536 ⌝ }
-    ensures { λ r. ⌜ (r .size ≤ 2048) × (r .depth ≤ 8) × (r .cases ≤ 65536) × (r .base ≡ at + 5) × (r .codes ≤ at + 261) ⌝ }
+    ensures { λ r. ⌜ (r .size ≤ 2048) × (r .depth ≤ 8) × (r .cases ≤ 65536) × (r .base ≡ at + 5) × (at + 5 ≤ r .codes) × (r .codes ≤ at + 261) ⌝ }
 {
     let size = below(list, at + 3, 2048);
     let base = at + 5;
@@ -183,8 +183,9 @@ fn spoilt(base: &[u8], size: usize, case: usize, table: &mut [u64]) -> u64
     let i = case / 6;
     if i < table.len() {
         table[i] = other(table[i], case % 6);
+        return codes::of_table(table);
     }
-    codes::of_table(table)
+    0
 }
 
 // The code of a case.
@@ -199,6 +200,15 @@ fn answer(s: Section, case: usize, base: &[u8], out: &mut [u8], table: &mut [u64
     codes::of_plan(&out[..n], s.whole, table)
 }
 
+fn equal(a: u64, b: u64) -> u64
+    ensures { λ r. ⌜ r ≤ 1 ⌝ }
+{
+    if a == b {
+        return 1;
+    }
+    0
+}
+
 // How many cases of a section agree.
 fn run(list: &[u8], s: Section, base: &[u8], out: &mut [u8], table: &mut [u64]) -> u64
     requires { ⌜ (s .size ≤ 2048) × (s .depth ≤ 8) × (s .cases ≤ 65536) × (s .codes < 131072) × (length (now base) ≡ 2048) × (length (now out) ≡ 2048) × (length (now table) ≡ 1024) ⌝ }
@@ -210,9 +220,7 @@ fn run(list: &[u8], s: Section, base: &[u8], out: &mut [u8], table: &mut [u64]) 
     let mut case = 0;
     while case < cases {
         let told = code_of(list, codes + case / 4, (case % 4) as u64);
-        if answer(s, case, base, out, table) == told {
-            agreed += 1;
-        }
+        agreed += equal(answer(s, case, base, out, table), told);
         case += 1;
     }
     agreed
@@ -231,7 +239,7 @@ pub fn replay(list: &[u8]) -> Replayed {
         if 65535 < at {
             return Replayed { agreed, all };
         }
-        let s = section(list, at);
+        let s = head(list, at);
         load(list, s.base, &mut base);
         agreed += run(list, s, &base, &mut out, &mut table);
         all += s.cases as u64;

@@ -1,6 +1,6 @@
 // What an answer comes to as one number below 65,536: 4096 times a refusal's number plus its offset, or what a digest leaves.
 ghost use mathlib.Core.Path.{_≡_};
-ghost use Prim.Native.Nat.{_<_, _≤_};
+ghost use Prim.Native.Nat.{_<_};
 ghost use lib.ListN.{length};
 use plan::Needs;
 use plan::Read;
