@@ -1,6 +1,6 @@
 -- Sampling: the Rust's `sample` of either grid, with the document's draw and last-bin rule.
 use Prim.Native.Nat.{ℕ, zero, suc}
-use mathlib.Core.Bool.{Bool, true, cond}
+use mathlib.Core.Bool.{Bool, true, false, cond}
 use mathlib.Core.List.{List, [], _∷_}
 use lib.ListN.{getD}
 use lib.Ieee.{Float, nan, binary64, add, sub, mul, div, lt, le, eq}
@@ -51,27 +51,25 @@ pub record Placed : Type 0 where
 abbrev pub ahead : Float → Placed → Placed
 ahead x p = record { coordinates = x ∷ p .coordinates; weight = p .weight; stream = p .stream }
 
--- adaptive: each axis's own draw
-unfoldable pub adaptive : List Axis → Float → MonteCarloRng → Placed
-adaptive [] w s = record { coordinates = []; weight = w; stream = s }
-adaptive (ax ∷ rest) w s =
-    let p = pointOf (ax .edges) (unitAt s) in
-    ahead (p .at) (adaptive rest (mul binary64 w (p .weight)) (stepOf s))
+-- a coordinate and its weight: even sampling takes the unit draw itself with the weight of its bin, else it is the axis's own draw
+unfoldable pub placeOn : Bool → List Float → Float → Point
+placeOn evenly es u = cond evenly (record { at = u; weight = weightOf es (binOf es u) }) (pointOf es u)
 
--- even: the unit draw itself, with the weight of its bin
-unfoldable pub even : List Axis → Float → MonteCarloRng → Placed
-even [] w s = record { coordinates = []; weight = w; stream = s }
-even (ax ∷ rest) w s =
-    let x = unitAt s in
-    ahead x (even rest (mul binary64 w (weightOf (ax .edges) (binOf (ax .edges) x))) (stepOf s))
+unfoldable pub walked : Bool → List Axis → Float → MonteCarloRng → Placed
+walked evenly [] w s = record { coordinates = []; weight = w; stream = s }
+walked evenly (ax ∷ rest) w s =
+    let p = placeOn evenly (ax .edges) (unitAt s) in
+    ahead (p .at) (walked evenly rest (mul binary64 w (p .weight)) (stepOf s))
 
 -- floor 0 draws no choice word, nor does floor 1; else one draw below the floor selects even sampling
+unfoldable pub placedFrom : Float → List Axis → MonteCarloRng → Placed
+placedFrom f xs s =
+    cond (eq f zero64) (walked false xs one64 s)
+    (cond (eq f one64) (walked true xs one64 s)
+    (walked (lt (unitAt s) f) xs one64 (stepOf s)))
+
 unfoldable pub placedOf : AxesGrid → MonteCarloRng → Placed
-placedOf g s =
-    let f = g .plan .floor in
-    cond (eq f zero64) (adaptive (g .axes) one64 s)
-    (cond (eq f one64) (even (g .axes) one64 s)
-    (cond (lt (unitAt s) f) (even (g .axes) one64 (stepOf s)) (adaptive (g .axes) one64 (stepOf s))))
+placedOf g s = placedFrom (g .plan .floor) (g .axes) s
 
 unfoldable pub drawAxes : AxesGrid → MonteCarloRng → Drawing
 drawAxes g s =

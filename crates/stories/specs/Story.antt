@@ -234,7 +234,7 @@ unfolding
     Grids.copyGrid
     Sound.allSound Sound.keptAxis Sound.keptAxisList Sound.keptGrid Sound.keptBins Sound.keptChild Sound.chance Sound.listed Sound.formedAxis
     Sound.formedAxisList Sound.formedGrid Sound.formedBins Sound.formedChild Sound.sound
-    Draw.weightAt Draw.unitAt Draw.flooredOf Draw.adaptive Draw.even Draw.placedOf Draw.drawAxes Draw.reached Draw.drawNothing Draw.drawGrid
+    Draw.weightAt Draw.unitAt Draw.flooredOf Draw.placeOn Draw.walked Draw.placedFrom Draw.placedOf Draw.drawAxes Draw.reached Draw.drawNothing Draw.drawGrid
     Draw.drawBin Draw.drawChild
     Probe.probeAll Probe.probeAxes Probe.probeGrid Probe.probeBin Probe.probeChild
     Train.faultOfAll Train.faultOfAxes Train.faultOf Train.faultOfBin Train.faultOfChild Train.trainAxis Train.trainAll Train.trainAxes

@@ -1,0 +1,88 @@
+-- A draw axis by axis: what is set and what is to come make the model's draw.
+use mathlib.Core.Path.{_≡_, refl, sym, ap, _∙_}
+use mathlib.Core.List.{List, [], _∷_, _++_, append-nil, append-assoc}
+use mathlib.Core.Bool.{Bool, true, _&&_}
+use Prim.Native.Nat.{ℕ, suc, _+_, _-_, _*_, _^_, _≤_, _<_}
+use native.Mathlib.Nat.{mod-lt}
+use native.Mathlib.Numerals.{add-one}
+use native.Mathlib.Omega.{arith}
+use lib.ListN.{length, take, drop, set, getD}
+use lib.Seq.{take-suc-set}
+use lib.Ieee.{Float, binary64, mul, le, ofBits}
+use lib.Pow.{pow-pos}
+use Rattle.real.specs.Numbers.{zero64, one64}
+use Rattle.real.proofs.Truth.{is}
+use Rattle.real.proofs.Order.{le-trans-float}
+use Rattle.stream.specs.declared.MonteCarloRng.{MonteCarloRng}
+use Rattle.stream.specs.declared.Unit.{Unit}
+use Rattle.stream.specs.Words.{times}
+use Rattle.stream.specs.Xoshiro.{wordOf, stepOf}
+use Rattle.stream.specs.Calls.{unitOf, unitDrawnOf}
+use Rattle.stream.proofs.Units.{largest, unit-low, unit-high}
+use Rattle.axis.specs.declared.Point.{Point}
+use Rattle.axis.specs.Edges.{wellFormed, inUnit}
+use Rattle.model.specs.Axes.{Axis}
+use Rattle.model.specs.Draw.{Placed, unitAt, placeOn, walked}
+use Rattle.grid.specs.Layout.{stretch, axisReals, axisCounts, axisAt, axesFrom}
+
+-- coordinates in front of a draw
+abbrev pub behind : List Float → Placed → Placed
+behind xs p = record { coordinates = xs ++ p .coordinates; weight = p .weight; stream = p .stream }
+
+-- a word has 64 bits, and its unit draw is a number in [0, 1]
+word-below : (s : MonteCarloRng) → wordOf s < 2 ^ 64
+unfolding wordOf times
+word-below s = mod-lt _ (pow-pos 64)
+
+below-one : le largest one64 ≡ true
+unfolding le ofBits
+below-one = refl
+
+pub unit-in : (w : ℕ) → w < 2 ^ 64 → inUnit (unitOf w) ≡ true
+unfolding inUnit
+unit-in w h =
+    ap (λ (b : Bool). b && le (unitOf w) one64) {x = le zero64 (unitOf w)} (is (unit-low w h))
+    ∙ le-trans-float (unitOf w) largest one64 (is (unit-high w h)) below-one
+
+module _ (m : ℕ) (reals : List Float) (counts : List ℕ) (evenly : Bool) where
+  -- the axes that are left, the first of them apart
+  left-on : (k d r c : ℕ) → d < k
+      → axesFrom m reals counts (k - d) r c ≡ axisAt m reals counts r c ∷ axesFrom m reals counts (k - (d + 1)) (r + (6 * m + 1)) (c + (3 * m + 2))
+  unfolding axesFrom axisReals axisCounts
+  left-on k d r c h = let e : k - d ≡ suc (k - (d + 1)) = omega arith in rw e
+
+  walked-on : (k d r c : ℕ) (cs : List Float) (w : Float) (s : MonteCarloRng) (p : Point) → d < k → d < length cs
+      → p ≡ placeOn evenly (stretch r (getD counts c 0 + 1) reals) (unitAt s)
+      → behind (take (d + 1) (set cs d (p .at))) (walked evenly (axesFrom m reals counts (k - (d + 1)) (r + (6 * m + 1)) (c + (3 * m + 2))) (mul binary64 w (p .weight)) (stepOf s))
+      ≡ behind (take d cs) (walked evenly (axesFrom m reals counts (k - d) r c) w s)
+  unfolding walked axisAt
+  walked-on k d r c cs w s p h i e = rw (left-on k d r c h, e, add-one, take-suc-set cs d, append-assoc)
+
+  -- the same from what the code draws: the unit draw, and the point on the part of the edges that is lent
+  pub drawn-on : (k d r c : ℕ) (cs : List Float) (w : Float) (s : MonteCarloRng) (u : Unit) (p : Point) → d < k → d < length cs
+      → u ≡ unitDrawnOf s → p ≡ placeOn evenly (take (r + getD counts c 0 + 1 - r) (drop r reals)) (u .value)
+      → behind (take (d + 1) (set cs d (p .at))) (walked evenly (axesFrom m reals counts (k - (d + 1)) (r + (6 * m + 1)) (c + (3 * m + 2))) (mul binary64 w (p .weight)) (u .stream))
+      ≡ behind (take d cs) (walked evenly (axesFrom m reals counts (k - d) r c) w s)
+  unfolding unitDrawnOf unitAt stretch
+  drawn-on k d r c cs w s u p h i drawn point =
+      let e : r + getD counts c 0 + 1 - r ≡ getD counts c 0 + 1 = omega arith in
+      let there : p ≡ placeOn evenly (stretch r (getD counts c 0 + 1) reals) (unitAt s) = rw (drawn, e) at point in
+      rw drawn (walked-on k d r c cs w s p h i there)
+
+  -- no axis left
+  pub drawn-out : (k d r c : ℕ) (cs : List Float) (w : Float) (s : MonteCarloRng) → d ≤ k → k ≤ d
+      → behind (take d cs) (walked evenly (axesFrom m reals counts (k - d) r c) w s) ≡ record { coordinates = take k cs; weight = w; stream = s }
+  unfolding walked axesFrom
+  drawn-out k d r c cs w s h i =
+      let e : k - d ≡ 0 = omega arith in
+      let same : d ≡ k = omega arith in
+      rw (e, same) (ap (λ (xs : List Float). record { coordinates = xs; weight = w; stream = s }) (append-nil (take k cs)))
+
+-- what a place on the next axis asks: its edges are well formed, and the unit draw lies on it
+pub asked-part : (r n : ℕ) (reals : List Float) → wellFormed (stretch r (n + 1) reals) ≡ true → wellFormed (take (r + n + 1 - r) (drop r reals)) ≡ true
+unfolding stretch
+asked-part r n reals f = let e : r + n + 1 - r ≡ n + 1 = omega arith in rw e f
+
+pub asked-unit : (s : MonteCarloRng) (u : Unit) → u ≡ unitDrawnOf s → inUnit (u .value) ≡ true
+unfolding unitDrawnOf
+asked-unit s u drawn = rw drawn (unit-in (wordOf s) (word-below s))

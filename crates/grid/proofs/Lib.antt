@@ -1,0 +1,3 @@
+-- Laws on lent memory.
+pub mod Standing
+pub mod Draws

@@ -1,0 +1,162 @@
+use Rattle.axis.specs.declared.Point.{Point}
+use native.Mathlib.Omega.{arith}
+use native.Mathlib.Numerals.{unary-clauses}
+use mathlib.Core.Path.{_≡_, refl, sym, ap, ap₂, _∙_}
+use mathlib.Core.List.{List, append-nil}
+use Prim.Native.Nat.{ℕ, _+_, _-_, _*_, _≤_}
+use lib.ListN.{length, take, drop, getD, length-set}
+use lib.Ieee.{Float}
+use Rattle.real.specs.Numbers.{one64}
+use Rattle.stream.specs.declared.MonteCarloRng.{MonteCarloRng}
+use Rattle.stream.specs.declared.Unit.{Unit}
+use Rattle.stream.specs.Xoshiro.{stepOf}
+use Rattle.stream.specs.Calls.{unitDrawnOf}
+use Rattle.model.specs.Draw.{walked}
+use Rattle.grid.specs.Layout.{stretch, axesFrom}
+use Rattle.grid.specs.Drawn.{placedBy, Standing}
+use Rattle.grid.proofs.Standing.{next}
+use Rattle.grid.proofs.Draws.{behind, drawn-on, drawn-out, asked-part, asked-unit}
+use Rattle.grid.proofs.axes.walk_axes.Statement.{statement}
+use Rattle.grid.proofs.axes.walk_axes.Tie as tie
+use Rattle.grid.proofs.axes.walk_axes.Reads as reads
+use Rattle.grid.proofs.axes.walk_axes.Lts as lts
+use Rattle.grid.proofs.axes.place_on.Reads as place-on-reads
+use Rattle.stream.proofs.MonteCarloRng.unit.Reads as unit-reads
+
+abbrev Inv-loop : tie.InvT-loop
+Inv-loop reals counts g evenly coordinates₀ weight₀ stream₀ at₀ place₀ done₀ coordinates weight stream at place done =
+    (done ≤ g .axes) × (length coordinates ≡ 8) × Standing (g .most) reals counts (g .axes - done) at place
+    × (behind (take done coordinates) (walked evenly (axesFrom (g .most) reals counts (g .axes - done) at place) weight stream) ≡ walked evenly (axesFrom (g .most) reals counts (g .axes) (g .reals) (g .counts)) one64 stream₀)
+
+abbrev μ-loop : tie.MeasureT-loop
+μ-loop reals counts g evenly coordinates₀ weight₀ stream₀ at₀ place₀ done₀ coordinates weight stream at place done =
+    g .axes - done
+
+-- src/axes.rt:28:5
+loop-holds : tie.Need-loop-holds Inv-loop μ-loop
+loop-holds c = let e : c .before .before .args .g .axes - 0 ≡ c .before .before .args .g .axes = omega arith in (omega arith, refl, rw e (c .before .before .pre .2), rw e)
+
+-- src/axes.rt:29:20
+mul-held : tie.Need-mul-held Inv-loop μ-loop
+mul-held c = let n = next (c .before .before .before .before .before .args .g .most) (c .before .before .before .before .before .args .reals .now) (c .before .before .before .before .before .args .counts .now) (c .before .before .before .before .before .args .g .axes) (c .before .before .loop .done) (c .before .before .loop .at) (c .before .before .loop .place) (c .if1 .taken) (c .before .before .loop .inv .2) in omega arith
+
+-- src/axes.rt:29:20
+shared-slice-read-held : tie.Need-shared-slice-read-held Inv-loop μ-loop
+shared-slice-read-held c = let n = next (c .before .before .before .before .before .before .args .g .most) (c .before .before .before .before .before .before .args .reals .now) (c .before .before .before .before .before .before .args .counts .now) (c .before .before .before .before .before .before .args .g .axes) (c .before .before .before .loop .done) (c .before .before .before .loop .at) (c .before .before .before .loop .place) (c .before .if1 .taken) (c .before .before .before .loop .inv .2) in omega arith
+
+-- src/axes.rt:30:13
+unit-requires : tie.Need-unit-requires Inv-loop μ-loop
+unit-requires c κs = tt
+
+-- src/axes.rt:31:19
+add-end : tie.Need-add-end Inv-loop μ-loop
+add-end c = let n = next (c .before .before .before .before .before .before .before .args .g .most) (c .before .before .before .before .before .before .before .args .reals .now) (c .before .before .before .before .before .before .before .args .counts .now) (c .before .before .before .before .before .before .before .args .g .axes) (c .before .before .before .before .loop .done) (c .before .before .before .before .loop .at) (c .before .before .before .before .loop .place) (c .before .before .if1 .taken) (c .before .before .before .before .loop .inv .2) in omega arith
+
+-- src/axes.rt:31:19
+add-end-2 : tie.Need-add-end-2 Inv-loop μ-loop
+add-end-2 c = let n = next (c .before .before .before .before .before .before .before .args .g .most) (c .before .before .before .before .before .before .before .args .reals .now) (c .before .before .before .before .before .before .before .args .counts .now) (c .before .before .before .before .before .before .before .args .g .axes) (c .before .before .before .before .loop .done) (c .before .before .before .before .loop .at) (c .before .before .before .before .loop .place) (c .before .before .if1 .taken) (c .before .before .before .before .loop .inv .2) in omega arith
+
+-- src/axes.rt:32:43
+mul-place-on : tie.Need-mul-place-on Inv-loop μ-loop
+mul-place-on c = let n = next (c .before .before .before .before .before .before .before .args .g .most) (c .before .before .before .before .before .before .before .args .reals .now) (c .before .before .before .before .before .before .before .args .counts .now) (c .before .before .before .before .before .before .before .args .g .axes) (c .before .before .before .before .loop .done) (c .before .before .before .before .loop .at) (c .before .before .before .before .loop .place) (c .before .before .if1 .taken) (c .before .before .before .before .loop .inv .2) in omega arith
+
+-- src/axes.rt:32:43
+sub-place-on : tie.Need-sub-place-on Inv-loop μ-loop
+sub-place-on c = let n = next (c .before .before .before .before .before .before .before .args .g .most) (c .before .before .before .before .before .before .before .args .reals .now) (c .before .before .before .before .before .before .before .args .counts .now) (c .before .before .before .before .before .before .before .args .g .axes) (c .before .before .before .before .loop .done) (c .before .before .before .before .loop .at) (c .before .before .before .before .loop .place) (c .before .before .if1 .taken) (c .before .before .before .before .loop .inv .2) in omega arith
+
+-- src/axes.rt:32:43
+part-place-on-start : tie.Need-part-place-on-start Inv-loop μ-loop
+part-place-on-start c = let n = next (c .before .before .before .before .before .before .before .args .g .most) (c .before .before .before .before .before .before .before .args .reals .now) (c .before .before .before .before .before .before .before .args .counts .now) (c .before .before .before .before .before .before .before .args .g .axes) (c .before .before .before .before .loop .done) (c .before .before .before .before .loop .at) (c .before .before .before .before .loop .place) (c .before .before .if1 .taken) (c .before .before .before .before .loop .inv .2) in omega arith
+
+-- src/axes.rt:32:43
+part-place-on-end : tie.Need-part-place-on-end Inv-loop μ-loop
+part-place-on-end c = let n = next (c .before .before .before .before .before .before .before .args .g .most) (c .before .before .before .before .before .before .before .args .reals .now) (c .before .before .before .before .before .before .before .args .counts .now) (c .before .before .before .before .before .before .before .args .g .axes) (c .before .before .before .before .loop .done) (c .before .before .before .before .loop .at) (c .before .before .before .before .loop .place) (c .before .before .if1 .taken) (c .before .before .before .before .loop .inv .2) in omega arith
+
+-- src/axes.rt:32:13
+place-on-requires : tie.Need-place-on-requires Inv-loop μ-loop
+place-on-requires c κs = let n = next (c .before .before .before .before .before .before .before .before .args .g .most) (c .before .before .before .before .before .before .before .before .args .reals .now) (c .before .before .before .before .before .before .before .before .args .counts .now) (c .before .before .before .before .before .before .before .before .args .g .axes) (c .before .before .before .before .before .loop .done) (c .before .before .before .before .before .loop .at) (c .before .before .before .before .before .loop .place) (c .before .before .before .if1 .taken) (c .before .before .before .before .before .loop .inv .2) in
+    (asked-part (c .before .before .before .before .before .loop .at) (getD (c .before .before .before .before .before .before .before .before .args .counts .now) (c .before .before .before .before .before .loop .place) 0) (c .before .before .before .before .before .before .before .before .args .reals .now) (n .edges), asked-unit (c .before .before .before .before .before .loop .stream) (c .before .unit .result) (c .before .unit .ensures))
+
+-- src/axes.rt:33:9
+mul-coordinates : tie.Need-mul-coordinates Inv-loop μ-loop
+mul-coordinates c = omega (arith, c .before .before .before .before .before .before .before .before .before .pre .0, c .before .before .before .before .if1 .taken)
+
+-- src/axes.rt:33:9
+array-write-coordinates : tie.Need-array-write-coordinates Inv-loop μ-loop
+array-write-coordinates c = omega (arith, c .before .before .before .before .before .before .before .before .before .pre .0, c .before .before .before .before .if1 .taken)
+
+-- src/axes.rt:36:20
+mul-at : tie.Need-mul-at Inv-loop μ-loop
+mul-at c = let n = next (c .before .before .before .before .before .before .before .before .before .before .before .before .args .g .most) (c .before .before .before .before .before .before .before .before .before .before .before .before .args .reals .now) (c .before .before .before .before .before .before .before .before .before .before .before .before .args .counts .now) (c .before .before .before .before .before .before .before .before .before .before .before .before .args .g .axes) (c .before .before .before .before .before .before .before .before .before .loop .done) (c .before .before .before .before .before .before .before .before .before .loop .at) (c .before .before .before .before .before .before .before .before .before .loop .place) (c .before .before .before .before .before .before .before .if1 .taken) (c .before .before .before .before .before .before .before .before .before .loop .inv .2) in omega (arith, c .before .before .before .before .before .before .before .before .before .before .before .before .pre .1)
+
+-- src/axes.rt:36:20
+add-at : tie.Need-add-at Inv-loop μ-loop
+add-at c = let n = next (c .before .before .before .before .before .before .before .before .before .before .before .before .args .g .most) (c .before .before .before .before .before .before .before .before .before .before .before .before .args .reals .now) (c .before .before .before .before .before .before .before .before .before .before .before .before .args .counts .now) (c .before .before .before .before .before .before .before .before .before .before .before .before .args .g .axes) (c .before .before .before .before .before .before .before .before .before .loop .done) (c .before .before .before .before .before .before .before .before .before .loop .at) (c .before .before .before .before .before .before .before .before .before .loop .place) (c .before .before .before .before .before .before .before .if1 .taken) (c .before .before .before .before .before .before .before .before .before .loop .inv .2) in omega (arith, c .before .before .before .before .before .before .before .before .before .before .before .before .pre .1)
+
+-- src/axes.rt:36:14
+add-at-2 : tie.Need-add-at-2 Inv-loop μ-loop
+add-at-2 c = let n = next (c .before .before .before .before .before .before .before .before .before .before .before .before .args .g .most) (c .before .before .before .before .before .before .before .before .before .before .before .before .args .reals .now) (c .before .before .before .before .before .before .before .before .before .before .before .before .args .counts .now) (c .before .before .before .before .before .before .before .before .before .before .before .before .args .g .axes) (c .before .before .before .before .before .before .before .before .before .loop .done) (c .before .before .before .before .before .before .before .before .before .loop .at) (c .before .before .before .before .before .before .before .before .before .loop .place) (c .before .before .before .before .before .before .before .if1 .taken) (c .before .before .before .before .before .before .before .before .before .loop .inv .2) in omega (arith, c .before .before .before .before .before .before .before .before .before .before .before .before .pre .1)
+
+-- src/axes.rt:37:26
+mul-place : tie.Need-mul-place Inv-loop μ-loop
+mul-place c = let n = next (c .before .before .before .before .before .before .before .before .before .before .before .before .before .args .g .most) (c .before .before .before .before .before .before .before .before .before .before .before .before .before .args .reals .now) (c .before .before .before .before .before .before .before .before .before .before .before .before .before .args .counts .now) (c .before .before .before .before .before .before .before .before .before .before .before .before .before .args .g .axes) (c .before .before .before .before .before .before .before .before .before .before .loop .done) (c .before .before .before .before .before .before .before .before .before .before .loop .at) (c .before .before .before .before .before .before .before .before .before .before .loop .place) (c .before .before .before .before .before .before .before .before .if1 .taken) (c .before .before .before .before .before .before .before .before .before .before .loop .inv .2) in omega (arith, c .before .before .before .before .before .before .before .before .before .before .before .before .before .pre .1)
+
+-- src/axes.rt:37:26
+add-place : tie.Need-add-place Inv-loop μ-loop
+add-place c = let n = next (c .before .before .before .before .before .before .before .before .before .before .before .before .before .args .g .most) (c .before .before .before .before .before .before .before .before .before .before .before .before .before .args .reals .now) (c .before .before .before .before .before .before .before .before .before .before .before .before .before .args .counts .now) (c .before .before .before .before .before .before .before .before .before .before .before .before .before .args .g .axes) (c .before .before .before .before .before .before .before .before .before .before .loop .done) (c .before .before .before .before .before .before .before .before .before .before .loop .at) (c .before .before .before .before .before .before .before .before .before .before .loop .place) (c .before .before .before .before .before .before .before .before .if1 .taken) (c .before .before .before .before .before .before .before .before .before .before .loop .inv .2) in omega (arith, c .before .before .before .before .before .before .before .before .before .before .before .before .before .pre .1)
+
+-- src/axes.rt:37:17
+add-place-2 : tie.Need-add-place-2 Inv-loop μ-loop
+add-place-2 c = let n = next (c .before .before .before .before .before .before .before .before .before .before .before .before .before .args .g .most) (c .before .before .before .before .before .before .before .before .before .before .before .before .before .args .reals .now) (c .before .before .before .before .before .before .before .before .before .before .before .before .before .args .counts .now) (c .before .before .before .before .before .before .before .before .before .before .before .before .before .args .g .axes) (c .before .before .before .before .before .before .before .before .before .before .loop .done) (c .before .before .before .before .before .before .before .before .before .before .loop .at) (c .before .before .before .before .before .before .before .before .before .before .loop .place) (c .before .before .before .before .before .before .before .before .if1 .taken) (c .before .before .before .before .before .before .before .before .before .before .loop .inv .2) in omega (arith, c .before .before .before .before .before .before .before .before .before .before .before .before .before .pre .1)
+
+-- src/axes.rt:38:9
+add-done : tie.Need-add-done Inv-loop μ-loop
+add-done c = omega (arith, c .before .before .before .before .before .before .before .before .before .before .before .before .before .pre .0, c .before .before .before .before .before .before .before .before .if1 .taken)
+
+-- src/axes.rt:28:5
+loop-less : tie.Need-loop-less Inv-loop μ-loop
+loop-less c = omega (arith, c .before .before .before .before .before .before .before .before .if1 .taken)
+
+-- src/axes.rt:28:5
+loop-again : tie.Need-loop-again Inv-loop μ-loop
+loop-again c = let n = next (c .before .before .before .before .before .before .before .before .before .before .before .before .before .args .g .most) (c .before .before .before .before .before .before .before .before .before .before .before .before .before .args .reals .now) (c .before .before .before .before .before .before .before .before .before .before .before .before .before .args .counts .now) (c .before .before .before .before .before .before .before .before .before .before .before .before .before .args .g .axes) (c .before .before .before .before .before .before .before .before .before .before .loop .done) (c .before .before .before .before .before .before .before .before .before .before .loop .at) (c .before .before .before .before .before .before .before .before .before .before .loop .place) (c .before .before .before .before .before .before .before .before .if1 .taken) (c .before .before .before .before .before .before .before .before .before .before .loop .inv .2) in (
+  omega (arith, c .before .before .before .before .before .before .before .before .if1 .taken),
+  simp length-set (c .before .before .before .before .before .before .before .before .before .before .loop .inv .1),
+  n .rest,
+  drawn-on (c .before .before .before .before .before .before .before .before .before .before .before .before .before .args .g .most) (c .before .before .before .before .before .before .before .before .before .before .before .before .before .args .reals .now) (c .before .before .before .before .before .before .before .before .before .before .before .before .before .args .counts .now) (c .before .before .before .before .before .before .before .before .before .before .before .before .before .args .evenly) (c .before .before .before .before .before .before .before .before .before .before .before .before .before .args .g .axes) (c .before .before .before .before .before .before .before .before .before .before .loop .done) (c .before .before .before .before .before .before .before .before .before .before .loop .at) (c .before .before .before .before .before .before .before .before .before .before .loop .place) (c .before .before .before .before .before .before .before .before .before .before .loop .coordinates) (c .before .before .before .before .before .before .before .before .before .before .loop .weight) (c .before .before .before .before .before .before .before .before .before .before .loop .stream) (c .before .before .before .before .before .before .unit .result) (c .before .before .before .before .place-on .result) (c .before .before .before .before .before .before .before .before .if1 .taken) (omega (arith, c .before .before .before .before .before .before .before .before .before .before .before .before .before .pre .0, c .before .before .before .before .before .before .before .before .before .before .loop .inv .1, c .before .before .before .before .before .before .before .before .if1 .taken)) (c .before .before .before .before .before .before .unit .ensures) (c .before .before .before .before .place-on .ensures) ∙ c .before .before .before .before .before .before .before .before .before .before .loop .inv .3,
+)
+
+-- src/axes.rt:18:1
+returns : tie.Need-returns Inv-loop μ-loop
+unfolding placedBy
+returns c = sym (drawn-out (c .before .before .before .before .before .args .g .most) (c .before .before .before .before .before .args .reals .now) (c .before .before .before .before .before .args .counts .now) (c .before .before .before .before .before .args .evenly) (c .before .before .before .before .before .args .g .axes) (c .before .before .loop .done) (c .before .before .loop .at) (c .before .before .loop .place) (c .before .before .loop .coordinates) (c .before .before .loop .weight) (c .before .before .loop .stream) (c .before .before .loop .inv .0) (c .if1 .left)) ∙ c .before .before .loop .inv .3
+
+pub walk-axes-spec : {M : Type 1} → statement M
+walk-axes-spec =
+    tie.close
+    (tie.spec
+    Inv-loop
+    μ-loop
+    loop-holds
+    mul-held
+    shared-slice-read-held
+    unit-requires
+    add-end
+    add-end-2
+    mul-place-on
+    sub-place-on
+    part-place-on-start
+    part-place-on-end
+    place-on-requires
+    mul-coordinates
+    array-write-coordinates
+    mul-at
+    add-at
+    add-at-2
+    mul-place
+    add-place
+    add-place-2
+    add-done
+    loop-less
+    loop-again
+    returns)

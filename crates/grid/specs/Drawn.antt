@@ -1,0 +1,34 @@
+-- A draw from the axes of a grid in lent memory.
+use mathlib.Core.Path.{_≡_}
+use mathlib.Core.Bool.{true}
+use Prim.Native.Nat.{ℕ, zero, suc, _+_, _≤_}
+use mathlib.Core.List.{List}
+use lib.ListN.{length, take, getD}
+use lib.Ieee.{Float}
+use Rattle.axis.specs.Edges.{wellFormed}
+use Rattle.model.specs.Axes.{Axis}
+use Rattle.model.specs.Draw.{Placed, flooredOf}
+use Rattle.grid.specs.declared.axes.AxesAt.{AxesAt}
+use Rattle.grid.specs.declared.axes.Walked.{Walked}
+use Rattle.grid.specs.Layout.{stretch, axisReals, axisCounts, axesFrom}
+
+-- the coordinates that a walk over k axes has set, its weight and its stream
+unfoldable pub placedBy : ℕ → Walked → Placed
+placedBy k w = record { coordinates = take k (w .coordinates); weight = w .weight; stream = w .stream }
+
+-- a draw whose weight is put under a floor
+unfoldable pub underFloor : Float → Placed → Placed
+underFloor f p = record { coordinates = p .coordinates; weight = flooredOf f (p .weight); stream = p .stream }
+
+-- k axes of at most m bins, from places r and c on, lie in lent memory; each holds at most m bins, on well-formed edges
+unfoldable pub Standing : ℕ → List Float → List ℕ → ℕ → ℕ → ℕ → Type 0
+Standing m reals counts zero r c = (r ≤ length reals) × (c ≤ length counts)
+Standing m reals counts (suc k) r c =
+    (getD counts c 0 ≤ m) × (wellFormed (stretch r (getD counts c 0 + 1) reals) ≡ true) × Standing m reals counts k (r + axisReals m) (c + axisCounts m)
+
+-- the axes of a grid, and that they stand in lent memory
+abbrev pub axesAt : List Float → List ℕ → AxesAt → List Axis
+axesAt reals counts g = axesFrom (g .most) reals counts (g .axes) (g .reals) (g .counts)
+
+abbrev pub Stands : List Float → List ℕ → AxesAt → Type 0
+Stands reals counts g = (g .axes ≤ 8) × (g .most ≤ 1024) × Standing (g .most) reals counts (g .axes) (g .reals) (g .counts)

@@ -1,0 +1,3 @@
+-- The lent memory of grids: what stands where, and what the calls leave in it.
+pub mod Layout
+pub mod Drawn

@@ -1,0 +1,110 @@
+// The axes of a grid: each works on its own stretch of the lent edges, wherever that begins.
+ghost use mathlib.Core.Path.{_≡_};
+ghost use mathlib.Core.Bool.{true};
+ghost use Rattle.real.specs.Numbers.{one64};
+ghost use Rattle.axis.specs.Edges.{wellFormed, inUnit};
+ghost use Rattle.model.specs.Draw.{placeOn, walked, placedFrom, flooredOf};
+ghost use Rattle.grid.specs.Drawn.{axesAt, placedBy, underFloor, Stands};
+use axis::Point;
+use stream::MonteCarloRng;
+
+// Coordinates, the weight, and the stream after them.
+pub struct Walked {
+    pub coordinates: [f64; 8],
+    pub weight: f64,
+    pub stream: MonteCarloRng,
+}
+
+// An axes grid's plan in numbers, and where its axes' reals and counts begin: each axis has room for `most` bins.
+pub struct AxesAt {
+    pub axes: usize,
+    pub most: usize,
+    pub floor: f64,
+    pub reals: usize,
+    pub counts: usize,
+}
+
+// A coordinate and its weight from a unit draw: the draw itself where sampling is even, else the axis's own.
+fn place_on(edges: &[f64], unit: f64, evenly: bool) -> Point
+    requires { ⌜ (wellFormed (now edges) ≡ true) × (inUnit unit ≡ true) ⌝ }
+    ensures { λ p. ⌜ p ≡ placeOn evenly (now (edges .entry)) unit ⌝ }
+{
+    if evenly {
+        return Point {
+            at: unit,
+            weight: axis::edges::weight_of(edges, axis::edges::bin_of(edges, unit)),
+        };
+    }
+    axis::edges::point_of(edges, unit)
+}
+
+// Draws a coordinate on each axis.
+fn walk_axes(reals: &[f64], counts: &[u64], g: AxesAt, evenly: bool, start: MonteCarloRng) -> Walked
+    requires { ⌜ Stands (now reals) (now counts) g ⌝ }
+    ensures { λ w. ⌜ placedBy (g .axes) w ≡ walked evenly (axesAt (now (reals .entry)) (now (counts .entry)) g) one64 start ⌝ }
+{
+    let mut coordinates = [0.0f64; 8];
+    let mut weight = 1.0;
+    let mut stream = start;
+    let mut at = g.reals;
+    let mut place = g.counts;
+    let mut done = 0;
+    while done < g.axes {
+        let held = counts[place] as usize;
+        let unit = stream.unit();
+        let end = at + held + 1;
+        let point = place_on(&reals[at..end], unit.value, evenly);
+        coordinates[done] = point.at;
+        weight = weight * point.weight;
+        stream = unit.stream;
+        at = at + (6 * g.most + 1);
+        place = place + (3 * g.most + 2);
+        done += 1;
+    }
+    Walked {
+        coordinates,
+        weight,
+        stream,
+    }
+}
+
+// The walk that the floor selects: 0 and 1 draw no choice word; between, a draw below the floor is for even sampling.
+fn place_axes(reals: &[f64], counts: &[u64], g: AxesAt, start: MonteCarloRng) -> Walked
+    requires { ⌜ Stands (now reals) (now counts) g ⌝ }
+    ensures { λ w. ⌜ placedBy (g .axes) w ≡ placedFrom (g .floor) (axesAt (now (reals .entry)) (now (counts .entry)) g) start ⌝ }
+{
+    if g.floor == 0.0 {
+        return walk_axes(reals, counts, g, false, start);
+    }
+    if g.floor == 1.0 {
+        return walk_axes(reals, counts, g, true, start);
+    }
+    let choice = start.unit();
+    walk_axes(reals, counts, g, choice.value < g.floor, choice.stream)
+}
+
+// The weight under a floor.
+fn floored(floor: f64, weight: f64) -> f64
+    ensures { λ r. ⌜ r ≡ flooredOf floor weight ⌝ }
+{
+    if floor == 0.0 {
+        return weight;
+    }
+    if floor == 1.0 {
+        return 1.0;
+    }
+    if weight == 0.0 {
+        return 0.0;
+    }
+    real::inv((1.0 - floor) / weight + floor)
+}
+
+// A draw from an axes grid: the walk that its floor selects, its weight under the floor.
+pub fn draw_axes(reals: &[f64], counts: &[u64], g: AxesAt, start: MonteCarloRng) -> Walked
+    requires { ⌜ Stands (now reals) (now counts) g ⌝ }
+    ensures { λ w. ⌜ placedBy (g .axes) w ≡ underFloor (g .floor) (placedFrom (g .floor) (axesAt (now (reals .entry)) (now (counts .entry)) g) start) ⌝ }
+{
+    let mut walked = place_axes(reals, counts, g, start);
+    walked.weight = floored(g.floor, walked.weight);
+    walked
+}

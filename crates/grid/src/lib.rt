@@ -1,0 +1,2 @@
+// Grids in lent memory: so far the draw from an axes grid that is known to stand there.
+mod axes;
