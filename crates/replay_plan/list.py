@@ -7,9 +7,10 @@ and a code for each case: 4096 times the refusal's number plus its offset, or wh
 Every number is a word of 16 hex digits on a line of its own; bytes stand eight to a word, codes four to a word, lowest first.
 """
 import itertools
+import math
 import struct
 
-WORDS = 1024  # of the table that the program lends
+WORDS = 512  # of the table that the program lends
 
 
 class Refused(Exception):
@@ -213,9 +214,15 @@ none = b'\4\0\0'
 leaf = axes() + evolution(4, 1024, 1)
 nest = bins(2) + axes(1, 2, 0, 0, 0.0) + none
 deep = bins(1) + bins(1) + bins(2) + none + bins(1)
+above, under, infinity, nan = math.nextafter(1, 2), math.nextafter(1, 0), math.inf, math.nan
+floors = [axes(floor=f) for f in (0.0, -0.0, 5e-324, -5e-324, 1.0, above, infinity, -infinity, nan, -nan)]
+sizes_of_axes = [axes(0), axes(8), axes(9), axes(bins=0), axes(bins=1), axes(bins=1024), axes(bins=1025), axes(flag=2), axes(9, flag=2), axes(least=2**32 - 1)]
+ratios = [bins(1, r) for r in (1.0, under, above, 1e308, infinity, -infinity, nan, -nan, 0.0, -0.0, -1.0)]
+sizes_of_bins = [bins(0), bins(257), bins(1, flag=1), bins(1, flag=2), bins(0, nan, 2)]
+evolutions = [evolution(), evolution(1), evolution(1024), evolution(0), evolution(1025), evolution(3, 0), evolution(3, 1025), b'\2\3\0\1\0\1', evolution(*range(1, 14))]
 
 if __name__ == '__main__':
-    for base in (leaf, nest, deep + axes(), deep + bins(1) + none, bins(63) + axes() * 63, bins(64) + axes() * 64, bins(3) + none * 3 + none):
+    for base in (leaf, nest, deep + axes(), deep + bins(1) + none, bins(40) + axes() * 40, bins(63) + axes() * 63, bins(64) + axes() * 64, bins(3) + none * 3 + none, axes() + evolution(*[9] * 16), axes() + evolution(*[9] * 17)):
         cuts(base, True)
         cuts(base, False)
     for base in (leaf, nest):
@@ -224,5 +231,9 @@ if __name__ == '__main__':
         rows([axes(), evolution(7), bins(1), bins(2), none, b'\5\0\0', axes(9, 3, 0, 9), b'\2\1\0\1'], depth, True)
         rows([axes(), evolution(7), bins(1), bins(2), none], depth, False)
         rows([bytes([b]) for b in (0, 1, 2, 3, 4, 16)], depth, True)
+    rows(floors + sizes_of_axes, 1, True)
+    rows(ratios + sizes_of_bins + [none], 2, True)
+    rows([axes()] + evolutions, 2, True)
+    rows([axes(), none, bins(1)] + evolutions, 3, False)
     for base in (leaf, nest, bins(3) + leaf + bins(2) + none + axes() + none):
         tables(base)

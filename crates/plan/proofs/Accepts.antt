@@ -185,7 +185,7 @@ module _ (bs : List ℕ) (small : Bytes bs) where
     empty = λ l p q e. sound-empty l p q (nothing-found bs l p q e);
     leaf = λ l p a q e. sound-leaf l p a q (axes-found bs l p a q e);
     inner = λ l p b s ts q e k. sound-inner l p b s ts q (bins-found bs l p b s e) k;
-    hung = λ l s p t q k e. k p t q e;
+    hangs = λ l s p t q k e. k p t q e;
     end = λ l s p. sound-none l p;
     next = λ l s n p t u ts q c k. sound-more l n p t u ts q c k;
   }

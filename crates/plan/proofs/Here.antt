@@ -30,6 +30,10 @@ use Rattle.plan.proofs.Trees.{roomy-axes, roomy-bins}
 abbrev pub found : Child → ℕ → Tally → Field
 found x at y = field.Found (record { child = x; past = record { at = at; tally = y } })
 
+-- a bin's record, with what it holds
+pub as-found : {F : Field} {x : BinPlan} {k : Child} → field.Found x ≡ F → x .child ≡ k → F ≡ field.Found (record { child = k; past = x .past })
+as-found {F} {x} e h = sym e ∙ ap (λ (c : Child). field.Found (record { child = c; past = x .past })) h
+
 pub record NothingHere (bs : List ℕ) (p : Place) : Type 0 where
   pub tag : getD bs (p .at) 0 ≡ 4
   pub form : formed bs (p .at) 0 ≡ true
@@ -196,5 +200,5 @@ past-inside {bs} l {p} i x e = past-in i x (here bs l p) (sym e)
 -- a bins grid has a level to spare
 pub deep : (bs : List ℕ) (l : ℕ) (p : Place) {x : BinPlan} {b : BinsPlan} → field.Found x ≡ fieldOf bs l p → x .child ≡ child.Bins b → 0 < l
 deep bs l p {x} {b} e h =
-    let k = bins-found bs l p b (x .past) (sym e ∙ ap (λ (c : Child). field.Found (record { child = c; past = x .past })) h) in
+    let k = bins-found bs l p b (x .past) (as-found e h) in
     bins-free (binsAt bs (p .at)) (p .tally .left) l (k .at .free) .level

@@ -1,23 +1,18 @@
 -- What the judging walk over the bytes meets, in the form in which its code meets it.
-use mathlib.Core.Path.{_≡_, sym, ap, _∙_}
+use mathlib.Core.Path.{_≡_, sym, _∙_}
 use Prim.Native.Nat.{ℕ, _-_, _<_}
 use Rattle.plan.specs.declared.Place.{Place}
 use Rattle.plan.specs.declared.AxesPlan.{AxesPlan}
 use Rattle.plan.specs.declared.BinsPlan.{BinsPlan}
 use Rattle.plan.specs.declared.BinPlan.{BinPlan}
-use Rattle.plan.specs.declared.Child.{Child}
 use Rattle.plan.specs.declared.Child.the-variants as child
-use Rattle.plan.specs.declared.Field.{Field}
 use Rattle.plan.specs.declared.Field.the-variants as field
 use Rattle.plan.specs.declared.Step.{Step}
 use Rattle.plan.specs.declared.Step.the-variants as step
 use Rattle.plan.specs.Reading.{Reader, treesOf, treeOf, stepOf, stepsOf}
+use Rattle.plan.proofs.Here.{as-found}
 use Rattle.plan.proofs.Readings.{tree-stop, tree-nothing, tree-axes, tree-bins}
 use Rattle.plan.proofs.Steps.{step-bins}
-
--- a bin's record, with what it holds
-pub as-found : {F : Field} {x : BinPlan} {k : Child} → field.Found x ≡ F → x .child ≡ k → F ≡ field.Found (record { child = k; past = x .past })
-as-found {F} {x} e h = sym e ∙ ap (λ (c : Child). field.Found (record { child = c; past = x .past })) h
 
 module _ (R : Reader) (l : ℕ) (p : Place) where
   pub measure-stop : {n at : ℕ} → field.Stop n at ≡ R .field l p → step.Stopped n at ≡ stepOf (treeOf R l p)

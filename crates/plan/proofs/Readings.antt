@@ -85,7 +85,7 @@ pub record Kept (R : Reader) (P : ℕ → Place → Tree → Place → Type 0) (
       → P l p (axes a (R .evolution p a)) q
   pub inner : (l : ℕ) (p : Place) (b : BinsPlan) (s : Place) (ts : Trees) (q : Place) → R .field l p ≡ field.Found (record { child = child.Bins b; past = s })
       → Q (l - 1) (s .tally .words - b .bins) (b .bins) s ts q → P l p (bins b ts) q
-  pub hung : (l s : ℕ) (p : Place) (t : Tree) (q : Place) → ((x : Place) (u : Tree) (z : Place) → treeOf R l x ≡ Out.reads u z → P l x u z)
+  pub hangs : (l s : ℕ) (p : Place) (t : Tree) (q : Place) → ((x : Place) (u : Tree) (z : Place) → treeOf R l x ≡ Out.reads u z → P l x u z)
       → R .child (treeOf R l) s p ≡ Out.reads t q → C l s p t q
   pub end : (l s : ℕ) (p : Place) → Q l s 0 p none p
   pub next : (l s n : ℕ) (p : Place) (t : Tree) (u : Place) (ts : Trees) (q : Place) → C l s p t u → Q l (s + 1) n u ts q → Q l s (suc n) p (more t ts) q
@@ -104,7 +104,7 @@ module _ {R : Reader} {P : ℕ → Place → Tree → Place → Type 0} {C : ℕ
 
   kept-hung : (l : ℕ) (f : ℕ → Place → Out) → ((s : ℕ) (p : Place) (t : Tree) (q : Place) → f s p ≡ Out.reads t q → C (l - 1) s p t q)
       → (p : Place) (t : Tree) (q : Place) (x : Child) (s : Place) → R .field l p ≡ field.Found (record { child = x; past = s })
-      → Rattle.plan.specs.Reading.hung (R .evolution p) f x s ≡ Out.reads t q → P l p t q
+      → hung (R .evolution p) f x s ≡ Out.reads t q → P l p t q
   kept-hung l f k p t q child.Nothing s x e = let w : t ≡ nothing = cc in let v : s ≡ q = cc in rw w (K .empty l p q (rw v at x))
   kept-hung l f k p t q (child.Axes a) s x e = let w : t ≡ axes a (R .evolution p a) = cc in let v : s ≡ q = cc in rw w (K .leaf l p a q (rw v at x))
   kept-hung l f k p t q (child.Bins b) s x e =
@@ -120,4 +120,4 @@ module _ {R : Reader} {P : ℕ → Place → Tree → Place → Type 0} {C : ℕ
   unfolding treeOf
   kept zero p t q e = kept-node 0 (λ s x. Out.stops 2 (x .at)) (λ s x u v y. stops-reads y) p t q (R .field 0 p) refl e
   kept (suc l) p t q e =
-      kept-node (suc l) (λ s x. R .child (treeOf R l) s x) (λ s x u v y. rw sub-one (K .hung l s x u v (kept l) y)) p t q (R .field (suc l) p) refl e
+      kept-node (suc l) (λ s x. R .child (treeOf R l) s x) (λ s x u v y. rw sub-one (K .hangs l s x u v (kept l) y)) p t q (R .field (suc l) p) refl e

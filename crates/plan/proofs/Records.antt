@@ -226,7 +226,7 @@ children-stand xs l (more t ts) (suc i) y rest v e r h =
 
 -- the i-th child: its link, what stands there, and that it lies behind its parent's record and within what its parent takes
 pub record ChildRecord (xs : List ℕ) (l : ℕ) (b : BinsPlan) (ts : Trees) (y : Tally) (i : ℕ) : Type 0 where
-  pub link : getD xs (y .words + 7 + i) 0 ≡ Rattle.plan.specs.Table.link (childAt ts i) (before ts i (binsTaken b y))
+  pub linked : getD xs (y .words + 7 + i) 0 ≡ link (childAt ts i) (before ts i (binsTaken b y))
   pub stands : Stands xs (l - 1) (childAt ts i) (before ts i (binsTaken b y))
   pub behind : Upto (binsTaken b y) (before ts i (binsTaken b y))
   pub inside : Upto (after (childAt ts i) (before ts i (binsTaken b y))) (after (bins b ts) y)
@@ -242,7 +242,7 @@ child-record xs l b ts y i s h =
     ap (λ (n : ℕ). drop n xs) (taken-words b y ∙ ap (λ (n : ℕ). y .words + 7 + n) (sym (counted xs l b ts y s))) ∙ sym (drop-drop (length (links ts (binsTaken b y))) (y .words + 7) xs)
     ∙ ap (drop (length (links ts (binsTaken b y)))) d ∙ drop-append-seam (links ts (binsTaken b y)) _ in
     record {
-      link = sym (words-at xs (b .bins) (y .words + 7) i h) ∙ ap (λ (o : List ℕ). getD o i 0) (r .slots) ∙ links-at ts i (binsTaken b y) c;
+      linked = sym (words-at xs (b .bins) (y .words + 7) i h) ∙ ap (λ (o : List ℕ). getD o i 0) (r .slots) ∙ links-at ts i (binsTaken b y) c;
       stands = children-stand xs (l - 1) ts i (binsTaken b y) (s .rest) (k .rest) e (s .room) c;
       behind = upto-before ts i (binsTaken b y);
       inside = upto-end ts i (binsTaken b y) c;
@@ -253,7 +253,7 @@ pub link-forward : (xs : List ℕ) (l : ℕ) (b : BinsPlan) (ts : Trees) (y : Ta
     → y .words + 7 + b .bins ≤ getD xs (y .words + 7 + i) 0
 link-forward xs l b ts y i s h g =
     let c = child-record xs l b ts y i s h in
-    let e = c .link ∙ grid-link (childAt ts i) (before ts i (binsTaken b y)) g in
+    let e = c .linked ∙ grid-link (childAt ts i) (before ts i (binsTaken b y)) g in
     omega (arith, c .behind .words, taken-words b y)
 
 -- 5. What a grid takes of the lent memory is its own ---------------------------------------------------------------------------

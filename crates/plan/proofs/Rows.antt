@@ -1,5 +1,5 @@
 -- What a record shows of the words where it stands.
-use mathlib.Core.Path.{_≡_, refl, sym, ap, _∙_}
+use mathlib.Core.Path.{_≡_, refl, sym, ap}
 use mathlib.Core.Bool.{Bool, true, false, not, cond}
 use mathlib.Core.List.{List}
 use Prim.Native.Nat.{ℕ, _+_, _≤_, _<_}
@@ -12,7 +12,6 @@ use Rattle.plan.specs.declared.Tally.{Tally}
 use Rattle.plan.specs.declared.AxesPlan.{AxesPlan}
 use Rattle.plan.specs.declared.BinsPlan.{BinsPlan}
 use Rattle.plan.specs.declared.BinPlan.{BinPlan}
-use Rattle.plan.specs.declared.Child.{Child}
 use Rattle.plan.specs.declared.Child.the-variants as child
 use Rattle.plan.specs.declared.Field.{Field}
 use Rattle.plan.specs.declared.Field.the-variants as field
@@ -30,7 +29,7 @@ use Rattle.plan.proofs.Flags.{and-left, and-right, at-most}
 use Rattle.plan.proofs.Ranges.{most-within}
 use Rattle.plan.proofs.Faults.{axes-free, axes-fit, bins-free, bins-fit}
 use Rattle.plan.proofs.Trees.{roomy-axes, roomy-bins}
-use Rattle.plan.proofs.Here.{found, pick, hangs, past, stop-found, other-child, axes-nothing}
+use Rattle.plan.proofs.Here.{found, as-found, pick, hangs, past, stop-found, other-child, axes-nothing}
 use Rattle.plan.proofs.Readings.{Kept, kept, stops-reads}
 use Rattle.plan.proofs.Steps.{some}
 
@@ -162,16 +161,13 @@ past-in {xs} {l} {p} r x (bins h) e = rw (sym (ap (past p) e)) (roomy-bins _ _ (
 pub past-roomy : (xs : List ℕ) (l : ℕ) (p : Place) → Roomy (p .tally) → (x : BinPlan) → field.Found x ≡ rowOf xs l p → Roomy (x .past .tally)
 past-roomy xs l p r x e = past-in r x (row xs l p) (sym e)
 
-as-met : {F : Field} {x : BinPlan} {k : Child} → field.Found x ≡ F → x .child ≡ k → F ≡ field.Found (record { child = k; past = x .past })
-as-met {F} {x} e h = sym e ∙ ap (λ (c : Child). field.Found (record { child = c; past = x .past })) h
-
 pub deep-row : (xs : List ℕ) (l : ℕ) (p : Place) {x : BinPlan} {b : BinsPlan} → field.Found x ≡ rowOf xs l p → x .child ≡ child.Bins b → 0 < l
-deep-row xs l p {x} {b} e h = bins-free _ (p .tally .left) l (bins-met xs l p b (x .past) (as-met e h) .at .free) .level
+deep-row xs l p {x} {b} e h = bins-free _ (p .tally .left) l (bins-met xs l p b (x .past) (as-found e h) .at .free) .level
 
 pub links-before : (xs : List ℕ) (l : ℕ) (p : Place) {x : BinPlan} {b : BinsPlan} → field.Found x ≡ rowOf xs l p → x .child ≡ child.Bins b → b .bins ≤ x .past .tally .words
 unfolding binsTaken
 links-before xs l p {x} {b} e h =
-    let k = bins-met xs l p b (x .past) (as-met e h) in
+    let k = bins-met xs l p b (x .past) (as-found e h) in
     let w : x .past .tally .words ≡ p .tally .words + (7 + binsRow xs (p .tally .words) .bins) = ap (λ (q : Place). q .tally .words) (k .past) in
     let n = ap (λ (c : BinsPlan). c .bins) (k .numbers) in
     omega arith
@@ -209,7 +205,7 @@ roomies xs = record {
   empty = λ l p q e. nothing-met xs l p q e;
   leaf = λ l p a q e r. past-roomy xs l p r (record { child = child.Axes a; past = q }) (sym e);
   inner = λ l p b s ts q e k r. k (past-roomy xs l p r (record { child = child.Bins b; past = s }) (sym e));
-  hung = λ l s p t q k e r. child-case xs (treeOf (fromTable xs) l) s p t q e (λ u v w. rw w r) (λ u v. k p t q v r);
+  hangs = λ l s p t q k e r. child-case xs (treeOf (fromTable xs) l) s p t q e (λ u v w. rw w r) (λ u v. k p t q v r);
   end = λ l s p r. r;
   next = λ l s n p t u ts q c k r. k (c r);
 }

@@ -8,7 +8,7 @@ use native.Mathlib.Omega.{arith}
 use lib.ListN.{length, set, length-set}
 use lib.Seq.{sets}
 use Rattle.plan.specs.Numbers.{runOf}
-use Rattle.plan.specs.Ranges.{within, larger, scanned}
+use Rattle.plan.specs.Ranges.{within, bounded, larger, mostOf, scanned}
 use Rattle.plan.proofs.Ranges.{scan-in, scan-out}
 
 module _ (g : ℕ → ℕ) (apart : ℕ) where
@@ -39,7 +39,7 @@ module _ (g : ℕ → ℕ) (apart : ℕ) where
 
 module _ {g : ℕ → ℕ} {apart first k least most at i : ℕ} (v : Scanning g apart first k least most at i) where
   pub scanning-all : k ≤ i → most ≡ scanned least (runOf g apart first k)
-  unfolding scanned Rattle.plan.specs.Ranges.bounded Rattle.plan.specs.Ranges.mostOf
+  unfolding scanned bounded mostOf
   scanning-all h = sym (v .same ∙ ap (scanned most) (run-none g apart at k i h))
 
   module _ (h : i < k) {x : ℕ} (e : x ≡ g at) where

@@ -230,7 +230,7 @@ module _ (xs : List ℕ) (large : Words xs) where
     empty = λ l p q e. nothing-met xs l p q e;
     leaf = λ l p a q e. holding-leaf l p a q (axes-met xs l p a q e);
     inner = λ l p b s ts q e k. holding-inner l p b s ts q (bins-met xs l p b s e) k;
-    hung = λ l s p t q k e. holding-child l s p t q k e;
+    hangs = λ l s p t q k e. holding-child l s p t q k e;
     end = λ l s p. holding-none l s p;
     next = λ l s n p t u ts q c k. holding-more l s n p t u ts q c k;
   }

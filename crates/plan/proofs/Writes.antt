@@ -26,9 +26,8 @@ use Rattle.plan.specs.Writing.{Writable, AllWritable, laid, spread, laid
 use Rattle.plan.proofs.Stores.{sets-append, sets-comm}
 use Rattle.plan.proofs.Faults.{evolution-few}
 use Rattle.plan.proofs.Trees.{links-count, rows-words, rows-all-words}
-use Rattle.plan.proofs.Here.{AxesFound, BinsFound, axes-found, bins-found, here-evolved, past-inside, deep}
+use Rattle.plan.proofs.Here.{as-found, AxesFound, BinsFound, axes-found, bins-found, here-evolved, past-inside, deep}
 use Rattle.plan.proofs.Readings.{First, first, Within, inside, stops-reads, tree-stop, tree-nothing, tree-axes, tree-bins}
-use Rattle.plan.proofs.Measures.{as-found}
 use Rattle.plan.proofs.Accepts.{Sound, SoundAll, sound, sound-all, sound-inside}
 
 -- 1. One turn, on plain lists ---------------------------------------------------------------------------

@@ -5,6 +5,7 @@
 mod bits;
 mod bytes;
 mod fields;
+mod measuring;
 mod walking;
 mod writing;
 
@@ -14,7 +15,7 @@ ghost use Rattle.plan.specs.Paper.{paperRead, paperSized};
 ghost use Rattle.plan.specs.Needs.{needsOf};
 ghost use Rattle.plan.specs.Calls.{begin, end, gridOf, readPlanOf, readPrefixOf, sizesOf};
 use bytes::byte_at;
-use fields::measure;
+use measuring::measure;
 use walking::known;
 use writing::write;
 

@@ -177,7 +177,7 @@ fn other(old: u64, way: usize) -> u64 {
 
 // The base's table with one word changed.
 fn spoilt(base: &[u8], size: usize, case: usize, table: &mut [u64]) -> u64
-    requires { ⌜ (size ≤ 2048) × (length (now base) ≡ 2048) × (length (now table) ≡ 1024) ⌝ }
+    requires { ⌜ (size ≤ 2048) × (length (now base) ≡ 2048) × (length (now table) ≡ 512) ⌝ }
 {
     plan::read_plan(&base[..size], table);
     let i = case / 6;
@@ -190,7 +190,7 @@ fn spoilt(base: &[u8], size: usize, case: usize, table: &mut [u64]) -> u64
 
 // The code of a case.
 fn answer(s: Section, case: usize, base: &[u8], out: &mut [u8], table: &mut [u64]) -> u64
-    requires { ⌜ (s .size ≤ 2048) × (s .depth ≤ 8) × (length (now base) ≡ 2048) × (length (now out) ≡ 2048) × (length (now table) ≡ 1024) ⌝ }
+    requires { ⌜ (s .size ≤ 2048) × (s .depth ≤ 8) × (length (now base) ≡ 2048) × (length (now out) ≡ 2048) × (length (now table) ≡ 512) ⌝ }
 {
     clear(table);
     if s.rule == 4 {
@@ -211,7 +211,7 @@ fn equal(a: u64, b: u64) -> u64
 
 // How many cases of a section agree.
 fn run(list: &[u8], s: Section, base: &[u8], out: &mut [u8], table: &mut [u64]) -> u64
-    requires { ⌜ (s .size ≤ 2048) × (s .depth ≤ 8) × (s .cases ≤ 65536) × (s .codes < 131072) × (length (now base) ≡ 2048) × (length (now out) ≡ 2048) × (length (now table) ≡ 1024) ⌝ }
+    requires { ⌜ (s .size ≤ 2048) × (s .depth ≤ 8) × (s .cases ≤ 65536) × (s .codes < 131072) × (length (now base) ≡ 2048) × (length (now out) ≡ 2048) × (length (now table) ≡ 512) ⌝ }
     ensures { λ r. ⌜ r ≤ 65536 ⌝ }
 {
     let cases = s.cases;
@@ -230,7 +230,7 @@ fn run(list: &[u8], s: Section, base: &[u8], out: &mut [u8], table: &mut [u64]) 
 pub fn replay(list: &[u8]) -> Replayed {
     let mut base = [0u8; 2048];
     let mut out = [0u8; 2048];
-    let mut table = [0u64; 1024];
+    let mut table = [0u64; 512];
     let words = answers::words(list);
     let mut agreed: u64 = 0;
     let mut all: u64 = 0;

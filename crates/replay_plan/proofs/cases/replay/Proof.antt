@@ -8,7 +8,7 @@ use Rattle.replay_plan.proofs.cases.replay.Statement.{statement}
 use Rattle.replay_plan.proofs.cases.replay.Tie as tie
 
 abbrev Inv-loop : tie.InvT-loop
-Inv-loop list base₀ out₀ table₀ words agreed₀ all₀ at₀ base out table agreed all at = (length base ≡ 2048) × (length out ≡ 2048) × (length table ≡ 1024) × (agreed ≤ 65536 * at) × (all ≤ 65536 * at)
+Inv-loop list base₀ out₀ table₀ words agreed₀ all₀ at₀ base out table agreed all at = (length base ≡ 2048) × (length out ≡ 2048) × (length table ≡ 512) × (agreed ≤ 65536 * at) × (all ≤ 65536 * at)
 
 abbrev μ-loop : tie.MeasureT-loop
 μ-loop list base₀ out₀ table₀ words agreed₀ all₀ at₀ base out table agreed all at = words - at

@@ -12,15 +12,15 @@ use Rattle.plan.proofs.Measures.{measure-stop, measure-nothing, measure
 use Prim.Native.Nat.{ℕ, _<_}
 use borrow.Fn.Kinds.{In}
 use borrow.Fn.PlainCycle.{Measures, is, falls, and}
-use Rattle.plan.proofs.fields.measure.Reads as measure
-use Rattle.plan.proofs.fields.measure.Kinds as measure-kinds
-use Rattle.plan.proofs.fields.+measure+measure_all.Lts-measure as measure-lts
-use Rattle.plan.proofs.fields.measure_all.Reads as measure-all
-use Rattle.plan.proofs.fields.measure_all.Kinds as measure-all-kinds
-use Rattle.plan.proofs.fields.+measure+measure_all.Lts-measure_all as measure-all-lts
+use Rattle.plan.proofs.measuring.measure.Reads as measure
+use Rattle.plan.proofs.measuring.measure.Kinds as measure-kinds
+use Rattle.plan.proofs.measuring.+measure+measure_all.Lts-measure as measure-lts
+use Rattle.plan.proofs.measuring.measure_all.Reads as measure-all
+use Rattle.plan.proofs.measuring.measure_all.Kinds as measure-all-kinds
+use Rattle.plan.proofs.measuring.+measure+measure_all.Lts-measure_all as measure-all-lts
 use Rattle.plan.proofs.fields.field_at.Reads as field-at-reads
-use Rattle.plan.proofs.fields.+measure+measure_all.{statement}
-use Rattle.plan.proofs.fields.+measure+measure_all.Tie.{close}
+use Rattle.plan.proofs.measuring.+measure+measure_all.{statement}
+use Rattle.plan.proofs.measuring.+measure+measure_all.Tie.{close}
 
 abbrev μ-measure : Measures 1 measure-kinds.ps ℕ
 μ-measure κs a = a .0 + a .0
