@@ -1,6 +1,7 @@
 // Runs one of the library's inner loops as often as standard input says, `KIND COUNT`, and prints a word made of all results,
 // so that no part of the work can be left out. bench/run times it beside the same loop of the Rust.
 mod edges;
+mod kernels;
 mod request;
 mod samples;
 
@@ -27,7 +28,10 @@ fn run(kind: u8, count: u64) -> u64 {
     match kind {
         b'a' => samples::added(count),
         b'd' => edges::drawn(count),
+        b'e' => kernels::raised(count),
+        b'l' => kernels::logged(count),
         b'p' => edges::probed(count),
+        b'r' => kernels::rooted(count),
         b's' => stream_words(count),
         b'u' => samples::updated(count),
         _ => 0,
