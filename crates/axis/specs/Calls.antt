@@ -39,6 +39,6 @@ pointOf es r =
       weight = weightOf es i;
     }
 
--- draw from a word: 12, then the point of its unit draw
+-- draw: 12, then the point of the unit draw r
 unfoldable pub drawOf : List Float → Float → Paper Point
 drawOf es r = cond (not (wellFormed es)) (refuses 12) (gives (pointOf es r))
