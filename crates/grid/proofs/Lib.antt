@@ -1,3 +1,4 @@
 -- Laws on lent memory.
+pub mod Same
 pub mod Standing
 pub mod Draws

@@ -1,3 +1,4 @@
 -- The lent memory of grids: what stands where, and what the calls leave in it.
 pub mod Layout
+pub mod Memory
 pub mod Drawn
