@@ -1,4 +1,6 @@
 -- Laws on lent memory.
 pub mod Same
+pub mod Reading
+pub mod Over
 pub mod Standing
 pub mod Draws
