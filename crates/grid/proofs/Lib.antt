@@ -4,3 +4,4 @@ pub mod Reading
 pub mod Over
 pub mod Standing
 pub mod Draws
+pub mod Trains
