@@ -2,6 +2,7 @@
 pub mod Same
 pub mod Reading
 pub mod Over
+pub mod Laid
 pub mod Standing
 pub mod Draws
 pub mod Trains
