@@ -5,5 +5,6 @@ pub mod Over
 pub mod Laid
 pub mod Standing
 pub mod Draws
+pub mod Judges
 pub mod Trains
 pub mod Trained

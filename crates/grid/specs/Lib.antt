@@ -4,3 +4,4 @@ pub mod Memory
 pub mod Drawn
 pub mod Trained
 pub mod Tree
+pub mod Judged

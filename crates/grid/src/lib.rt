@@ -1,4 +1,5 @@
 // Grids in lent memory: so far the draw from an axes grid that is known to stand there.
 mod accounts;
 mod axes;
+mod judging;
 mod training;
