@@ -78,7 +78,7 @@ module _ (ns : List ℕ) (m : ℕ) (reals : List Float) (counts : List ℕ) wher
 
 -- ---- the scans tell exactly which axes are well formed
 
-two-and-two : (a b c d : Bool) → ((a && b) && (c && d)) ≡ ((a && c) && (b && d))
+pub two-and-two : (a b c d : Bool) → ((a && b) && (c && d)) ≡ ((a && c) && (b && d))
 two-and-two true true c d = refl
 two-and-two true false c d = sym (and-false c)
 two-and-two false b c d = refl
@@ -95,7 +95,7 @@ sound-bin : (s q h l : Float) (n z : ℕ) → record-of.wellFormed (binRecord s 
 unfolding record-of.wellFormed record-of.finiteSums record-of.boundedCounts record-of.bounded binRecord record-of.withExtremes record-of.withWaiting record-of.fresh
 sound-bin s q h l n z = rw (zero-finite, and-true (finiteOf s && finiteOf q), and-true (finiteOf s && finiteOf q)) (ap (λ (b : Bool). (finiteOf s && finiteOf q) && b) (and-true _ ∙ and-true _ ∙ and-true _))
 
-stretch-one : {A : Type 0} (e : A) (at n : ℕ) (xs : List A) → at < length xs → stretch at (suc n) xs ≡ getD xs at e ∷ stretch (at + 1) n xs
+pub stretch-one : {A : Type 0} (e : A) (at n : ℕ) (xs : List A) → at < length xs → stretch at (suc n) xs ≡ getD xs at e ∷ stretch (at + 1) n xs
 unfolding stretch
 stretch-one e at n xs h = rw (drop-cons xs at e h, add-one)
 

@@ -6,5 +6,6 @@ pub mod Laid
 pub mod Standing
 pub mod Draws
 pub mod Judges
+pub mod Sounds
 pub mod Trains
 pub mod Trained
