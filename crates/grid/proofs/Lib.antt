@@ -7,5 +7,6 @@ pub mod Standing
 pub mod Draws
 pub mod Judges
 pub mod Sounds
+pub mod Samples
 pub mod Trains
 pub mod Trained

@@ -5,3 +5,4 @@ pub mod Drawn
 pub mod Trained
 pub mod Tree
 pub mod Judged
+pub mod Sampled
