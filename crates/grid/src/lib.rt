@@ -1,2 +1,3 @@
 // Grids in lent memory: so far the draw from an axes grid that is known to stand there.
 mod axes;
+mod clearing;
