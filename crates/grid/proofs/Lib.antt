@@ -2,3 +2,4 @@
 pub mod Same
 pub mod Standing
 pub mod Draws
+pub mod Lays

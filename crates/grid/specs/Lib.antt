@@ -2,3 +2,4 @@
 pub mod Layout
 pub mod Memory
 pub mod Drawn
+pub mod Laid

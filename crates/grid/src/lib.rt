@@ -1,3 +1,4 @@
 // Grids in lent memory: so far the draw from an axes grid that is known to stand there.
 mod axes;
 mod clearing;
+mod laying;
