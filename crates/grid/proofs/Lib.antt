@@ -5,3 +5,4 @@ pub mod Over
 pub mod Standing
 pub mod Draws
 pub mod Lays
+pub mod Renewals

@@ -3,3 +3,4 @@ pub mod Layout
 pub mod Memory
 pub mod Drawn
 pub mod Laid
+pub mod Renewed

@@ -2,3 +2,4 @@
 mod axes;
 mod clearing;
 mod laying;
+mod renewal;
