@@ -5,4 +5,6 @@ pub mod Over
 pub mod Standing
 pub mod Draws
 pub mod Lays
+pub mod Inside
 pub mod Renewals
+pub mod Changes

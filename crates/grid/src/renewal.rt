@@ -358,3 +358,77 @@ pub fn update_axis(
         room,
     )
 }
+
+// The update of each axis in turn, on lent work room: what one finds does not keep the others from their update.
+fn update_each(
+    reals: &mut [f64],
+    counts: &mut [u64],
+    g: AxesAt,
+    rule: Rule,
+    values: &[u64],
+    rate: f64,
+    importances: &mut [f64],
+    counters: &mut [u64],
+    room: &mut [f64],
+) -> Found
+    requires { ⌜ Stands (now reals) (now counts) g × Within (g .most) rule (now values) × (g .most ≤ length (now importances))
+        × (g .most ≤ length (now counters)) × (g .most + 1 ≤ length (now room)) ⌝ }
+    ensures { λ f. ⌜ found f (memory (now (reals .exit)) (now (counts .exit))) ≡
+        updateAllAt rule (now (values .entry)) rate (g .most) (g .axes) (g .reals) (g .counts) (memory (now (reals .entry)) (now (counts .entry))) ⌝ }
+{
+    let mut eight = false;
+    let mut nine = false;
+    let mut r = g.reals;
+    let mut c = g.counts;
+    let mut done = 0;
+    while done < g.axes {
+        let found = update_axis(
+            reals,
+            counts,
+            g.most,
+            r,
+            c,
+            rule,
+            values,
+            rate,
+            importances,
+            counters,
+            room,
+        );
+        eight = eight | found.eight;
+        nine = nine | found.nine;
+        r = r + (6 * g.most + 1);
+        c = c + (3 * g.most + 2);
+        done += 1;
+    }
+    Found { eight, nine }
+}
+
+// The update of a grid's axes in turn.
+pub fn update_axes(
+    reals: &mut [f64],
+    counts: &mut [u64],
+    g: AxesAt,
+    rule: Rule,
+    values: &[u64],
+    rate: f64,
+) -> Found
+    requires { ⌜ Stands (now reals) (now counts) g × Within (g .most) rule (now values) ⌝ }
+    ensures { λ f. ⌜ found f (memory (now (reals .exit)) (now (counts .exit))) ≡
+        updateAllAt rule (now (values .entry)) rate (g .most) (g .axes) (g .reals) (g .counts) (memory (now (reals .entry)) (now (counts .entry))) ⌝ }
+{
+    let mut importances = [0.0f64; 1024];
+    let mut counters = [0u64; 1024];
+    let mut room = [0.0f64; 1025];
+    update_each(
+        reals,
+        counts,
+        g,
+        rule,
+        values,
+        rate,
+        &mut importances,
+        &mut counters,
+        &mut room,
+    )
+}
