@@ -2,9 +2,12 @@
 pub mod Same
 pub mod Reading
 pub mod Over
+pub mod Laid
 pub mod Standing
 pub mod Draws
 pub mod Lays
 pub mod Inside
 pub mod Renewals
 pub mod Changes
+pub mod Trains
+pub mod Trained

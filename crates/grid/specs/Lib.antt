@@ -4,3 +4,5 @@ pub mod Memory
 pub mod Drawn
 pub mod Laid
 pub mod Renewed
+pub mod Trained
+pub mod Tree

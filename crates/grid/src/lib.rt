@@ -1,5 +1,7 @@
 // Grids in lent memory: so far the draw from an axes grid that is known to stand there.
+mod accounts;
 mod axes;
 mod clearing;
 mod laying;
 mod renewal;
+mod training;
