@@ -9,5 +9,6 @@ pub mod Lays
 pub mod Inside
 pub mod Renewals
 pub mod Changes
+pub mod Empties
 pub mod Trains
 pub mod Trained
