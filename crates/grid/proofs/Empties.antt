@@ -18,7 +18,7 @@ use Rattle.grid.specs.Memory.{Memory, memory, put, overAxes, Asked}
 use Rattle.grid.specs.Laid.{clearedReals, clearedCounts, waitlessAt, forgottenAt, headedAt, emptyAt, edgedAt, layAt}
 use Rattle.grid.proofs.Same.{Same, same-refl, same-sym, same-on, same-set-below, same-set-above, same-put-below, same-put-above, length-put, getD-put-in, stretch-put, getD-stretch, stretch-same}
 use Rattle.grid.proofs.Reading.{length-bins, getD-all, axis-same}
-use Rattle.grid.proofs.Over.{Local, Frames, over-below}
+use Rattle.grid.proofs.Over.{Local, Frames, over-below, over-above}
 use Rattle.grid.proofs.Inside.{Here, Inside, inside-on, inside-waitless, inside-forgotten, inside-empty, inside-edged}
 use Rattle.grid.proofs.Changes.{stretch-length}
 
@@ -309,3 +309,16 @@ module _ (m n : ℕ) (N : n ≤ m) where
       let held : getD (s₁ .counts) c 0 ≤ m = omega (arith, laid-held m r c n s N here) in
       let first = sym (axis-same m (s₁ .reals) (end .reals) (s₁ .counts) (end .counts) r c held (same-sym nan r r₁ _ _ (low .0)) (same-sym 0 c c₁ _ _ (low .1))) ∙ laid-axis m r c n s N here in
       ap₂ (λ (b : Axis) (bs : List Axis). b ∷ bs) first (laid-axes k r₁ c₁ s₁ h₁ l₁)
+
+  -- nothing below the first axis is touched, nor above the last
+  pub lays-below : (k r c : ℕ) (s : Memory) → r + k * (6 * m + 1) ≤ length (s .reals) → c + k * (3 * m + 2) ≤ length (s .counts) → (lo hi lo′ hi′ : ℕ) → hi ≤ r → hi′ ≤ c
+      → Same nan lo hi (overAxes (layAt m) m (replicate k n) r c s .reals) (s .reals) × Same 0 lo′ hi′ (overAxes (layAt m) m (replicate k n) r c s .counts) (s .counts)
+  lays-below k r c s h l = over-below m (layAt m) Fits fits-local fits-frames (replicate k n) r c s (fits-all k r c s h l)
+
+  pub lays-above : (k r c : ℕ) (s : Memory) → r + k * (6 * m + 1) ≤ length (s .reals) → c + k * (3 * m + 2) ≤ length (s .counts)
+      → (lo hi lo′ hi′ : ℕ) → r + k * (6 * m + 1) ≤ lo → c + k * (3 * m + 2) ≤ lo′
+      → Same nan lo hi (overAxes (layAt m) m (replicate k n) r c s .reals) (s .reals) × Same 0 lo′ hi′ (overAxes (layAt m) m (replicate k n) r c s .counts) (s .counts)
+  lays-above k r c s h l lo hi lo′ hi′ i j =
+      let e = length-replicate k n in
+      over-above m (layAt m) Fits fits-local fits-frames (replicate k n) r c s (fits-all k r c s h l) lo hi lo′ hi′
+      (subst (λ (q : ℕ). r + q * (6 * m + 1) ≤ lo) (sym e) i) (subst (λ (q : ℕ). c + q * (3 * m + 2) ≤ lo′) (sym e) j)

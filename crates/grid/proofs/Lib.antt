@@ -10,5 +10,6 @@ pub mod Inside
 pub mod Renewals
 pub mod Changes
 pub mod Empties
+pub mod Updates
 pub mod Trains
 pub mod Trained
