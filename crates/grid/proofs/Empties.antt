@@ -1,13 +1,12 @@
 -- An axis laid down is read as the model's: empty on the edges that stand there, or fresh.
 use mathlib.Core.Path.{_≡_, refl, sym, ap, ap₂, _∙_, subst}
-use mathlib.Core.List.{List, [], _∷_, map}
+use mathlib.Core.List.{List, _∷_, map}
 use Prim.Native.Nat.{ℕ, zero, suc, _+_, _-_, _*_, _≤_, _<_}
 use native.Mathlib.Omega.{arith}
 use lib.ListN.{length, getD, set, replicate, length-set, length-replicate, getD-replicate, length-map, List·getD-map}
 use lib.Seq.{ext-getD, getD-set-same, getD-set-other}
 use lib.Ieee.{Float, nan}
 use Rattle.real.specs.Numbers.{zero64}
-use Rattle.accumulator.specs.declared.StatisticsAccumulator.{StatisticsAccumulator}
 use Rattle.accumulator.specs.Record.{fresh, withWaiting, withExtremes}
 use Rattle.accumulator.specs.Steps.{clearedOf}
 use Rattle.axis.specs.Edges.{evenEdges}
@@ -16,7 +15,7 @@ use Rattle.model.specs.Axes.{Axis, emptyAxis, freshAxis}
 use Rattle.grid.specs.Layout.{stretch, axisReals, axisCounts, binRecord, binAt, binsFrom, axisAt, axesFrom}
 use Rattle.grid.specs.Memory.{Memory, memory, put, overAxes, Asked}
 use Rattle.grid.specs.Laid.{clearedReals, clearedCounts, waitlessAt, forgottenAt, headedAt, emptyAt, edgedAt, layAt}
-use Rattle.grid.proofs.Same.{Same, same-refl, same-sym, same-on, same-set-below, same-set-above, same-put-below, same-put-above, length-put, getD-put-in, stretch-put, getD-stretch, stretch-same}
+use Rattle.grid.proofs.Same.{Same, same-sym, same-on, same-set-below, same-put-below, same-put-above, getD-put-in, stretch-put, getD-stretch, stretch-same}
 use Rattle.grid.proofs.Reading.{length-bins, getD-all, axis-same}
 use Rattle.grid.proofs.Over.{Local, Frames, over-below, over-above}
 use Rattle.grid.proofs.Inside.{Here, Inside, inside-on, inside-waitless, inside-forgotten, inside-empty, inside-edged}

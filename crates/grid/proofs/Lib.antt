@@ -11,5 +11,7 @@ pub mod Renewals
 pub mod Changes
 pub mod Empties
 pub mod Updates
+pub mod Judges
+pub mod Sounds
 pub mod Trains
 pub mod Trained

@@ -1,11 +1,10 @@
 -- An update in lent memory is read as the model's: what is found, and each axis after it.
-use mathlib.Core.Path.{_≡_, refl, sym, ap, ap₂, _∙_, subst}
+use mathlib.Core.Path.{_≡_, refl, sym, ap, ap₂, _∙_}
 use mathlib.Core.Bool.{Bool, true, false, not, cond, _&&_, _||_}
-use mathlib.Core.List.{List, [], _∷_, map}
+use mathlib.Core.List.{List, _∷_, map}
 use Prim.Native.Nat.{ℕ, zero, suc, _+_, _-_, _*_, _≤_, _<_}
 use native.Mathlib.Omega.{arith}
-use lib.Dec.{eqb}
-use lib.ListN.{length, getD, length-map, drop}
+use lib.ListN.{length, getD, length-map}
 use native.Mathlib.Numerals.{add-one}
 use lib.Seq.{drop-cons}
 use lib.Ieee.{Float, nan, eq}
@@ -13,25 +12,25 @@ use Rattle.real.specs.Numbers.{zero64}
 use Rattle.real.specs.Total.{allFinite}
 use Rattle.real.specs.Paper.{Paper, gives, refuses}
 use Rattle.accumulator.specs.declared.StatisticsAccumulator.{StatisticsAccumulator}
-use Rattle.accumulator.specs.Record.{fresh, withWaiting, withExtremes, bounded}
+use Rattle.accumulator.specs.Record.{withWaiting, withExtremes, bounded}
 use Rattle.accumulator.specs.Steps.{clearedOf}
 use Rattle.axis.specs.Scans.{allBounded}
 use Rattle.recut.specs.Gather.{gatheredOf, joinedCounts, reachesOf}
 use Rattle.recut.specs.Renew.{renewOf}
 use Rattle.recut.proofs.Laws.{renew-sound}
-use Rattle.model.specs.Axes.{Axis, AxesPlan, emptyAxis}
+use Rattle.model.specs.Axes.{Axis, emptyAxis}
 use Rattle.model.specs.Update.{Outcome, trained, gatheredAxis, binsAfter, recutTo, adaptedAxis, updateAxis, outcomeOf, updateAll}
 use Rattle.grid.specs.declared.renewal.Rule.{Rule}
 use Rattle.grid.specs.Layout.{stretch, axisReals, axisCounts, binRecord, binAt, binsFrom, axisAt, axesFrom}
 use Rattle.grid.specs.Memory.{Memory, memory, put}
 use Rattle.grid.specs.Drawn.{Standing}
-use Rattle.grid.specs.Laid.{waitlessAt, emptyAt, edgedAt}
+use Rattle.grid.specs.Laid.{waitlessAt, emptyAt}
 use Rattle.grid.specs.Renewed.{planOf, binsTo, Within, trainedFrom, importancesAt, countersAt, finding, keptAt, recutInto, recutAt, adaptedAt, updateAt, updateAllAt}
-use Rattle.grid.proofs.Same.{Same, same-refl, same-sym, same-on, same-put-below, same-put-above, length-put, stretch-put, getD-stretch, stretch-same}
-use Rattle.grid.proofs.Reading.{Holding, length-bins, getD-all, axis-same, axes-same}
-use Rattle.grid.proofs.Inside.{Here, Inside, inside-none, inside-on, inside-reals, inside-counts, inside-edged}
-use Rattle.grid.proofs.Changes.{stretch-length, importances-length, counters-length, inside-update}
-use Rattle.grid.proofs.Empties.{Waitless, waitless-is, axis-is, cleared-bins, emptied-axis, emptied-held, edged-axis}
+use Rattle.grid.proofs.Same.{Same, same-refl, same-sym, same-on, same-put-below, same-put-above, stretch-put, stretch-same}
+use Rattle.grid.proofs.Reading.{Holding, length-bins, axis-same, axes-same}
+use Rattle.grid.proofs.Inside.{Here, Inside, inside-reals, inside-counts, inside-edged}
+use Rattle.grid.proofs.Changes.{importances-length, counters-length, inside-update}
+use Rattle.grid.proofs.Empties.{waitless-is, axis-is, cleared-bins, emptied-axis, emptied-held, edged-axis}
 
 -- ---- a column of the bins' records is a stretch of memory
 

@@ -6,3 +6,4 @@ pub mod Laid
 pub mod Renewed
 pub mod Trained
 pub mod Tree
+pub mod Judged

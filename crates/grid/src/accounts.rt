@@ -3,6 +3,7 @@ ghost use mathlib.Core.Path.{_≡_};
 ghost use Prim.Native.Nat.{_+_, _≤_};
 ghost use lib.ListN.{length};
 ghost use lib.Seq.{sets};
+ghost use Rattle.accumulator.specs.Record.{wellFormed};
 ghost use Rattle.grid.specs.Memory.{memory, realsOf, countsOf, recordAt, stored};
 use accumulator::StatisticsAccumulator;
 
@@ -78,4 +79,16 @@ pub fn store(reals: &mut [f64], counts: &mut [u64], r: usize, c: usize, a: Stati
 {
     store_reals(reals, r, a);
     store_counts(counts, c, a);
+}
+
+// Whether the record at r and c is well formed: finite kept sums, counts within their bound.
+pub fn is_sound(reals: &[f64], counts: &[u64], r: usize, c: usize) -> bool
+    requires { ⌜ (r + 14 ≤ length (now reals)) × (c + 7 ≤ length (now counts)) ⌝ }
+    ensures { λ o. ⌜ o ≡ wellFormed (recordAt (now (reals .entry)) (now (counts .entry)) r c) ⌝ }
+{
+    let sums = (real::finite(reals[r]) & real::finite(reals[r + 1])) & real::finite(reals[r + 2]);
+    let waiting = (counts[c] <= 9007199254740992) & (counts[c + 1] <= 9007199254740992);
+    let processed = (waiting & (counts[c + 2] <= 9007199254740992))
+        & (counts[c + 3] <= 9007199254740992);
+    (sums & real::finite(reals[r + 3])) & (processed & (counts[c + 6] <= 9007199254740992))
 }

@@ -2,6 +2,9 @@
 mod accounts;
 mod axes;
 mod clearing;
+mod judge;
+mod judging;
 mod laying;
+mod layout;
 mod renewal;
 mod training;
