@@ -2,6 +2,8 @@
 pub mod Layout
 pub mod Memory
 pub mod Drawn
+pub mod Laid
+pub mod Renewed
 pub mod Trained
 pub mod Tree
 pub mod Judged

@@ -1,9 +1,12 @@
 // Grids in lent memory.
 mod accounts;
 mod axes;
+mod clearing;
 mod judge;
 mod judging;
+mod laying;
 mod layout;
+mod renewal;
 mod sampling;
 mod training;
 
