@@ -1,4 +1,6 @@
 -- Laws on lent memory.
 pub mod Same
 pub mod Standing
+pub mod First
 pub mod Draws
+pub mod Probes

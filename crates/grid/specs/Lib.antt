@@ -2,3 +2,5 @@
 pub mod Layout
 pub mod Memory
 pub mod Drawn
+pub mod Onward
+pub mod Probed
