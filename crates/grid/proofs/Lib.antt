@@ -1,5 +1,7 @@
 -- Laws on lent memory.
 pub mod Same
+pub mod Reading
+pub mod Over
 pub mod Standing
 pub mod First
 pub mod Draws
