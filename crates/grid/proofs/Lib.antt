@@ -6,3 +6,4 @@ pub mod Standing
 pub mod First
 pub mod Draws
 pub mod Probes
+pub mod Lays

@@ -4,3 +4,4 @@ pub mod Memory
 pub mod Drawn
 pub mod Onward
 pub mod Probed
+pub mod Laid

@@ -2,3 +2,5 @@
 mod axes;
 mod onward;
 mod probing;
+mod clearing;
+mod laying;
