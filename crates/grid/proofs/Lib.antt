@@ -6,4 +6,6 @@ pub mod Standing
 pub mod First
 pub mod Draws
 pub mod Probes
+pub mod Scans
+pub mod Merges
 pub mod Lays

@@ -5,3 +5,4 @@ pub mod Drawn
 pub mod Onward
 pub mod Probed
 pub mod Laid
+pub mod Merged
