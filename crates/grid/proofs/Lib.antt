@@ -7,5 +7,7 @@ pub mod First
 pub mod Draws
 pub mod Probes
 pub mod Scans
+pub mod Joins
+pub mod Kept
 pub mod Merges
 pub mod Lays

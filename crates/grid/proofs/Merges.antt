@@ -11,7 +11,8 @@ use lib.ListN.{length, getD}
 use lib.Ieee.{Float}
 use Rattle.real.proofs.Truth.{either, both}
 use Rattle.model.specs.Axes.{Axis}
-use Rattle.model.specs.Merge.{sameLengths, equalAll, equalEdges}
+use Rattle.model.specs.Sound.{keptAxis, keptAxisList}
+use Rattle.model.specs.Merge.{sameLengths, equalAll, equalEdges, mergeAxis, mergeAll}
 use Rattle.grid.specs.declared.axes.AxesAt.{AxesAt}
 use Rattle.grid.specs.Layout.{stretch, binsFrom, axisAt, axesFrom}
 use Rattle.grid.specs.Drawn.{axesAt}
@@ -36,6 +37,18 @@ same-many [] [] e = refl
 same-many [] (b ∷ ys) e = absurd (false≢true e)
 same-many (a ∷ xs) [] e = absurd (false≢true e)
 same-many (a ∷ xs) (b ∷ ys) e = ap suc (same-many xs ys (both (eqb (length (a .bins)) (length (b .bins))) (sameLengths xs ys) e .1))
+
+-- axes that are kept: the first is, and so are the others
+pub kept-first : (reals : List Float) (counts : List ℕ) (g : AxesAt) → 0 < g .axes → keptAxisList (axesAt reals counts g) ≡ true
+    → (keptAxis (axisAt (g .most) reals counts (g .reals) (g .counts)) ≡ true) × (keptAxisList (axesAt reals counts (onward g)) ≡ true)
+unfolding keptAxisList
+kept-first reals counts g h e =
+    both (keptAxis (axisAt (g .most) reals counts (g .reals) (g .counts))) (keptAxisList (axesAt reals counts (onward g)))
+    (sym (ap keptAxisList (first-apart reals counts g h)) ∙ e)
+
+pub kept-on : (reals : List Float) (counts : List ℕ) (g g′ : AxesAt) → 0 < g .axes → keptAxisList (axesAt reals counts g) ≡ true → g′ ≡ onward g
+    → keptAxisList (axesAt reals counts g′) ≡ true
+kept-on reals counts g g′ h e f = ap (λ (a : AxesAt). keptAxisList (axesAt reals counts a)) f ∙ kept-first reals counts g h e .1
 
 module _ (reals : List Float) (counts : List ℕ) (theirs : List Float) (tallies : List ℕ) where
   abbrev pub sameAt : AxesAt → AxesAt → Bool
@@ -89,8 +102,8 @@ module _ (reals : List Float) (counts : List ℕ) (theirs : List Float) (tallies
       let t = both (eqb (getD counts (g .counts) 0) (getD tallies (o .counts) 0)) (sameAt (onward g) (onward o)) (sym (same-first g o h k) ∙ e) in
       record { there = k; held = eqb-true _ _ (t .0); rest = t .1 }
 
-  pub same-on : (g o g′ o′ : AxesAt) → 0 < g .axes → sameAt g o ≡ true → g′ ≡ onward g → o′ ≡ onward o → sameAt g′ o′ ≡ true
-  same-on g o g′ o′ h e f k = ap₂ sameAt f k ∙ paired g o h e .rest
+  pub pairs-on : (g o g′ o′ : AxesAt) → 0 < g .axes → sameAt g o ≡ true → g′ ≡ onward g → o′ ≡ onward o → sameAt g′ o′ ≡ true
+  pairs-on g o g′ o′ h e f k = ap₂ sameAt f k ∙ paired g o h e .rest
 
   -- ---- equal edges
 
@@ -113,3 +126,24 @@ module _ (reals : List Float) (counts : List ℕ) (theirs : List Float) (tallies
   unfolding equalEdges
   equal-out g o ok h =
       ap (λ (xs : List Axis). ok && equalEdges xs (axesAt theirs tallies o)) (none-there (g .most) reals counts (g .axes) (g .reals) (g .counts) h) ∙ and-true ok
+
+  -- ---- what may be kept
+
+  abbrev pub fitAt : AxesAt → AxesAt → Bool
+  fitAt g o = keptAxisList (mergeAll (axesAt reals counts g) (axesAt theirs tallies o))
+
+  pub fit-next : (g o g′ o′ : AxesAt) (ok here : Bool) → 0 < g .axes → sameAt g o ≡ true → g′ ≡ onward g → o′ ≡ onward o
+      → here ≡ keptAxis (mergeAxis (axisAt (g .most) reals counts (g .reals) (g .counts)) (axisAt (o .most) theirs tallies (o .reals) (o .counts)))
+      → ((ok && here) && fitAt g′ o′) ≡ (ok && fitAt g o)
+  unfolding keptAxisList mergeAll
+  fit-next g o g′ o′ ok here h e f k t =
+      ap₂ (λ (a b : AxesAt). (ok && here) && fitAt a b) f k
+      ∙ and-assoc ok here (fitAt (onward g) (onward o))
+      ∙ ap (λ (b : Bool). ok && (b && fitAt (onward g) (onward o))) t
+      ∙ ap (λ (b : Bool). ok && b)
+      (sym (ap₂ (λ (xs ys : List Axis). keptAxisList (mergeAll xs ys)) (first-apart reals counts g h) (first-apart theirs tallies o (paired g o h e .there))))
+
+  pub fit-out : (g o : AxesAt) (ok : Bool) → g .axes ≤ 0 → (ok && fitAt g o) ≡ ok
+  unfolding keptAxisList mergeAll
+  fit-out g o ok h =
+      ap (λ (xs : List Axis). ok && keptAxisList (mergeAll xs (axesAt theirs tallies o))) (none-there (g .most) reals counts (g .axes) (g .reals) (g .counts) h) ∙ and-true ok

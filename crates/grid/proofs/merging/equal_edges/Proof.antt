@@ -4,7 +4,7 @@ use mathlib.Core.Bool.{true, _&&_}
 use Rattle.grid.specs.Layout.{axisReals, axisCounts}
 use Rattle.grid.specs.Drawn.{Stands}
 use Rattle.grid.proofs.First.{first, stands-on, one-less}
-use Rattle.grid.proofs.Merges.{sameAt, equalAt, paired, same-on, equal-next, equal-out}
+use Rattle.grid.proofs.Merges.{sameAt, equalAt, paired, pairs-on, equal-next, equal-out}
 use Rattle.grid.proofs.merging.equal_edges.Statement.{statement}
 use Rattle.grid.proofs.merging.equal_edges.Tie as tie
 use Rattle.grid.proofs.merging.equal_edges.Reads as reads
@@ -58,7 +58,7 @@ loop-again : tie.Need-loop-again Inv-loop μ-loop
 loop-again c = let p = paired (c .before .before .before .before .before .before .before .before .before .before .before .args .reals .now) (c .before .before .before .before .before .before .before .before .before .before .before .args .counts .now) (c .before .before .before .before .before .before .before .before .before .before .before .args .theirs .now) (c .before .before .before .before .before .before .before .before .before .before .before .args .tallies .now) (c .before .before .before .before .before .before .loop .left) (c .before .before .before .before .before .before .loop .right) (c .before .before .before .before .if1 .taken) (c .before .before .before .before .before .before .loop .inv .2) in (
   stands-on (c .before .before .before .before .before .before .before .before .before .before .before .args .reals .now) (c .before .before .before .before .before .before .before .before .before .before .before .args .counts .now) (c .before .before .before .before .before .before .loop .left) (c .before .after-first .result) (c .before .before .before .before .if1 .taken) (c .before .before .before .before .before .before .loop .inv .0) (c .before .after-first .ensures),
   stands-on (c .before .before .before .before .before .before .before .before .before .before .before .args .theirs .now) (c .before .before .before .before .before .before .before .before .before .before .before .args .tallies .now) (c .before .before .before .before .before .before .loop .right) (c .after-first2 .result) (p .there) (c .before .before .before .before .before .before .loop .inv .1) (c .after-first2 .ensures),
-  same-on (c .before .before .before .before .before .before .before .before .before .before .before .args .reals .now) (c .before .before .before .before .before .before .before .before .before .before .before .args .counts .now) (c .before .before .before .before .before .before .before .before .before .before .before .args .theirs .now) (c .before .before .before .before .before .before .before .before .before .before .before .args .tallies .now) (c .before .before .before .before .before .before .loop .left) (c .before .before .before .before .before .before .loop .right) (c .before .after-first .result) (c .after-first2 .result) (c .before .before .before .before .if1 .taken) (c .before .before .before .before .before .before .loop .inv .2) (c .before .after-first .ensures) (c .after-first2 .ensures),
+  pairs-on (c .before .before .before .before .before .before .before .before .before .before .before .args .reals .now) (c .before .before .before .before .before .before .before .before .before .before .before .args .counts .now) (c .before .before .before .before .before .before .before .before .before .before .before .args .theirs .now) (c .before .before .before .before .before .before .before .before .before .before .before .args .tallies .now) (c .before .before .before .before .before .before .loop .left) (c .before .before .before .before .before .before .loop .right) (c .before .after-first .result) (c .after-first2 .result) (c .before .before .before .before .if1 .taken) (c .before .before .before .before .before .before .loop .inv .2) (c .before .after-first .ensures) (c .after-first2 .ensures),
   equal-next (c .before .before .before .before .before .before .before .before .before .before .before .args .reals .now) (c .before .before .before .before .before .before .before .before .before .before .before .args .counts .now) (c .before .before .before .before .before .before .before .before .before .before .before .args .theirs .now) (c .before .before .before .before .before .before .before .before .before .before .before .args .tallies .now) (c .before .before .before .before .before .before .loop .left) (c .before .before .before .before .before .before .loop .right) (c .before .after-first .result) (c .after-first2 .result) (c .before .before .before .before .before .before .loop .ok) (c .before .before .are-equal .result) (c .before .before .before .before .if1 .taken) (c .before .before .before .before .before .before .loop .inv .2) (c .before .after-first .ensures) (c .after-first2 .ensures) (c .before .before .are-equal .ensures) ∙ c .before .before .before .before .before .before .loop .inv .3,
 )
 
