@@ -6,3 +6,4 @@ pub mod Onward
 pub mod Probed
 pub mod Laid
 pub mod Merged
+pub mod Cleared

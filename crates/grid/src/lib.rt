@@ -1,6 +1,7 @@
 // Grids in lent memory: so far the draw from an axes grid that is known to stand there.
 mod axes;
 mod clearing;
+mod copying;
 mod joining;
 mod laying;
 mod merging;
