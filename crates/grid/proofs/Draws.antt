@@ -23,7 +23,8 @@ use Rattle.axis.specs.declared.Point.{Point}
 use Rattle.axis.specs.Edges.{wellFormed, inUnit}
 use Rattle.model.specs.Axes.{Axis}
 use Rattle.model.specs.Draw.{Placed, unitAt, placeOn, walked}
-use Rattle.grid.specs.Layout.{stretch, axisReals, axisCounts, axisAt, axesFrom}
+use Rattle.grid.specs.Layout.{stretch, axisAt, axesFrom}
+use Rattle.grid.proofs.Standing.{left-on}
 
 -- coordinates in front of a draw
 abbrev pub behind : List Float → Placed → Placed
@@ -45,18 +46,12 @@ unit-in w h =
     ∙ le-trans-float (unitOf w) largest one64 (is (unit-high w h)) below-one
 
 module _ (m : ℕ) (reals : List Float) (counts : List ℕ) (evenly : Bool) where
-  -- the axes that are left, the first of them apart
-  left-on : (k d r c : ℕ) → d < k
-      → axesFrom m reals counts (k - d) r c ≡ axisAt m reals counts r c ∷ axesFrom m reals counts (k - (d + 1)) (r + (6 * m + 1)) (c + (3 * m + 2))
-  unfolding axesFrom axisReals axisCounts
-  left-on k d r c h = let e : k - d ≡ suc (k - (d + 1)) = omega arith in rw e
-
   walked-on : (k d r c : ℕ) (cs : List Float) (w : Float) (s : MonteCarloRng) (p : Point) → d < k → d < length cs
       → p ≡ placeOn evenly (stretch r (getD counts c 0 + 1) reals) (unitAt s)
       → behind (take (d + 1) (set cs d (p .at))) (walked evenly (axesFrom m reals counts (k - (d + 1)) (r + (6 * m + 1)) (c + (3 * m + 2))) (mul binary64 w (p .weight)) (stepOf s))
       ≡ behind (take d cs) (walked evenly (axesFrom m reals counts (k - d) r c) w s)
   unfolding walked axisAt
-  walked-on k d r c cs w s p h i e = rw (left-on k d r c h, e, add-one, take-suc-set cs d, append-assoc)
+  walked-on k d r c cs w s p h i e = rw (left-on m reals counts k d r c h, e, add-one, take-suc-set cs d, append-assoc)
 
   -- the same from what the code draws: the unit draw, and the point on the part of the edges that is lent
   pub drawn-on : (k d r c : ℕ) (cs : List Float) (w : Float) (s : MonteCarloRng) (u : Unit) (p : Point) → d < k → d < length cs

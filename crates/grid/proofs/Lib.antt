@@ -2,6 +2,7 @@
 pub mod Same
 pub mod Reading
 pub mod Over
+pub mod Laid
 pub mod Standing
 pub mod First
 pub mod Draws
@@ -11,3 +12,6 @@ pub mod Joins
 pub mod Kept
 pub mod Merges
 pub mod Lays
+pub mod Judges
+pub mod Trains
+pub mod Trained

@@ -1,13 +1,15 @@
 -- A step at each axis, from axis to axis: where every step keeps to its own axis and reads as the model's, so do all of them.
-use mathlib.Core.Path.{_≡_, refl, sym, ap, ap₂, _∙_}
+use mathlib.Core.Path.{_≡_, refl, sym, ap, ap₂, _∙_, subst}
 use mathlib.Core.List.{List, [], _∷_}
 use Prim.Native.Nat.{ℕ, zero, suc, _+_, _-_, _*_, _≤_, _<_}
+use native.Mathlib.Numerals.{add-one}
 use native.Mathlib.Omega.{arith}
-use lib.ListN.{length, getD}
+use lib.ListN.{length, drop, getD, drop-of-length-le}
+use lib.Seq.{drop-cons}
 use lib.Ieee.{Float, nan}
 use Rattle.model.specs.Axes.{Axis}
 use Rattle.grid.specs.Layout.{axisReals, axisCounts, axisAt, axesFrom}
-use Rattle.grid.specs.Memory.{Memory, memory, overAxes}
+use Rattle.grid.specs.Memory.{Memory, memory, overAxes, Asked}
 use Rattle.grid.proofs.Same.{Same, same-refl, same-sym, same-on, same-within}
 use Rattle.grid.proofs.Reading.{Holding, axis-same, axes-same}
 
@@ -25,11 +27,6 @@ eachAxis h (a ∷ rest) [] = a ∷ rest
 eachAxis h (a ∷ rest) (x ∷ xs) = h a x ∷ eachAxis h rest xs
 
 module _ {X : Type 0} (m : ℕ) (f : ℕ → ℕ → X → Memory → Memory) (P : ℕ → ℕ → X → Memory → Type 0) where
-  -- what the steps ask, each at its axis
-  unfoldable pub Asked : List X → ℕ → ℕ → Memory → Type 0
-  Asked [] r c s = Unit
-  Asked (x ∷ xs) r c s = P r c x s × Asked xs (r + (6 * m + 1)) (c + (3 * m + 2)) s
-
   -- what a step asks is of its axis alone
   abbrev pub Local : Type 0
   Local = (r c : ℕ) (x : X) (s s′ : Memory) → Same nan r (r + (6 * m + 1)) (s′ .reals) (s .reals) → Same 0 c (c + (3 * m + 2)) (s′ .counts) (s .counts) → P r c x s → P r c x s′
@@ -39,8 +36,8 @@ module _ {X : Type 0} (m : ℕ) (f : ℕ → ℕ → X → Memory → Memory) (P
 
   module _ (loc : Local) (frames : Frames) where
     asked-on : (xs : List X) (r c : ℕ) (s s′ : Memory) → ((lo hi : ℕ) → r ≤ lo → Same nan lo hi (s′ .reals) (s .reals))
-        → ((lo hi : ℕ) → c ≤ lo → Same 0 lo hi (s′ .counts) (s .counts)) → Asked xs r c s → Asked xs r c s′
-    unfolding Asked
+        → ((lo hi : ℕ) → c ≤ lo → Same 0 lo hi (s′ .counts) (s .counts)) → Asked P m xs r c s → Asked P m xs r c s′
+    unfolding Asked axisReals axisCounts
     asked-on [] r c s s′ u v a = tt
     asked-on (x ∷ xs) r c s s′ u v a = (
       loc r c x s s′ (u r (r + (6 * m + 1)) (omega arith)) (v c (c + (3 * m + 2)) (omega arith)) (a .0),
@@ -48,14 +45,14 @@ module _ {X : Type 0} (m : ℕ) (f : ℕ → ℕ → X → Memory → Memory) (P
     )
 
     -- after the first step the others' are asked still
-    asked-next : (x : X) (xs : List X) (r c : ℕ) (s : Memory) → Asked (x ∷ xs) r c s → Asked xs (r + (6 * m + 1)) (c + (3 * m + 2)) (f r c x s)
-    unfolding Asked
+    pub asked-next : (x : X) (xs : List X) (r c : ℕ) (s : Memory) → Asked P m (x ∷ xs) r c s → Asked P m xs (r + (6 * m + 1)) (c + (3 * m + 2)) (f r c x s)
+    unfolding Asked axisReals axisCounts
     asked-next x xs r c s a =
         let p = frames r c x s (a .0) in
         asked-on xs (r + (6 * m + 1)) (c + (3 * m + 2)) s (f r c x s) (λ lo hi h. p .reals-above lo hi h) (λ lo hi h. p .counts-above lo hi h) (a .1)
 
     -- nothing below the first axis is touched, and nothing above the last
-    pub over-below : (xs : List X) (r c : ℕ) (s : Memory) → Asked xs r c s → (lo hi lo′ hi′ : ℕ) → hi ≤ r → hi′ ≤ c
+    pub over-below : (xs : List X) (r c : ℕ) (s : Memory) → Asked P m xs r c s → (lo hi lo′ hi′ : ℕ) → hi ≤ r → hi′ ≤ c
         → Same nan lo hi (overAxes f m xs r c s .reals) (s .reals) × Same 0 lo′ hi′ (overAxes f m xs r c s .counts) (s .counts)
     unfolding overAxes axisReals axisCounts Asked
     over-below [] r c s a lo hi lo′ hi′ h k = (same-refl nan lo hi (s .reals), same-refl 0 lo′ hi′ (s .counts))
@@ -64,7 +61,7 @@ module _ {X : Type 0} (m : ℕ) (f : ℕ → ℕ → X → Memory → Memory) (P
         let t = over-below xs (r + (6 * m + 1)) (c + (3 * m + 2)) (f r c x s) (asked-next x xs r c s a) lo hi lo′ hi′ (omega arith) (omega arith) in
         (same-on nan lo hi _ _ _ (t .0) (p .reals-below lo hi h), same-on 0 lo′ hi′ _ _ _ (t .1) (p .counts-below lo′ hi′ k))
 
-    pub over-above : (xs : List X) (r c : ℕ) (s : Memory) → Asked xs r c s → (lo hi lo′ hi′ : ℕ) → r + length xs * (6 * m + 1) ≤ lo → c + length xs * (3 * m + 2) ≤ lo′
+    pub over-above : (xs : List X) (r c : ℕ) (s : Memory) → Asked P m xs r c s → (lo hi lo′ hi′ : ℕ) → r + length xs * (6 * m + 1) ≤ lo → c + length xs * (3 * m + 2) ≤ lo′
         → Same nan lo hi (overAxes f m xs r c s .reals) (s .reals) × Same 0 lo′ hi′ (overAxes f m xs r c s .counts) (s .counts)
     unfolding overAxes axisReals axisCounts Asked
     over-above [] r c s a lo hi lo′ hi′ h k = (same-refl nan lo hi (s .reals), same-refl 0 lo′ hi′ (s .counts))
@@ -85,7 +82,7 @@ module _ {X : Type 0} (m : ℕ) (f : ℕ → ℕ → X → Memory → Memory) (P
     module _ (h : Axis → X → Axis)
         (tie : (r c : ℕ) (x : X) (s : Memory) → P r c x s → axisAt m (f r c x s .reals) (f r c x s .counts) r c ≡ h (axisAt m (s .reals) (s .counts) r c) x)
         (holds : (r c : ℕ) (x : X) (s : Memory) → P r c x s → getD (f r c x s .counts) c 0 ≤ m) where
-      pub over-tied : (xs : List X) (r c : ℕ) (s : Memory) → Holding m (s .counts) (length xs) c → Asked xs r c s
+      pub over-tied : (xs : List X) (r c : ℕ) (s : Memory) → Holding m (s .counts) (length xs) c → Asked P m xs r c s
           → axesFrom m (overAxes f m xs r c s .reals) (overAxes f m xs r c s .counts) (length xs) r c ≡ eachAxis h (axesFrom m (s .reals) (s .counts) (length xs) r c) xs
       unfolding overAxes axisReals axisCounts Asked axesFrom eachAxis Holding
       over-tied [] r c s d a = refl
@@ -102,3 +99,30 @@ module _ {X : Type 0} (m : ℕ) (f : ℕ → ℕ → X → Memory → Memory) (P
           (same-sym nan r₁ _ _ _ (p .reals-above r₁ _ (omega arith))) (same-sym 0 c₁ _ _ _ (p .counts-above c₁ _ (omega arith))) in
           let held = holding-on xs c₁ s s₁ (λ lo hi i. p .counts-above lo hi i) (d .1) in
           ap₂ (λ (b : Axis) (bs : List Axis). b ∷ bs) first (over-tied xs r₁ c₁ s₁ held next ∙ ap (λ (bs : List Axis). eachAxis h bs xs) (sym up))
+
+-- ---- a loop over the axes: the step at axis d, and those that are left after it
+module _ {X : Type 0} (m : ℕ) (f : ℕ → ℕ → X → Memory → Memory) (e : X) where
+  pub over-next : (xs : List X) (d r c : ℕ) (s : Memory) → d < length xs
+      → overAxes f m (drop (d + 1) xs) (r + (6 * m + 1)) (c + (3 * m + 2)) (f r c (getD xs d e) s) ≡ overAxes f m (drop d xs) r c s
+  unfolding overAxes axisReals axisCounts
+  over-next xs d r c s h = rw (drop-cons xs d e h, add-one)
+
+  pub over-out : (xs : List X) (d r c : ℕ) (s : Memory) → length xs ≤ d → overAxes f m (drop d xs) r c s ≡ s
+  unfolding overAxes
+  over-out xs d r c s h = ap (λ (l : List X). overAxes f m l r c s) (drop-of-length-le xs h)
+
+  module _ (P : ℕ → ℕ → X → Memory → Type 0) where
+    pub asked-here : (xs : List X) (d r c : ℕ) (s : Memory) → d < length xs → Asked P m (drop d xs) r c s → P r c (getD xs d e) s
+    unfolding Asked
+    asked-here xs d r c s h a = (subst (λ (l : List X). Asked P m l r c s) (drop-cons xs d e h) a) .0
+
+    pub asked-later : (xs : List X) (d r c : ℕ) (s : Memory) → d < length xs → Asked P m (drop d xs) r c s → Asked P m (drop (d + 1) xs) (r + (6 * m + 1)) (c + (3 * m + 2)) s
+    unfolding Asked axisReals axisCounts
+    asked-later xs d r c s h a =
+        subst (λ (n : ℕ). Asked P m (drop n xs) (r + (6 * m + 1)) (c + (3 * m + 2)) s) (sym (add-one d)) ((subst (λ (l : List X). Asked P m l r c s) (drop-cons xs d e h) a) .1)
+
+    pub asked-left : Local m f P → Frames m f P → (xs : List X) (d r c : ℕ) (s : Memory) → d < length xs → Asked P m (drop d xs) r c s
+        → Asked P m (drop (d + 1) xs) (r + (6 * m + 1)) (c + (3 * m + 2)) (f r c (getD xs d e) s)
+    asked-left loc frames xs d r c s h a =
+        subst (λ (n : ℕ). Asked P m (drop n xs) (r + (6 * m + 1)) (c + (3 * m + 2)) (f r c (getD xs d e) s)) (sym (add-one d))
+        (asked-next m f P loc frames (getD xs d e) (drop (suc d) xs) r c s (subst (λ (l : List X). Asked P m l r c s) (drop-cons xs d e h) a))

@@ -8,7 +8,7 @@ use lib.Seq.{sets, length-sets}
 use lib.Ieee.{Float, nan}
 use Rattle.accumulator.specs.declared.StatisticsAccumulator.{StatisticsAccumulator}
 use Rattle.model.specs.Axes.{Axis}
-use Rattle.grid.specs.Layout.{stretch, axisReals, axisCounts, binRecord, binsFrom, axisAt, axesFrom}
+use Rattle.grid.specs.Layout.{stretch, axisReals, axisCounts, binAt, binsFrom, axisAt, axesFrom}
 use Rattle.grid.specs.Memory.{Memory, memory, overAxes, realsOf, countsOf, recordAt}
 use Rattle.grid.proofs.Same.{Same, same-refl, same-on, same-within, stretch-same, getD-sets}
 
@@ -87,10 +87,30 @@ unfoldable pub Holding : ℕ → List ℕ → ℕ → ℕ → Type 0
 Holding m counts zero c = Unit
 Holding m counts (suc k) c = (getD counts c 0 ≤ m) × Holding m counts k (c + axisCounts m)
 
+module _ (m : ℕ) (reals : List Float) (counts : List ℕ) where
+  pub length-axes : (k r c : ℕ) → length (axesFrom m reals counts k r c) ≡ k
+  unfolding axesFrom
+  length-axes zero r c = refl
+  length-axes (suc k) r c = ap suc (length-axes k (r + axisReals m) (c + axisCounts m))
+
+  pub length-bins : (r c i n : ℕ) → length (binsFrom m reals counts r c i n) ≡ n
+  unfolding binsFrom
+  length-bins r c i zero = refl
+  length-bins r c i (suc n) = ap suc (length-bins r c (i + 1) n)
+
+  getD-bins : (d : StatisticsAccumulator) (r c i n q : ℕ) → q < n → getD (binsFrom m reals counts r c i n) q d ≡ binAt m reals counts r c (i + q)
+  unfolding binsFrom
+  getD-bins d r c i zero q h = absurd (omega arith)
+  getD-bins d r c i (suc n) zero h = let e : i ≡ i + 0 = omega arith in ap (binAt m reals counts r c) e
+  getD-bins d r c i (suc n) (suc q) h = let e : i + 1 + q ≡ i + suc q = omega arith in getD-bins d r c (i + 1) n q (omega arith) ∙ ap (binAt m reals counts r c) e
+
+  pub getD-all : (d : StatisticsAccumulator) (r c n q : ℕ) → q < n → getD (binsFrom m reals counts r c 0 n) q d ≡ binAt m reals counts r c q
+  getD-all d r c n q h = let e : 0 + q ≡ q = omega arith in getD-bins d r c 0 n q h ∙ ap (binAt m reals counts r c) e
+
 module _ (m : ℕ) (reals reals′ : List Float) (counts counts′ : List ℕ) where
   bins-same : (r c i n : ℕ) → i + n ≤ m → Same nan r (r + (6 * m + 1)) reals reals′ → Same 0 c (c + (3 * m + 2)) counts counts′
       → binsFrom m reals counts r c i n ≡ binsFrom m reals′ counts′ r c i n
-  unfolding binsFrom
+  unfolding binsFrom binAt
   bins-same r c i zero h s t = refl
   bins-same r c i (suc n) h s t =
       rw (

@@ -1,16 +1,22 @@
 -- Axes that stand in lent memory: the next one lies within it, and so do those after it.
 use mathlib.Core.Path.{_≡_, subst}
 use mathlib.Core.Bool.{true}
-use mathlib.Core.List.{List}
+use mathlib.Core.List.{List, _∷_}
 use Prim.Native.Nat.{ℕ, zero, suc, _+_, _-_, _*_, _≤_, _<_}
 use native.Mathlib.Omega.{arith}
 use lib.ListN.{length, getD}
 use lib.Ieee.{Float}
 use Rattle.axis.specs.Edges.{wellFormed}
-use Rattle.grid.specs.Layout.{stretch, axisReals, axisCounts}
+use Rattle.grid.specs.Layout.{stretch, axisReals, axisCounts, axisAt, axesFrom}
 use Rattle.grid.specs.Drawn.{Standing}
 
 module _ (m : ℕ) (reals : List Float) (counts : List ℕ) where
+  -- the axes that are left, the first of them apart
+  pub left-on : (k d r c : ℕ) → d < k
+      → axesFrom m reals counts (k - d) r c ≡ axisAt m reals counts r c ∷ axesFrom m reals counts (k - (d + 1)) (r + (6 * m + 1)) (c + (3 * m + 2))
+  unfolding axesFrom axisReals axisCounts
+  left-on k d r c h = let e : k - d ≡ suc (k - (d + 1)) = omega arith in rw e
+
   -- where they begin is within memory
   pub begins : (k r c : ℕ) → Standing m reals counts k r c → (r ≤ length reals) × (c ≤ length counts)
   unfolding Standing axisReals axisCounts

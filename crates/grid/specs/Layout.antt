@@ -25,13 +25,16 @@ axisCounts m = 3 * m + 2
 unfoldable pub binRecord : Float → Float → Float → Float → ℕ → ℕ → StatisticsAccumulator
 binRecord sum squares highest lowest waiting zeros = withExtremes (withWaiting fresh sum squares waiting zeros) highest 0 lowest 0
 
--- the records of n bins, from bin i on, of the axis whose reals begin at r and whose counts begin at c
-unfoldable pub binsFrom : ℕ → List Float → List ℕ → ℕ → ℕ → ℕ → ℕ → List StatisticsAccumulator
-binsFrom m reals counts r c i zero = []
-binsFrom m reals counts r c i (suc n) =
+-- the record of bin i of the axis whose reals begin at r and whose counts begin at c
+unfoldable pub binAt : ℕ → List Float → List ℕ → ℕ → ℕ → ℕ → StatisticsAccumulator
+binAt m reals counts r c i =
     binRecord (getD reals (r + (2 * m + 1) + i) nan) (getD reals (r + (3 * m + 1) + i) nan) (getD reals (r + (4 * m + 1) + i) nan)
     (getD reals (r + (5 * m + 1) + i) nan) (getD counts (c + 2 + i) 0) (getD counts (c + (m + 2) + i) 0)
-    ∷ binsFrom m reals counts r c (i + 1) n
+
+-- of n bins, from bin i on
+unfoldable pub binsFrom : ℕ → List Float → List ℕ → ℕ → ℕ → ℕ → ℕ → List StatisticsAccumulator
+binsFrom m reals counts r c i zero = []
+binsFrom m reals counts r c i (suc n) = binAt m reals counts r c i ∷ binsFrom m reals counts r c (i + 1) n
 
 unfoldable pub axisAt : ℕ → List Float → List ℕ → ℕ → ℕ → Axis
 axisAt m reals counts r c =

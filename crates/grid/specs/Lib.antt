@@ -7,3 +7,6 @@ pub mod Probed
 pub mod Laid
 pub mod Merged
 pub mod Cleared
+pub mod Trained
+pub mod Tree
+pub mod Judged

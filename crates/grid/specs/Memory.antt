@@ -20,6 +20,11 @@ unfoldable pub overAxes : {X : Type 0} → (ℕ → ℕ → X → Memory → Mem
 overAxes f m [] r c s = s
 overAxes f m (x ∷ xs) r c s = overAxes f m xs (r + axisReals m) (c + axisCounts m) (f r c x s)
 
+-- what the steps ask of memory, each at its axis
+unfoldable pub Asked : {X : Type 0} → (ℕ → ℕ → X → Memory → Type 0) → ℕ → List X → ℕ → ℕ → Memory → Type 0
+Asked P m [] r c s = Unit
+Asked P m (x ∷ xs) r c s = P r c x s × Asked P m xs (r + axisReals m) (c + axisCounts m) s
+
 -- the n entries from a place on replaced by others
 unfoldable pub put : {A : Type 0} → ℕ → ℕ → List A → List A → List A
 put at n ys xs = take at xs ++ (ys ++ drop n (drop at xs))
@@ -61,3 +66,7 @@ recordAt reals counts r c =
       «max_eval_negative_number» = getD counts (c + 5) 0;
       «num_zero_evaluations» = getD counts (c + 6) 0;
     }
+
+-- an accumulator stored there
+unfoldable pub stored : ℕ → ℕ → StatisticsAccumulator → Memory → Memory
+stored r c a s = memory (sets (s .reals) r (realsOf a)) (sets (s .counts) c (countsOf a))

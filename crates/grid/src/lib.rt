@@ -1,4 +1,5 @@
 // Grids in lent memory: so far the draw from an axes grid that is known to stand there.
+mod accounts;
 mod axes;
 mod clearing;
 mod copying;
@@ -7,3 +8,5 @@ mod laying;
 mod merging;
 mod onward;
 mod probing;
+mod judging;
+mod training;

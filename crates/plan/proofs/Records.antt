@@ -128,7 +128,7 @@ module _ (xs : List ℕ) (l : ℕ) (b : BinsPlan) (ts : Trees) (y : Tally) (s : 
 
 -- 4. Its children --------------------------------------------------------------------------------------------------------
 
-words-at : (xs : List ℕ) (k w i : ℕ) → i < k → getD (wordsAt xs w k) i 0 ≡ getD xs (w + i) 0
+pub words-at : (xs : List ℕ) (k w i : ℕ) → i < k → getD (wordsAt xs w k) i 0 ≡ getD xs (w + i) 0
 unfolding wordsAt runOf
 words-at xs zero w i h = absurd (omega arith)
 words-at xs (suc k) w zero h = rw add-zero
@@ -140,7 +140,7 @@ links-at none i y h = absurd (omega arith)
 links-at (more t ts) zero y h = refl
 links-at (more t ts) (suc i) y h = links-at ts i (after t y) (omega arith)
 
-grid-link : (t : Tree) (y : Tally) → (t ≡ nothing → ⊥) → link t y ≡ y .words
+pub grid-link : (t : Tree) (y : Tally) → (t ≡ nothing → ⊥) → link t y ≡ y .words
 unfolding link
 grid-link nothing y g = absurd (g refl)
 grid-link (axes a es) y g = refl

@@ -1,0 +1,135 @@
+// Training axes: the bins that a sample joins are found and judged first; only then is anything written.
+ghost use mathlib.Core.Path.{_≡_};
+ghost use mathlib.Core.Bool.{true};
+ghost use Prim.Native.Nat.{_≤_};
+ghost use lib.ListN.{take};
+ghost use Rattle.accumulator.specs.Steps.{zeroCount};
+ghost use Rattle.grid.specs.Drawn.{axesAt, Stands};
+ghost use Rattle.grid.specs.Memory.{memory};
+ghost use Rattle.grid.specs.Trained.{allInUnit, binsOn, trainedAt, Cell, cellFits, cellsFit, trainedOver, CellsOf};
+use crate::axes::AxesAt;
+
+// Whether the first n coordinates are numbers in [0, 1].
+pub fn are_in_unit(xs: [f64; 8], n: usize) -> bool
+    requires { ⌜ n ≤ 8 ⌝ }
+    ensures { λ r. ⌜ r ≡ allInUnit (take n xs) ⌝ }
+{
+    let mut ok = true;
+    let mut i = 0;
+    while i < n {
+        ok = ok & axis::scans::in_unit(xs[i]);
+        i += 1;
+    }
+    ok
+}
+
+// The bin of each coordinate on its axis.
+pub fn locate(reals: &[f64], counts: &[u64], g: AxesAt, xs: [f64; 8]) -> [usize; 8]
+    requires { ⌜ Stands (now reals) (now counts) g × (allInUnit (take (g .axes) xs) ≡ true) ⌝ }
+    ensures { λ r. ⌜ take (g .axes) r ≡ binsOn (axesAt (now (reals .entry)) (now (counts .entry)) g) (take (g .axes) xs) ⌝ }
+{
+    let mut bins = [0usize; 8];
+    let mut at = g.reals;
+    let mut place = g.counts;
+    let mut done = 0;
+    while done < g.axes {
+        let held = counts[place] as usize;
+        let end = at + held + 1;
+        bins[done] = axis::edges::bin_of(&reals[at..end], xs[done]);
+        at = at + (6 * g.most + 1);
+        place = place + (3 * g.most + 2);
+        done += 1;
+    }
+    bins
+}
+
+// 1 for a zero.
+fn zero_count(v: f64) -> u64
+    ensures { λ r. ⌜ r ≡ zeroCount v ⌝ }
+{
+    if v == 0.0 { 1 } else { 0 }
+}
+
+// Whether the sums and counts of a bin may be kept once v has joined it.
+fn cell_fits(
+    reals: &[f64],
+    counts: &[u64],
+    most: usize,
+    r: usize,
+    c: usize,
+    bin: usize,
+    v: f64,
+) -> bool
+    requires { ⌜ (most ≤ 1024) × Cell most r c bin (memory (now reals) (now counts)) ⌝ }
+    ensures { λ o. ⌜ o ≡ cellFits most v r c bin (memory (now (reals .entry)) (now (counts .entry))) ⌝ }
+{
+    let sum = reals[r + (2 * most + 1) + bin] + v;
+    let squares = reals[r + (3 * most + 1) + bin] + v * v;
+    let waiting = counts[c + 2 + bin] + 1;
+    let zeros = counts[c + (most + 2) + bin] + zero_count(v);
+    ((real::finite(sum) & real::finite(squares)) & (waiting <= 9007199254740992))
+        & (zeros <= 9007199254740992)
+}
+
+// Whether v may join a bin of each axis.
+pub fn cells_fit(reals: &[f64], counts: &[u64], g: AxesAt, bins: [usize; 8], v: f64) -> bool
+    requires { ⌜ (g .axes ≤ 8) × CellsOf g (take (g .axes) bins) (memory (now reals) (now counts)) ⌝ }
+    ensures { λ o. ⌜ o ≡ cellsFit (g .most) v (take (g .axes) bins) (g .reals) (g .counts) (memory (now (reals .entry)) (now (counts .entry))) ⌝ }
+{
+    let mut ok = true;
+    let mut at = g.reals;
+    let mut place = g.counts;
+    let mut done = 0;
+    while done < g.axes {
+        ok = ok & cell_fits(reals, counts, g.most, at, place, bins[done], v);
+        at = at + (6 * g.most + 1);
+        place = place + (3 * g.most + 2);
+        done += 1;
+    }
+    ok
+}
+
+// v joins a bin of the axis at r and c.
+fn train_axis(
+    reals: &mut [f64],
+    counts: &mut [u64],
+    most: usize,
+    r: usize,
+    c: usize,
+    bin: usize,
+    v: f64,
+)
+    requires { ⌜ (most ≤ 1024) × Cell most r c bin (memory (now reals) (now counts)) ⌝ }
+    ensures { λ _. ⌜ memory (now (reals .exit)) (now (counts .exit)) ≡ trainedAt most v r c bin (memory (now (reals .entry)) (now (counts .entry))) ⌝ }
+{
+    let sum_at = r + (2 * most + 1) + bin;
+    let squares_at = r + (3 * most + 1) + bin;
+    let sum = reals[sum_at] + v;
+    let squares = reals[squares_at] + v * v;
+    reals[sum_at] = sum;
+    reals[squares_at] = squares;
+    reals[r + (4 * most + 1) + bin] = v;
+    reals[r + (5 * most + 1) + bin] = v;
+    let waiting_at = c + 2 + bin;
+    let zeros_at = c + (most + 2) + bin;
+    let waiting = counts[waiting_at] + 1;
+    let zeros = counts[zeros_at] + zero_count(v);
+    counts[waiting_at] = waiting;
+    counts[zeros_at] = zeros;
+}
+
+// v joins a bin of each axis.
+pub fn train_axes(reals: &mut [f64], counts: &mut [u64], g: AxesAt, bins: [usize; 8], v: f64)
+    requires { ⌜ (g .axes ≤ 8) × CellsOf g (take (g .axes) bins) (memory (now reals) (now counts)) ⌝ }
+    ensures { λ _. ⌜ memory (now (reals .exit)) (now (counts .exit)) ≡ trainedOver g v (take (g .axes) bins) (memory (now (reals .entry)) (now (counts .entry))) ⌝ }
+{
+    let mut at = g.reals;
+    let mut place = g.counts;
+    let mut done = 0;
+    while done < g.axes {
+        train_axis(reals, counts, g.most, at, place, bins[done], v);
+        at = at + (6 * g.most + 1);
+        place = place + (3 * g.most + 2);
+        done += 1;
+    }
+}
