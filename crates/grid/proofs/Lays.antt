@@ -9,7 +9,7 @@ use lib.Seq.{length-take-le}
 use lib.Ieee.{Float}
 use Rattle.real.specs.Numbers.{zero64}
 use Rattle.axis.specs.Edges.{binsOf, evenFrom, evenEdges}
-use Rattle.grid.specs.Layout.{axisReals, axisCounts}
+use Rattle.grid.specs.Layout.{stretch, axisReals, axisCounts}
 use Rattle.grid.specs.Memory.{Memory, memory, put, overAxes}
 use Rattle.grid.specs.Laid.{clearedReals, clearedCounts, edgedAt}
 
@@ -59,3 +59,16 @@ over-next f m k d r c x s t h e = let g : k - d ≡ suc (k - (d + 1)) = omega ar
 pub over-done : {X : Type 0} (f : ℕ → ℕ → X → Memory → Memory) (m k d r c : ℕ) (x : X) (s : Memory) → k ≤ d → overAxes f m (replicate (k - d) x) r c s ≡ s
 unfolding overAxes
 over-done f m k d r c x s h = let g : k - d ≡ 0 = omega arith in rw g
+
+-- a part that comes back as a copy of another list
+pub copied-back : {A : Type 0} (at : ℕ) (ys zs xs : List A) → ys ≡ zs → take at xs ++ (ys ++ drop (at + length zs - at) (drop at xs)) ≡ put at (length zs) zs xs
+copied-back at ys zs xs e = lent-back at (length zs) ys zs xs e
+
+-- a part as the stretch that it is
+pub lent-stretch : {A : Type 0} (at n : ℕ) (xs : List A) → take (at + n - at) (drop at xs) ≡ stretch at n xs
+unfolding stretch
+lent-stretch at n xs = let e : at + n - at ≡ n = omega arith in rw e
+
+-- a part from the front
+pub front-length : {A : Type 0} (n : ℕ) (xs : List A) → n ≤ length xs → length (take (n - 0) (drop 0 xs)) ≡ n
+front-length n xs h = let e : n - 0 ≡ n = omega arith in rw e (length-take-le n xs h)

@@ -15,3 +15,6 @@ pub mod Lays
 pub mod Judges
 pub mod Trains
 pub mod Trained
+pub mod Inside
+pub mod Renewals
+pub mod Changes

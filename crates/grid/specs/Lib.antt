@@ -10,3 +10,4 @@ pub mod Cleared
 pub mod Trained
 pub mod Tree
 pub mod Judged
+pub mod Renewed

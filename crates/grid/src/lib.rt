@@ -10,3 +10,4 @@ mod onward;
 mod probing;
 mod judging;
 mod training;
+mod renewal;
