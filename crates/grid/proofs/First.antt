@@ -11,6 +11,9 @@ use Rattle.grid.specs.declared.axes.AxesAt.{AxesAt}
 use Rattle.grid.specs.Layout.{stretch, axisReals, axisCounts, axisAt, axesFrom}
 use Rattle.grid.specs.Drawn.{Standing, Stands, axesAt}
 use Rattle.grid.specs.Onward.{onward}
+use Rattle.grid.specs.Memory.{Memory}
+use Rattle.grid.proofs.Same.{Same, same-on, same-within}
+use Rattle.grid.proofs.Over.{Apart}
 use Rattle.grid.proofs.Standing.{begins}
 
 module _ (reals : List Float) (counts : List ℕ) where
@@ -51,3 +54,15 @@ module _ (reals : List Float) (counts : List ℕ) where
 pub one-less : (g o : AxesAt) → o ≡ onward g → o .axes ≡ g .axes - 1
 unfolding onward
 one-less g o e = ap (λ (a : AxesAt). a .axes) e
+
+-- after a step that keeps to the first axis: the counts from the next one on stay, and so does how many reals there are
+pub counts-left : (g g′ : AxesAt) (hi : ℕ) (s t : Memory) (zs : List ℕ) → g′ ≡ onward g → Apart (g .most) (g .reals) (g .counts) t s
+    → Same 0 (g .counts) hi (s .counts) zs → Same 0 (g′ .counts) hi (t .counts) zs
+unfolding onward axisCounts
+counts-left g g′ hi s t zs e a h =
+    let lo : g′ .counts ≡ g .counts + (3 * g .most + 2) = ap (λ (x : AxesAt). x .counts) e in
+    same-on 0 (g′ .counts) hi (t .counts) (s .counts) zs (a .counts-above (g′ .counts) hi (omega (arith, lo)))
+    (same-within 0 (g .counts) hi (g′ .counts) hi (s .counts) zs (omega (arith, lo)) (omega arith) h)
+
+pub reals-left : (m r c : ℕ) (s t : Memory) → Apart m r c t s → length (t .reals) ≡ length (s .reals)
+reals-left m r c s t a = a .reals-below 0 0 (omega arith) .size

@@ -14,7 +14,7 @@ use Rattle.grid.specs.Onward.{onward}
 use Rattle.grid.specs.Merged.{joinAt, mergedCounts, mergeAt, eachOf, mergedMemory}
 use Rattle.grid.proofs.Same.{Same, same-on, same-within, length-put, getD-put-in, getD-stretch, same-put-below, same-put-above}
 use Rattle.grid.proofs.Lays.{lent-back}
-use Rattle.grid.proofs.Scans.{stretch-length}
+use Rattle.grid.proofs.Changes.{stretch-length}
 
 pub joined : {A : Type 0} (f : A → A → A) (at from n : ℕ) (ys theirs xs : List A)
     → ys ≡ pairwise f (take (at + n - at) (drop at xs)) (take (from + n - from) (drop from theirs))

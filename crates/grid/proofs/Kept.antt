@@ -1,38 +1,27 @@
 -- Which bins may be kept, by their columns: of a bin's record only sums, squares, waiting samples and waiting zeros can fail, before a merge
 -- and after it.
 use mathlib.Core.Path.{_≡_, refl, sym, ap, ap₂, _∙_}
-use mathlib.Core.Bool.{Bool, true, false, cond, _&&_, and-false, and-true}
+use mathlib.Core.Bool.{Bool, true, false, cond, _&&_, and-true}
 use mathlib.Core.List.{List, _∷_}
 use Prim.Native.Nat.{ℕ, zero, suc, _+_, _*_, _^_, _≤_, _<_}
 use native.Mathlib.Omega.{arith}
 use lib.Dec.{leb}
-use lib.ListN.{length, take, drop, getD}
-use lib.Seq.{drop-cons}
-use lib.Ieee.{Float, nan, binary64, add, lt, ofBits}
+use lib.ListN.{length, getD}
+use lib.Ieee.{Float, nan, binary64, add, lt}
 use Rattle.real.specs.Finite.{finiteOf}
 use Rattle.real.specs.Total.{allFinite}
 use Rattle.real.proofs.Truth.{both}
-use Rattle.accumulator.specs.Record.{fresh, withWaiting, withExtremes, finiteSums, bounded, boundedCounts, wellFormed}
+use Rattle.accumulator.specs.Record.{fresh, withWaiting, withExtremes, bounded, wellFormed}
 use Rattle.accumulator.specs.Steps.{mergedOf}
 use Rattle.axis.specs.Scans.{allBounded}
 use Rattle.model.specs.Sound.{allSound, keptAxis}
 use Rattle.model.specs.Merge.{mergeBinRecords, mergeAxis}
-use Rattle.grid.specs.Layout.{stretch, binRecord, binsFrom, axisAt}
+use Rattle.grid.specs.Layout.{stretch, binRecord, binAt, binsFrom, axisAt}
 use Rattle.grid.specs.Merged.{higherOf, lowerOf}
+use Rattle.grid.proofs.Judges.{four-and-four, sound-bin, stretch-one, sound-bins}
 use Rattle.grid.proofs.Scans.{finiteWith, allFiniteWith, finite-none, finite-more, allBoundedWith, bounded-none, bounded-more, joined-sum}
 
 -- ---- one record
-
-in-order : (a b c d : Bool) → ((((a && b) && true) && true) && ((((c && d) && true) && true) && true)) ≡ (a && (b && (c && d)))
-in-order false b c d = refl
-in-order true false c d = refl
-in-order true true false d = refl
-in-order true true true false = refl
-in-order true true true true = refl
-
-record-sound : (s q h l : Float) (n z : ℕ) → wellFormed (binRecord s q h l n z) ≡ (finiteOf s && (finiteOf q && (leb n (2 ^ 53) && leb z (2 ^ 53))))
-unfolding wellFormed finiteSums boundedCounts bounded binRecord withExtremes withWaiting fresh finiteOf ofBits
-record-sound s q h l n z = in-order (finiteOf s) (finiteOf q) (leb n (2 ^ 53)) (leb z (2 ^ 53))
 
 either-way : (b : Bool) → _≡_ {A = ℕ} (cond b 0 0) 0
 either-way true = refl
@@ -47,49 +36,17 @@ merged-record s q h l s′ q′ h′ l′ n z n′ z′ = rw (either-way (lt h h
 
 -- ---- columns of records
 
-stretch-cons : {A : Type 0} (d : A) (x i n : ℕ) (xs : List A) → x + i < length xs → stretch (x + i) (suc n) xs ≡ getD xs (x + i) d ∷ stretch (x + (i + 1)) n xs
-unfolding stretch
-stretch-cons d x i n xs h =
-    let e : suc (x + i) ≡ x + (i + 1) = omega arith in
-    ap (take (suc n)) (drop-cons xs (x + i) d h) ∙ ap (λ (j : ℕ). getD xs (x + i) d ∷ take n (drop j xs)) e
-
-swapped : (a b c d : Bool) → ((a && b) && (c && d)) ≡ ((a && c) && (b && d))
-swapped false b c d = refl
-swapped true b true d = refl
-swapped true b false d = and-false b
-
--- what holds of the first row and of the others, column by column
-by-columns : (a b c d a′ b′ c′ d′ : Bool)
-    → ((a && (b && (c && d))) && (a′ && (b′ && (c′ && d′)))) ≡ ((a && a′) && ((b && b′) && ((c && c′) && (d && d′))))
-by-columns a b c d a′ b′ c′ d′ =
-    swapped a (b && (c && d)) a′ (b′ && (c′ && d′))
-    ∙ ap (λ (t : Bool). (a && a′) && t) (swapped b (c && d) b′ (c′ && d′) ∙ ap (λ (t : Bool). (b && b′) && t) (swapped c d c′ d′))
+stretch-next : {A : Type 0} (d : A) (x i n : ℕ) (xs : List A) → x + i < length xs → stretch (x + i) (suc n) xs ≡ getD xs (x + i) d ∷ stretch (x + (i + 1)) n xs
+stretch-next d x i n xs h =
+    let e : x + i + 1 ≡ x + (i + 1) = omega arith in
+    stretch-one d (x + i) n xs h ∙ ap (λ (j : ℕ). getD xs (x + i) d ∷ stretch j n xs) e
 
 module _ (m : ℕ) (reals : List Float) (counts : List ℕ) (r c : ℕ) (room : r + (6 * m + 1) ≤ length reals) (places : c + (3 * m + 2) ≤ length counts) where
-  sound-columns : (i n : ℕ) → i + n ≤ m
-      → allSound (binsFrom m reals counts r c i n)
-      ≡ (allFinite (stretch (r + (2 * m + 1) + i) n reals) && (allFinite (stretch (r + (3 * m + 1) + i) n reals)
-      && (allBounded (stretch (c + 2 + i) n counts) && allBounded (stretch (c + (m + 2) + i) n counts))))
-  unfolding allSound binsFrom allFinite allBounded stretch
-  sound-columns i zero h = refl
-  sound-columns i (suc n) h =
-      rw (
-        stretch-cons nan (r + (2 * m + 1)) i n reals (omega arith),
-        stretch-cons nan (r + (3 * m + 1)) i n reals (omega arith),
-        stretch-cons 0 (c + 2) i n counts (omega arith),
-        stretch-cons 0 (c + (m + 2)) i n counts (omega arith),
-        sound-columns (i + 1) n (omega arith),
-        record-sound,
-      ) (by-columns (finiteOf (getD reals (r + (2 * m + 1) + i) nan)) (finiteOf (getD reals (r + (3 * m + 1) + i) nan))
-      (leb (getD counts (c + 2 + i) 0) (2 ^ 53)) (leb (getD counts (c + (m + 2) + i) 0) (2 ^ 53))
-      (allFinite (stretch (r + (2 * m + 1) + (i + 1)) n reals)) (allFinite (stretch (r + (3 * m + 1) + (i + 1)) n reals))
-      (allBounded (stretch (c + 2 + (i + 1)) n counts)) (allBounded (stretch (c + (m + 2) + (i + 1)) n counts)))
-
   -- the counts of the first of n + 1 bins that are sound
   first-bounded : (i n : ℕ) → allSound (binsFrom m reals counts r c i (suc n)) ≡ true
       → (leb (getD counts (c + 2 + i) 0) (2 ^ 53) ≡ true) × (leb (getD counts (c + (m + 2) + i) 0) (2 ^ 53) ≡ true)
       × (allSound (binsFrom m reals counts r c (i + 1) n) ≡ true)
-  unfolding allSound binsFrom
+  unfolding allSound binsFrom binAt
   first-bounded i n e =
       let x : Float = getD reals (r + (2 * m + 1) + i) nan in
       let y : Float = getD reals (r + (3 * m + 1) + i) nan in
@@ -98,9 +55,8 @@ module _ (m : ℕ) (reals : List Float) (counts : List ℕ) (r c : ℕ) (room : 
       let h : Float = getD reals (r + (4 * m + 1) + i) nan in
       let l : Float = getD reals (r + (5 * m + 1) + i) nan in
       let t = both (wellFormed (binRecord x y h l a b)) (allSound (binsFrom m reals counts r c (i + 1) n)) e in
-      let u = both (finiteOf x) (finiteOf y && (leb a (2 ^ 53) && leb b (2 ^ 53))) (sym (record-sound x y h l a b) ∙ t .0) in
-      let v = both (finiteOf y) (leb a (2 ^ 53) && leb b (2 ^ 53)) (u .1) in
-      let w = both (leb a (2 ^ 53)) (leb b (2 ^ 53)) (v .1) in
+      let u = both (finiteOf x && finiteOf y) (leb a (2 ^ 53) && leb b (2 ^ 53)) (sym (sound-bin x y h l a b) ∙ t .0) in
+      let w = both (leb a (2 ^ 53)) (leb b (2 ^ 53)) (u .1) in
       (w .0, w .1, t .1)
 
   -- the counts of an axis that is kept
@@ -114,9 +70,8 @@ module _ (m : ℕ) (reals : List Float) (counts : List ℕ) (r c : ℕ) (room : 
       let waiting : Bool = allBounded (stretch (c + 2 + 0) n counts) && allBounded (stretch (c + (m + 2) + 0) n counts) in
       let sums : Bool = allFinite (stretch (r + (2 * m + 1) + 0) n reals) in
       let squares : Bool = allFinite (stretch (r + (3 * m + 1) + 0) n reals) in
-      let u = both sums (squares && waiting) (sym (sound-columns 0 n (omega arith)) ∙ sound) in
-      let v = both squares waiting (u .1) in
-      let w = both (allBounded (stretch (c + 2 + 0) n counts)) (allBounded (stretch (c + (m + 2) + 0) n counts)) (v .1) in
+      let u = both (sums && squares) waiting (sym (sound-bins m reals counts r c 0 n (omega arith) room places) ∙ sound) in
+      let w = both (allBounded (stretch (c + 2 + 0) n counts)) (allBounded (stretch (c + (m + 2) + 0) n counts)) (u .1) in
       (rw (start (c + 2)) at (w .0), rw (start (c + (m + 2))) at (w .1))
 
 module _ (m : ℕ) (reals : List Float) (counts : List ℕ) (r c : ℕ) (room : r + (6 * m + 1) ≤ length reals) (places : c + (3 * m + 2) ≤ length counts)
@@ -124,24 +79,24 @@ module _ (m : ℕ) (reals : List Float) (counts : List ℕ) (r c : ℕ) (room : 
   -- two axes' bins merged: n of them, from bin i on
   merged-columns : (i n : ℕ) → i + n ≤ m → i + n ≤ k → allSound (binsFrom m reals counts r c i n) ≡ true → allSound (binsFrom k theirs tallies q d i n) ≡ true
       → allSound (mergeBinRecords (binsFrom m reals counts r c i n) (binsFrom k theirs tallies q d i n))
-      ≡ (allFiniteWith (stretch (r + (2 * m + 1) + i) n reals) (stretch (q + (2 * k + 1) + i) n theirs)
-      && (allFiniteWith (stretch (r + (3 * m + 1) + i) n reals) (stretch (q + (3 * k + 1) + i) n theirs)
+      ≡ ((allFiniteWith (stretch (r + (2 * m + 1) + i) n reals) (stretch (q + (2 * k + 1) + i) n theirs)
+      && allFiniteWith (stretch (r + (3 * m + 1) + i) n reals) (stretch (q + (3 * k + 1) + i) n theirs))
       && (allBoundedWith (stretch (c + 2 + i) n counts) (stretch (d + 2 + i) n tallies)
-      && allBoundedWith (stretch (c + (m + 2) + i) n counts) (stretch (d + (k + 2) + i) n tallies))))
-  unfolding allSound binsFrom mergeBinRecords stretch
+      && allBoundedWith (stretch (c + (m + 2) + i) n counts) (stretch (d + (k + 2) + i) n tallies)))
+  unfolding allSound binsFrom binAt mergeBinRecords stretch
   merged-columns i zero h j e f = rw (finite-none, bounded-none)
   merged-columns i (suc n) h j e f =
       let mine = first-bounded m reals counts r c room places i n e in
       let other = first-bounded k theirs tallies q d room′ places′ i n f in
       rw (
-        stretch-cons nan (r + (2 * m + 1)) i n reals (omega arith),
-        stretch-cons nan (r + (3 * m + 1)) i n reals (omega arith),
-        stretch-cons 0 (c + 2) i n counts (omega arith),
-        stretch-cons 0 (c + (m + 2)) i n counts (omega arith),
-        stretch-cons nan (q + (2 * k + 1)) i n theirs (omega arith),
-        stretch-cons nan (q + (3 * k + 1)) i n theirs (omega arith),
-        stretch-cons 0 (d + 2) i n tallies (omega arith),
-        stretch-cons 0 (d + (k + 2)) i n tallies (omega arith),
+        stretch-next nan (r + (2 * m + 1)) i n reals (omega arith),
+        stretch-next nan (r + (3 * m + 1)) i n reals (omega arith),
+        stretch-next 0 (c + 2) i n counts (omega arith),
+        stretch-next 0 (c + (m + 2)) i n counts (omega arith),
+        stretch-next nan (q + (2 * k + 1)) i n theirs (omega arith),
+        stretch-next nan (q + (3 * k + 1)) i n theirs (omega arith),
+        stretch-next 0 (d + 2) i n tallies (omega arith),
+        stretch-next 0 (d + (k + 2)) i n tallies (omega arith),
         finite-more,
         finite-more,
         bounded-more,
@@ -149,9 +104,9 @@ module _ (m : ℕ) (reals : List Float) (counts : List ℕ) (r c : ℕ) (room : 
         joined-sum (getD counts (c + 2 + i) 0) (getD tallies (d + 2 + i) 0) (mine .0) (other .0),
         joined-sum (getD counts (c + (m + 2) + i) 0) (getD tallies (d + (k + 2) + i) 0) (mine .1) (other .1),
         merged-record,
-        record-sound,
+        sound-bin,
         merged-columns (i + 1) n (omega arith) (omega arith) (mine .2) (other .2),
-      ) (by-columns
+      ) (four-and-four
       (finiteWith (getD reals (r + (2 * m + 1) + i) nan) (getD theirs (q + (2 * k + 1) + i) nan))
       (finiteWith (getD reals (r + (3 * m + 1) + i) nan) (getD theirs (q + (3 * k + 1) + i) nan))
       (leb (getD counts (c + 2 + i) 0 + getD tallies (d + 2 + i) 0) (2 ^ 53))
@@ -165,10 +120,10 @@ module _ (m : ℕ) (reals : List Float) (counts : List ℕ) (r c : ℕ) (room : 
   module _ (few : getD counts c 0 ≤ m) (few′ : getD counts c 0 ≤ k) (same : getD counts c 0 ≡ getD tallies d 0)
       (kept : keptAxis (axisAt m reals counts r c) ≡ true) (kept′ : keptAxis (axisAt k theirs tallies q d) ≡ true) where
     pub fits-columns : keptAxis (mergeAxis (axisAt m reals counts r c) (axisAt k theirs tallies q d))
-        ≡ (allFiniteWith (stretch (r + (2 * m + 1)) (getD counts c 0) reals) (stretch (q + (2 * k + 1)) (getD counts c 0) theirs)
-        && (allFiniteWith (stretch (r + (3 * m + 1)) (getD counts c 0) reals) (stretch (q + (3 * k + 1)) (getD counts c 0) theirs)
+        ≡ ((allFiniteWith (stretch (r + (2 * m + 1)) (getD counts c 0) reals) (stretch (q + (2 * k + 1)) (getD counts c 0) theirs)
+        && allFiniteWith (stretch (r + (3 * m + 1)) (getD counts c 0) reals) (stretch (q + (3 * k + 1)) (getD counts c 0) theirs))
         && (allBoundedWith (stretch (c + 2) (getD counts c 0) counts) (stretch (d + 2) (getD counts c 0) tallies)
-        && allBoundedWith (stretch (c + (m + 2)) (getD counts c 0) counts) (stretch (d + (k + 2)) (getD counts c 0) tallies))))
+        && allBoundedWith (stretch (c + (m + 2)) (getD counts c 0) counts) (stretch (d + (k + 2)) (getD counts c 0) tallies)))
     unfolding keptAxis mergeAxis axisAt
     fits-columns =
         let n : ℕ = getD counts c 0 in

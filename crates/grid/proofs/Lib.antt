@@ -11,6 +11,7 @@ pub mod Scans
 pub mod Joins
 pub mod Kept
 pub mod Merges
+pub mod Copies
 pub mod Lays
 pub mod Judges
 pub mod Trains

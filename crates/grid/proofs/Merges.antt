@@ -14,16 +14,11 @@ use Rattle.model.specs.Axes.{Axis}
 use Rattle.model.specs.Sound.{keptAxis, keptAxisList}
 use Rattle.model.specs.Merge.{sameLengths, equalAll, equalEdges, mergeAxis, mergeAll}
 use Rattle.grid.specs.declared.axes.AxesAt.{AxesAt}
-use Rattle.grid.specs.Layout.{stretch, binsFrom, axisAt, axesFrom}
+use Rattle.grid.specs.Layout.{stretch, axisAt, axesFrom}
 use Rattle.grid.specs.Drawn.{axesAt}
 use Rattle.grid.specs.Onward.{onward}
 use Rattle.grid.proofs.First.{first-apart}
-use Rattle.grid.proofs.Probes.{axes-length}
-
-pub bins-length : (m : ℕ) (reals : List Float) (counts : List ℕ) (r c i n : ℕ) → length (binsFrom m reals counts r c i n) ≡ n
-unfolding binsFrom
-bins-length m reals counts r c i zero = refl
-bins-length m reals counts r c i (suc n) = ap suc (bins-length m reals counts r c (i + 1) n)
+use Rattle.grid.proofs.Reading.{length-axes, length-bins}
 
 none-there : (m : ℕ) (reals : List Float) (counts : List ℕ) (k r c : ℕ) → k ≤ 0 → axesFrom m reals counts k r c ≡ []
 unfolding axesFrom
@@ -60,15 +55,15 @@ module _ (reals : List Float) (counts : List ℕ) (theirs : List Float) (tallies
   same-first g o h k =
       ap₂ sameLengths (first-apart reals counts g h) (first-apart theirs tallies o k)
       ∙ ap₂ (λ (a b : ℕ). eqb a b && sameAt (onward g) (onward o))
-      (bins-length (g .most) reals counts (g .reals) (g .counts) 0 (getD counts (g .counts) 0))
-      (bins-length (o .most) theirs tallies (o .reals) (o .counts) 0 (getD tallies (o .counts) 0))
+      (length-bins (g .most) reals counts (g .reals) (g .counts) 0 (getD counts (g .counts) 0))
+      (length-bins (o .most) theirs tallies (o .reals) (o .counts) 0 (getD tallies (o .counts) 0))
 
   -- as many axes as the other, where lengths are the same
   as-many : (g o : AxesAt) → sameAt g o ≡ true → g .axes ≡ o .axes
   as-many g o e =
-      sym (axes-length (g .most) reals counts (g .axes) (g .reals) (g .counts))
+      sym (length-axes (g .most) reals counts (g .axes) (g .reals) (g .counts))
       ∙ same-many (axesAt reals counts g) (axesAt theirs tallies o) e
-      ∙ axes-length (o .most) theirs tallies (o .axes) (o .reals) (o .counts)
+      ∙ length-axes (o .most) theirs tallies (o .axes) (o .reals) (o .counts)
 
   pub same-differ : (g o : AxesAt) → (g .axes ≡ o .axes → ⊥) → false ≡ sameAt g o
   same-differ g o h = elim (either (sameAt g o)) [

@@ -32,11 +32,6 @@ unfolding coordinatesFrom
 coordinates-length p i zero = refl
 coordinates-length p i (suc n) = ap suc (coordinates-length p (i + 1) n)
 
-pub axes-length : (m : ℕ) (reals : List Float) (counts : List ℕ) (k r c : ℕ) → length (axesFrom m reals counts k r c) ≡ k
-unfolding axesFrom
-axes-length m reals counts zero r c = refl
-axes-length m reals counts (suc k) r c = ap suc (axes-length m reals counts k _ _)
-
 -- one axis
 one-more : (ax : Axis) (rest : List Axis) (free : Bool) (x : Float) (xs : List Coordinate) (w : Float)
     → probeAll (ax ∷ rest) (coordinateOf free x ∷ xs) w

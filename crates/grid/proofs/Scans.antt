@@ -6,8 +6,8 @@ use Prim.Native.Nat.{ℕ, zero, suc, _+_, _^_, _≤_, _<_}
 use native.Mathlib.Numerals.{add-one}
 use native.Mathlib.Omega.{arith}
 use lib.Dec.{leb}
-use lib.ListN.{length, drop, getD, length-drop, drop-of-length-le}
-use lib.Seq.{drop-cons, length-take-le}
+use lib.ListN.{length, drop, getD, drop-of-length-le}
+use lib.Seq.{drop-cons}
 use lib.Ieee.{Float, binary64, add, eq}
 use Rattle.real.specs.Finite.{finiteOf}
 use Rattle.real.specs.Total.{allFinite}
@@ -18,10 +18,7 @@ use Rattle.recut.specs.Gather.{gatheredOf, joinedCount, joinedCounts}
 use Rattle.model.specs.Merge.{equalAll}
 use Rattle.grid.specs.Layout.{stretch}
 use Rattle.grid.proofs.Same.{getD-stretch}
-
-pub stretch-length : {A : Type 0} (at n : ℕ) (xs : List A) → at + n ≤ length xs → length (stretch at n xs) ≡ n
-unfolding stretch
-stretch-length at n xs h = length-take-le n (drop at xs) (omega (arith, length-drop at xs))
+use Rattle.grid.proofs.Changes.{stretch-length}
 
 -- a test of all pairs, from one pair on
 module _ {A : Type 0} (d : A) (t : A → A → Bool) (all : List A → List A → Bool)

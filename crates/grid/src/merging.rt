@@ -142,7 +142,7 @@ fn first_fits(
     let squares = are_finite_with(reals, r + (3 * m + 1), theirs, q + (3 * k + 1), held);
     let waiting = are_bounded_with(counts, c + 2, tallies, d + 2, held);
     let zeros = are_bounded_with(counts, c + (m + 2), tallies, d + (k + 2), held);
-    sums & (squares & (waiting & zeros))
+    (sums & squares) & (waiting & zeros)
 }
 
 // Whether all axes may be kept with the other's waiting samples, where both are kept now and lengths are the same.
