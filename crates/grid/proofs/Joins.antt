@@ -51,7 +51,13 @@ module _ {A : Type 0} (d : A) (f : A → A → A) where
     unfolding joinAt
     join-above lo hi k = same-put-above d lo hi at n (pairwise f (stretch at n xs) (stretch from n theirs)) xs h as-long k
 
-    -- an entry of the column itself
+    -- an entry before the column, one past it, and one of the column itself
+    pub join-before : (p : ℕ) → p < at → getD (joinAt f at from n theirs xs) p d ≡ getD xs p d
+    join-before p k = join-above p (suc p) (omega arith) .cells p (omega arith) (omega arith)
+
+    pub join-past : (p : ℕ) → at + n ≤ p → getD (joinAt f at from n theirs xs) p d ≡ getD xs p d
+    join-past p k = join-below p (suc p) (omega arith) .cells p (omega arith) (omega arith)
+
     pub join-in : (i : ℕ) → i < n → from + n ≤ length theirs → getD (joinAt f at from n theirs xs) (at + i) d ≡ f (getD xs (at + i) d) (getD theirs (from + i) d)
     unfolding joinAt
     join-in i k g =

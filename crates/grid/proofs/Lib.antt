@@ -11,6 +11,7 @@ pub mod Scans
 pub mod Joins
 pub mod Kept
 pub mod Merges
+pub mod MergedAxes
 pub mod Copies
 pub mod Lays
 pub mod Judges

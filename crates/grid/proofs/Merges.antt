@@ -59,7 +59,7 @@ module _ (reals : List Float) (counts : List ℕ) (theirs : List Float) (tallies
       (length-bins (o .most) theirs tallies (o .reals) (o .counts) 0 (getD tallies (o .counts) 0))
 
   -- as many axes as the other, where lengths are the same
-  as-many : (g o : AxesAt) → sameAt g o ≡ true → g .axes ≡ o .axes
+  pub as-many : (g o : AxesAt) → sameAt g o ≡ true → g .axes ≡ o .axes
   as-many g o e =
       sym (length-axes (g .most) reals counts (g .axes) (g .reals) (g .counts))
       ∙ same-many (axesAt reals counts g) (axesAt theirs tallies o) e
