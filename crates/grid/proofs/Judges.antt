@@ -78,7 +78,7 @@ module _ (ns : List ℕ) (m : ℕ) (reals : List Float) (counts : List ℕ) wher
 
 -- ---- the scans tell exactly which axes are well formed
 
-two-and-two : (a b c d : Bool) → ((a && b) && (c && d)) ≡ ((a && c) && (b && d))
+pub two-and-two : (a b c d : Bool) → ((a && b) && (c && d)) ≡ ((a && c) && (b && d))
 two-and-two true true c d = refl
 two-and-two true false c d = sym (and-false c)
 two-and-two false b c d = refl

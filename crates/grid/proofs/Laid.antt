@@ -196,3 +196,10 @@ laid-bins (suc l) table R C w (inl a) n = absurd (n (a .kind))
 laid-bins (suc l) table R C w (inr b) n =
     let e : l ≡ suc l - 1 = omega arith in
     record { level = omega arith; bins = subst (λ (k : ℕ). BinsLaid (Laid k table R C) table R C w) e b }
+
+-- a run begins in its table
+pub laid-head : (l : ℕ) (table : List ℕ) (R C w : ℕ) → Laid l table R C w → w + 7 ≤ length table
+unfolding Laid
+laid-head zero table R C w h = omega (arith, h .head)
+laid-head (suc l) table R C w (inl a) = omega (arith, a .head)
+laid-head (suc l) table R C w (inr b) = omega (arith, b .head)

@@ -15,6 +15,7 @@ pub mod MergedAxes
 pub mod Copies
 pub mod Lays
 pub mod Judges
+pub mod Sounds
 pub mod Trains
 pub mod Trained
 pub mod Inside

@@ -9,7 +9,9 @@ use lib.Ieee.{Float}
 use Rattle.real.specs.Total.{allFinite}
 use Rattle.axis.specs.Edges.{wellFormed}
 use Rattle.axis.specs.Scans.{allBounded}
-use Rattle.model.specs.Sound.{listed}
+use Rattle.accumulator.specs.Record as account
+use Rattle.model.specs.Grid.{Bin, Bins, Child}
+use Rattle.model.specs.Sound.{chance, listed, formedBins, formedChild, keptBins, keptChild}
 use Rattle.grid.specs.Layout.{stretch, axisReals, axisCounts}
 
 -- the doubles of an axis that holds n bins: edges that rise from 0 to 1, finite importances, sums and squares
@@ -36,3 +38,12 @@ axesFit numbers m reals counts (suc k) r c = axisFits numbers m reals counts r c
 -- each of a plan's bin numbers is from 1 to m
 unfoldable pub AllUpto : ℕ → List ℕ → Type 0
 AllUpto m ns = (i : ℕ) → i < length ns → (1 ≤ getD ns i 0) × (getD ns i 0 ≤ m)
+
+-- ---- the tree
+
+-- a bin and what hangs there
+unfoldable pub soundBin : Bin → Child → Bool
+soundBin b c = (chance (b .probability) && account.wellFormed (b .own)) && (formedChild c && keptChild c)
+
+unfoldable pub soundBins : Bins → Bool
+soundBins bs = formedBins bs && keptBins bs

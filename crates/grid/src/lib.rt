@@ -10,4 +10,7 @@ mod merging;
 mod onward;
 mod probing;
 mod renewal;
+mod judge;
+mod judging;
+mod layout;
 mod training;
