@@ -1,13 +1,13 @@
 -- An update keeps to its axis: whatever it finds, the memory outside the axis's own stretches stays.
 use mathlib.Core.Path.{_≡_, refl, sym, ap, ap₂, _∙_, subst}
 use mathlib.Core.Bool.{Bool, true, false, not, cond, _&&_, _||_}
-use mathlib.Core.List.{List, [], _∷_}
-use Prim.Native.Nat.{ℕ, zero, suc, _+_, _-_, _*_, _≤_, _<_}
+use mathlib.Core.List.{List}
+use Prim.Native.Nat.{ℕ, suc, _+_, _-_, _*_, _≤_, _<_}
 use native.Mathlib.Numerals.{unary-clauses}
 use native.Mathlib.Omega.{arith}
-use lib.ListN.{length, getD, take, drop, length-drop}
+use lib.ListN.{length, getD, drop, length-drop}
 use lib.Seq.{length-take-le}
-use lib.Ieee.{Float, nan, eq}
+use lib.Ieee.{Float, eq}
 use Rattle.real.specs.Numbers.{zero64}
 use Rattle.real.specs.Total.{allFinite}
 use Rattle.real.specs.Paper.{Paper, gives, refuses}
@@ -20,13 +20,12 @@ use Rattle.model.specs.Update.{Outcome}
 use Rattle.grid.specs.declared.renewal.Rule.{Rule}
 use Rattle.grid.specs.declared.renewal.Found.{Found}
 use Rattle.grid.specs.Layout.{stretch, axisReals, axisCounts}
-use Rattle.grid.specs.Memory.{Memory, memory, put}
+use Rattle.grid.specs.Memory.{Memory, memory}
 use Rattle.grid.specs.Drawn.{Standing}
 use Rattle.grid.specs.Laid.{emptyAt}
-use Rattle.grid.specs.Renewed.{binsTo, Within, trainedFrom, importancesAt, countersAt, finding, found, keptAt, recutInto, recutAt, adaptedAt, updateAt, updateAllAt}
+use Rattle.grid.specs.Renewed.{binsTo, Within, importancesAt, countersAt, finding, found, keptAt, recutInto, recutAt, adaptedAt, updateAt, updateAllAt}
 use Rattle.grid.proofs.Same.{Same, same-refl, same-on}
 use Rattle.grid.proofs.Standing.{next}
-use Rattle.grid.proofs.Renewals.{trained-room}
 use Rattle.grid.proofs.Inside.{Here, Inside, inside-none, inside-on, inside-reals, inside-counts, inside-waitless, inside-empty, inside-edged}
 
 -- a stretch that lies in memory is whole

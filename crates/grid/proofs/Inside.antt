@@ -1,16 +1,14 @@
 -- Writes that keep to an axis's own stretches: each leaves all memory outside them, and the lengths.
-use mathlib.Core.Path.{_≡_, refl, sym, ap, _∙_}
-use mathlib.Core.Bool.{Bool, true, false, not, cond, _&&_}
-use mathlib.Core.List.{List, [], _∷_}
-use Prim.Native.Nat.{ℕ, zero, suc, _+_, _-_, _*_, _≤_, _<_}
+use mathlib.Core.Path.{_≡_}
+use mathlib.Core.List.{List}
+use Prim.Native.Nat.{ℕ, suc, _+_, _-_, _*_, _≤_, _<_}
 use native.Mathlib.Omega.{arith}
-use lib.ListN.{length, getD, set, replicate, length-replicate}
-use lib.Ieee.{Float, nan, eq}
+use lib.ListN.{length, set, replicate, length-replicate}
+use lib.Ieee.{Float, nan}
 use Rattle.real.specs.Numbers.{zero64}
-use Rattle.axis.specs.Edges.{evenEdges}
 use Rattle.grid.specs.Memory.{Memory, memory, put}
-use Rattle.grid.specs.Laid.{clearedReals, clearedCounts, waitlessAt, forgottenAt, headedAt, emptyAt, edgedAt, layAt}
-use Rattle.grid.proofs.Same.{Same, same-refl, same-on, same-set-below, same-set-above, same-put-below, same-put-above, length-put}
+use Rattle.grid.specs.Laid.{clearedReals, clearedCounts, waitlessAt, forgottenAt, headedAt, emptyAt, edgedAt}
+use Rattle.grid.proofs.Same.{same-refl, same-on, same-set-below, same-set-above, same-put-below, same-put-above, length-put}
 use Rattle.grid.proofs.Over.{Apart}
 
 -- the stretches of an axis of at most m bins lie in memory

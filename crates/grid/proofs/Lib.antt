@@ -14,6 +14,12 @@ pub mod Merges
 pub mod MergedAxes
 pub mod Copies
 pub mod Lays
+pub mod Lays
+pub mod Inside
+pub mod Renewals
+pub mod Changes
+pub mod Empties
+pub mod Updates
 pub mod Judges
 pub mod Sounds
 pub mod Trains

@@ -1,6 +1,6 @@
 -- The update of axes: the laws of its stages, in the code's shape.
 use mathlib.Core.Path.{_≡_, refl, sym, ap, ap₂, _∙_}
-use mathlib.Core.List.{List, [], _∷_, _++_}
+use mathlib.Core.List.{List, [], _∷_}
 use Prim.Native.Nat.{ℕ, zero, suc, _+_, _-_, _*_, _^_, _≤_, _<_}
 use native.Mathlib.Omega.{arith}
 use lib.ListN.{length, take, drop, getD, List·getD-eq-default}
@@ -13,7 +13,7 @@ use Rattle.real.proofs.Truth.{failed, passed}
 use Rattle.accumulator.specs.Record.{bounded}
 use Rattle.axis.specs.Scans.{allBounded}
 use Rattle.recut.specs.Gather.{gatheredOf, joinedCounts, reachesOf}
-use mathlib.Core.Bool.{Bool, true, false, not, cond, _&&_, _||_}
+use mathlib.Core.Bool.{Bool, true, false, not, _&&_}
 use Rattle.real.specs.Paper.{Paper, gives, refuses}
 use Rattle.recut.specs.declared.Renewed.{Renewed}
 use Rattle.recut.specs.declared.Renewed.the-variants as renewed
@@ -62,6 +62,21 @@ module _ (rule : Rule) (vs : List ℕ) (k : ℕ) where
 pub within : (m n k : ℕ) (rule : Rule) (vs : List ℕ) → Within m rule vs → n ≡ binsTo rule vs k → n ≤ m
 unfolding Within
 within m n k rule vs w e = let h = w k in omega arith
+
+-- values and bins of at most m
+last-within : (m b : ℕ) (vs : List ℕ) → b ≤ m → ((i : ℕ) → i < length vs → getD vs i 0 ≤ m) → lastOr b vs ≤ m
+unfolding lastOr
+last-within m b [] h v = h
+last-within m b (x ∷ vs) h v = last-within m x vs (v 0 (omega arith)) (λ i k. v (suc i) (omega arith))
+
+getD-within : (m d : ℕ) (vs : List ℕ) (k : ℕ) → d ≤ m → ((i : ℕ) → i < length vs → getD vs i 0 ≤ m) → getD vs k d ≤ m
+getD-within m d [] k h v = h
+getD-within m d (x ∷ vs) zero h v = v 0 (omega arith)
+getD-within m d (x ∷ vs) (suc k) h v = getD-within m d vs k h (λ i j. v (suc i) (omega arith))
+
+pub within-all : (m : ℕ) (rule : Rule) (vs : List ℕ) → rule .bins ≤ m → ((i : ℕ) → i < length vs → getD vs i 0 ≤ m) → Within m rule vs
+unfolding Within binsTo
+within-all m rule vs h v k = getD-within m (lastOr (rule .bins) vs) vs k (last-within m (rule .bins) vs h v) v
 
 -- ---- the re-cut
 

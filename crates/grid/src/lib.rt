@@ -12,5 +12,7 @@ mod probing;
 mod renewal;
 mod judge;
 mod judging;
+mod laying;
 mod layout;
+mod renewal;
 mod training;

@@ -7,7 +7,7 @@ ghost use Rattle.real.specs.Total.{allFinite};
 ghost use Rattle.axis.specs.Scans.{allBounded};
 ghost use Rattle.recut.specs.Gather.{gatheredOf, joinedCounts};
 ghost use Rattle.recut.specs.Renew.{renewOf};
-ghost use Rattle.grid.specs.Layout.{stretch, axisReals, axisCounts};
+ghost use Rattle.grid.specs.Layout.{stretch};
 ghost use Rattle.grid.specs.Memory.{memory, put};
 ghost use Rattle.grid.specs.Drawn.{Stands};
 ghost use Rattle.grid.specs.Laid.{Roomy};

@@ -4,8 +4,6 @@ use mathlib.Core.List.{List, _++_}
 use Prim.Native.Nat.{ℕ, zero-le, _-_, _≤_}
 use native.Mathlib.Omega.{arith}
 use lib.ListN.{length, take, drop, replicate, length-set, drop-of-length-le}
-use lib.Ieee.{Float, nan}
-use Rattle.real.specs.Numbers.{zero64}
 use Rattle.recut.proofs.Writes.{rest-next, rest-done}
 use Rattle.grid.proofs.clearing.clear_counts.Statement.{statement}
 use Rattle.grid.proofs.clearing.clear_counts.Tie as tie

@@ -1,7 +1,7 @@
 -- `clearing::clear_reals` meets its contract: the cells written and the zeros still to come are all zeros.
 use mathlib.Core.Path.{_≡_, refl, sym, _∙_}
 use mathlib.Core.List.{List, _++_}
-use Prim.Native.Nat.{ℕ, zero-le, _-_, _≤_}
+use Prim.Native.Nat.{zero-le, _-_, _≤_}
 use native.Mathlib.Omega.{arith}
 use lib.ListN.{length, take, drop, replicate, length-set, drop-of-length-le}
 use lib.Ieee.{Float, nan}

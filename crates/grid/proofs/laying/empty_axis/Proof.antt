@@ -3,7 +3,6 @@ use native.Mathlib.Omega.{arith}
 use Rattle.grid.specs.Layout.{axisReals, axisCounts}
 use mathlib.Core.Path.{ap, _∙_}
 use lib.ListN.{length-set}
-use Rattle.grid.specs.Memory.{Memory}
 use Rattle.grid.specs.Laid.{headedAt, forgottenAt, emptyAt}
 use borrow.Author.Needs.{needs}
 use Rattle.grid.proofs.laying.empty_axis.Statement.{statement}

@@ -6,7 +6,6 @@ use native.Mathlib.Numerals.{add-one}
 use native.Mathlib.Omega.{arith}
 use lib.ListN.{length, take, drop, length-set, drop-of-length-le}
 use lib.Seq.{drop-cons}
-use lib.Ieee.{Float, nan}
 use denote.Ref.{now}
 use Rattle.recut.proofs.Writes.{rest-next, rest-done}
 use Rattle.grid.proofs.renewal.copy_counts.Statement.{statement}

@@ -1,7 +1,7 @@
 -- `renewal::copy_reals` meets its contract: what is copied, with what is left to copy, is the whole.
 use mathlib.Core.Path.{_≡_, refl, sym, _∙_}
 use mathlib.Core.List.{List, _++_}
-use Prim.Native.Nat.{ℕ, zero-le, _-_, _+_, _≤_, _<_}
+use Prim.Native.Nat.{zero-le, _-_, _+_, _≤_, _<_}
 use native.Mathlib.Numerals.{add-one}
 use native.Mathlib.Omega.{arith}
 use lib.ListN.{length, take, drop, length-set, drop-of-length-le}

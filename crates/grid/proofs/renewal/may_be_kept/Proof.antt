@@ -1,6 +1,4 @@
 -- `renewal::may_be_kept` meets its contract: both tests.
-use mathlib.Core.Path.{_≡_, sym, ap, ap₂, _∙_}
-use mathlib.Core.Bool.{Bool, _&&_}
 use Rattle.real.proofs.Truth.{failed, passed}
 use borrow.Author.Needs.{needs}
 use Rattle.grid.proofs.renewal.may_be_kept.Statement.{statement}

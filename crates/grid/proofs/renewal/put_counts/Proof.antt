@@ -1,5 +1,4 @@
 -- `renewal::put_counts` meets its contract: the part comes back as a copy.
-use native.Mathlib.Omega.{arith}
 use Rattle.grid.proofs.Lays.{copied-back}
 use borrow.Author.Needs.{needs}
 use Rattle.grid.proofs.renewal.put_counts.Statement.{statement}
