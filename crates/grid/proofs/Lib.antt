@@ -4,7 +4,16 @@ pub mod Reading
 pub mod Over
 pub mod Laid
 pub mod Standing
+pub mod First
 pub mod Draws
+pub mod Probes
+pub mod Scans
+pub mod Joins
+pub mod Kept
+pub mod Merges
+pub mod MergedAxes
+pub mod Copies
+pub mod Lays
 pub mod Lays
 pub mod Inside
 pub mod Renewals
@@ -16,3 +25,6 @@ pub mod Sounds
 pub mod Samples
 pub mod Trains
 pub mod Trained
+pub mod Inside
+pub mod Renewals
+pub mod Changes

@@ -2,6 +2,14 @@
 mod accounts;
 mod axes;
 mod clearing;
+mod copying;
+mod joining;
+mod judging;
+mod laying;
+mod merging;
+mod onward;
+mod probing;
+mod renewal;
 mod judge;
 mod judging;
 mod laying;
