@@ -14,7 +14,6 @@ pub mod Merges
 pub mod MergedAxes
 pub mod Copies
 pub mod Lays
-pub mod Lays
 pub mod Inside
 pub mod Renewals
 pub mod Changes
@@ -25,6 +24,3 @@ pub mod Sounds
 pub mod Samples
 pub mod Trains
 pub mod Trained
-pub mod Inside
-pub mod Renewals
-pub mod Changes

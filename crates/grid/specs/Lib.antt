@@ -11,9 +11,4 @@ pub mod Trained
 pub mod Tree
 pub mod Judged
 pub mod Renewed
-pub mod Laid
-pub mod Renewed
-pub mod Trained
-pub mod Tree
-pub mod Judged
 pub mod Sampled
