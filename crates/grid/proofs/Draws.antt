@@ -6,8 +6,8 @@ use Prim.Native.Nat.{ℕ, suc, _+_, _-_, _*_, _^_, _≤_, _<_}
 use native.Mathlib.Nat.{mod-lt}
 use native.Mathlib.Numerals.{add-one}
 use native.Mathlib.Omega.{arith}
-use lib.ListN.{length, take, drop, set, getD}
-use lib.Seq.{take-suc-set}
+use lib.ListN.{length, take, drop, set, getD, replicate, take-append-drop, length-replicate, replicate-append-replicate}
+use lib.Seq.{take-suc-set, drop-set-lt, drop-drop, length-take-le, take-append-add, take-at}
 use lib.Ieee.{Float, binary64, mul, le, ofBits}
 use lib.Pow.{pow-pos}
 use Rattle.real.specs.Numbers.{zero64, one64}
@@ -24,6 +24,7 @@ use Rattle.axis.specs.Edges.{wellFormed, inUnit}
 use Rattle.model.specs.Axes.{Axis}
 use Rattle.model.specs.Draw.{Placed, unitAt, placeOn, walked}
 use Rattle.grid.specs.Layout.{stretch, axisAt, axesFrom}
+use Rattle.grid.specs.Drawn.{padded}
 use Rattle.grid.proofs.Standing.{left-on}
 
 -- coordinates in front of a draw
@@ -81,3 +82,24 @@ asked-part r n reals f = let e : r + n + 1 - r ≡ n + 1 = omega arith in rw e f
 pub asked-unit : (s : MonteCarloRng) (u : Unit) → u ≡ unitDrawnOf s → inUnit (u .value) ≡ true
 unfolding unitDrawnOf
 asked-unit s u drawn = rw drawn (unit-in (wordOf s) (word-below s))
+
+-- ---- coordinates that are not set yet are 0
+
+pub zeros-on : (cs : List Float) (d : ℕ) (x : Float) → d < 8 → drop d cs ≡ replicate (8 - d) zero64 → drop (d + 1) (set cs d x) ≡ replicate (8 - (d + 1)) zero64
+zeros-on cs d x h e =
+    let n : 8 - d ≡ suc (8 - (d + 1)) = omega arith in
+    drop-set-lt (d + 1) cs d x (omega arith) ∙ sym (drop-drop 1 d cs) ∙ ap (drop 1) (e ∙ ap (λ (k : ℕ). replicate k zero64) n)
+
+pub zeros-out : (cs : List Float) (k d : ℕ) → d ≡ k → k ≤ 8 → length cs ≡ 8 → drop d cs ≡ replicate (8 - d) zero64
+    → (cs ≡ padded 8 zero64 (take k cs)) × (length (take k cs) ≡ k)
+unfolding padded
+zeros-out cs k d same h size e =
+    let n : length (take k cs) ≡ k = length-take-le k cs (omega arith) in
+    let z : drop k cs ≡ replicate (8 - k) zero64 = rw (sym same) e in
+    let m : 8 ≡ length (take k cs) + (8 - k) = omega arith in
+    let p : 8 ≡ 8 - k + k = omega arith in
+    let s : length (replicate (8 - k) zero64) ≡ 8 - k = length-replicate (8 - k) zero64 in
+    (sym (take-append-drop k cs) ∙ ap (λ (l : List Float). take k cs ++ l) (z ∙ sym (take-at (replicate (8 - k) zero64) (replicate k zero64) (8 - k) s))
+    ∙ ap (λ (l : List Float). take k cs ++ take (8 - k) l) (replicate-append-replicate (8 - k) k zero64 ∙ ap (λ (j : ℕ). replicate j zero64) (sym p))
+    ∙ sym (take-append-add (take k cs) (replicate 8 zero64) (8 - k))
+    ∙ ap (λ (j : ℕ). take j (take k cs ++ replicate 8 zero64)) (sym m), n)

@@ -22,5 +22,6 @@ pub mod Updates
 pub mod Judges
 pub mod Sounds
 pub mod Samples
+pub mod States
 pub mod Trains
 pub mod Trained

@@ -23,13 +23,16 @@ use Rattle.plan.specs.Numbers.{wordsAt}
 use Rattle.model.specs.Grid.{Grid, Bins, Child, Head, Bin, axes, bins, none, more, nothing, grid, probabilities}
 use Rattle.model.specs.Sound.{chance, sound, formedGrid, formedBins, formedChild, keptGrid, keptBins, keptChild}
 use Rattle.model.specs.Draw.{Sample, Drawing, unitAt, Placed, placedFrom, placedOf, drawAxes, weightAt, reached, over, drawBin, drawChild, drawNothing, drawGrid}
+use Rattle.grid.specs.declared.Drawing as drawn
+use Rattle.grid.specs.declared.Sample as given
 use Rattle.grid.specs.declared.axes.AxesAt.{AxesAt}
+use Rattle.grid.specs.declared.axes.Walked.{Walked}
 use Rattle.grid.specs.Layout.{stretch}
-use Rattle.grid.specs.Drawn.{Standing, Stands, axesAt, underFloor}
+use Rattle.grid.specs.Drawn.{Standing, Stands, axesAt, underFloor, placedBy, padded, Filled}
 use Rattle.grid.specs.Memory.{recordAt}
 use Rattle.grid.specs.Tree.{axesPlanAt, axesPlace, axesGridAt, binIn, childIn, binsIn, headAt, gridAt, AxesLaid}
 use Rattle.grid.specs.Judged.{axesFit, soundBin, soundBins}
-use Rattle.grid.specs.Sampled.{entries, pushed, soundChild}
+use Rattle.grid.specs.Sampled.{entries, sampleOf, laidSample, laidDrawing, Short, pushed, pushedOn, soundChild, DrawsAs}
 use Rattle.grid.proofs.Judges.{stretch-one, part, fit-stands}
 use Rattle.grid.proofs.Sounds.{numbers-upto, sound-axes, sound-more, sound-bins}
 
@@ -81,25 +84,47 @@ unfolding weightAt entries
 first-weight ws zero h = absurd (h refl)
 first-weight ws (suc n) h = refl
 
--- the entries of an array, behind one that is put in front
-pub front-three : {A : Type 0} (x d : A) (xs : List A) (n : ℕ) → n ≤ 3
-    → entries d (x ∷ (getD xs 0 d ∷ (getD xs 1 d ∷ (getD xs 2 d ∷ [])))) 0 (n + 1) ≡ x ∷ entries d xs 0 n
-unfolding entries
-front-three x d xs zero h = refl
-front-three x d xs (suc zero) h = refl
-front-three x d xs (suc (suc zero)) h = refl
-front-three x d xs (suc (suc (suc zero))) h = refl
-front-three x d xs (suc (suc (suc (suc n)))) h = absurd (omega arith)
+-- what is put in front of a sample
+pad-path : (i : ℕ) (ps : List ℕ) → length ps ≤ 3
+    → i ∷ (getD (padded 4 0 ps) 0 0 ∷ (getD (padded 4 0 ps) 1 0 ∷ (getD (padded 4 0 ps) 2 0 ∷ []))) ≡ padded 4 0 (i ∷ ps)
+unfolding padded
+pad-path i [] h = refl
+pad-path i (a ∷ []) h = refl
+pad-path i (a ∷ (b ∷ [])) h = refl
+pad-path i (a ∷ (b ∷ (c ∷ []))) h = refl
+pad-path i (a ∷ (b ∷ (c ∷ (d ∷ ps)))) h = absurd (omega arith)
 
-pub front-four : {A : Type 0} (x d : A) (xs : List A) (n : ℕ) → n ≤ 4
-    → entries d (x ∷ (getD xs 0 d ∷ (getD xs 1 d ∷ (getD xs 2 d ∷ (getD xs 3 d ∷ []))))) 0 (n + 1) ≡ x ∷ entries d xs 0 n
-unfolding entries
-front-four x d xs zero h = refl
-front-four x d xs (suc zero) h = refl
-front-four x d xs (suc (suc zero)) h = refl
-front-four x d xs (suc (suc (suc zero))) h = refl
-front-four x d xs (suc (suc (suc (suc zero)))) h = refl
-front-four x d xs (suc (suc (suc (suc (suc n))))) h = absurd (omega arith)
+pad-weights : (w : Float) (ws : List Float) → length ws ≤ 4
+    → w ∷ (getD (padded 5 zero64 ws) 0 nan ∷ (getD (padded 5 zero64 ws) 1 nan ∷ (getD (padded 5 zero64 ws) 2 nan ∷ (getD (padded 5 zero64 ws) 3 nan ∷ [])))) ≡ padded 5 zero64 (w ∷ ws)
+unfolding padded
+pad-weights w [] h = refl
+pad-weights w (a ∷ []) h = refl
+pad-weights w (a ∷ (b ∷ [])) h = refl
+pad-weights w (a ∷ (b ∷ (c ∷ []))) h = refl
+pad-weights w (a ∷ (b ∷ (c ∷ (d ∷ [])))) h = refl
+pad-weights w (a ∷ (b ∷ (c ∷ (d ∷ (e ∷ ws))))) h = absurd (omega arith)
+
+pub push-laid : (i : ℕ) (w : Float) (m : Sample) → length (m .path) ≤ 3 → length (m .weights) ≤ 4 → pushedOn i w (laidSample m) ≡ laidSample (pushed i w m)
+unfolding pushedOn laidSample pushed
+push-laid i w m h k =
+    let e : length (m .path) + 1 ≡ suc (length (m .path)) = omega arith in
+    let f : length (m .weights) + 1 ≡ suc (length (m .weights)) = omega arith in
+    rw (pad-path i (m .path) h, pad-weights w (m .weights) k, e, f)
+
+-- the weights of a sample that was laid
+laid-entries : (ws : List Float) → length ws ≤ 5 → entries nan (padded 5 zero64 ws) 0 (length ws) ≡ ws
+unfolding entries padded
+laid-entries [] h = refl
+laid-entries (a ∷ []) h = refl
+laid-entries (a ∷ (b ∷ [])) h = refl
+laid-entries (a ∷ (b ∷ (c ∷ []))) h = refl
+laid-entries (a ∷ (b ∷ (c ∷ (d ∷ [])))) h = refl
+laid-entries (a ∷ (b ∷ (c ∷ (d ∷ (e ∷ []))))) h = refl
+laid-entries (a ∷ (b ∷ (c ∷ (d ∷ (e ∷ (f ∷ ws)))))) h = absurd (omega arith)
+
+pub laid-weights : (m : Sample) → length (m .weights) ≤ 5 → sampleOf (laidSample m) .weights ≡ m .weights
+unfolding sampleOf laidSample
+laid-weights m h = laid-entries (m .weights) h
 
 -- ---- a draw from a bin
 
@@ -176,10 +201,49 @@ sound-stands table reals counts w a e =
 unfoldable pub alone : Placed → Drawing
 alone p = record { sample = record { path = []; weights = p .weight ∷ []; coordinates = p .coordinates }; stream = p .stream }
 
-pub axes-drawn : (table : List ℕ) (reals : List Float) (counts : List ℕ) (w : ℕ) (start : MonteCarloRng) (p : Placed) (g : AxesAt) → g ≡ axesPlace table w
+alone-short : (p : Placed) → length (p .coordinates) ≤ 8 → Short 0 (alone p .sample)
+unfolding alone
+alone-short p h = record { levels = omega arith; given = omega arith; axes = h }
+
+placed-size : (k : ℕ) (v : Walked) → k ≤ 8 → Filled k v → length (placedBy k v .coordinates) ≤ 8
+unfolding placedBy
+placed-size k v h f = omega (arith, f .1)
+
+axes-drawn : (table : List ℕ) (reals : List Float) (counts : List ℕ) (w : ℕ) (start : MonteCarloRng) (p : Placed) (g : AxesAt) → g ≡ axesPlace table w
     → p ≡ underFloor (g .floor) (placedFrom (g .floor) (axesAt reals counts g) start) → alone p ≡ drawAxes (axesGridAt table reals counts w) start
 unfolding alone drawAxes placedOf axesGridAt axesPlanAt axesPlace underFloor
 axes-drawn table reals counts w start p g e d = ap alone (d ∙ ap (λ (h : AxesAt). underFloor (h .floor) (placedFrom (h .floor) (axesAt reals counts h) start)) e)
+
+-- the struct that the code makes of a walk
+unfoldable pub structOf : ℕ → Walked → drawn.Drawing
+structOf k v =
+    record {
+      sample =
+          record {
+            path = 0 ∷ (0 ∷ (0 ∷ (0 ∷ [])));
+            levels = 0;
+            weights = v .weight ∷ (zero64 ∷ (zero64 ∷ (zero64 ∷ (zero64 ∷ []))));
+            given = 1;
+            coordinates = v .coordinates;
+            axes = k;
+          };
+      stream = v .stream;
+    }
+
+walk-laid : (k : ℕ) (v : Walked) → Filled k v → structOf k v ≡ laidDrawing (alone (placedBy k v))
+unfolding structOf laidDrawing laidSample alone placedBy padded
+walk-laid k v f =
+    ap₂ (λ (cs : List Float) (n : ℕ). record {
+      sample = record { path = 0 ∷ (0 ∷ (0 ∷ (0 ∷ []))); levels = 0; weights = v .weight ∷ (zero64 ∷ (zero64 ∷ (zero64 ∷ (zero64 ∷ [])))); given = 1; coordinates = cs; axes = n };
+      stream = v .stream;
+    }) (f .0) (sym (f .1))
+
+pub axes-made : (table : List ℕ) (reals : List Float) (counts : List ℕ) (w : ℕ) (start : MonteCarloRng) (v : Walked) (g : AxesAt) → g ≡ axesPlace table w → g .axes ≤ 8
+    → placedBy (g .axes) v ≡ underFloor (g .floor) (placedFrom (g .floor) (axesAt reals counts g) start) → Filled (g .axes) v
+    → DrawsAs 0 (drawAxes (axesGridAt table reals counts w) start) (structOf (g .axes) v)
+axes-made table reals counts w start v g e h d f =
+    let m = axes-drawn table reals counts w start (placedBy (g .axes) v) g e d in
+    (walk-laid (g .axes) v f ∙ ap laidDrawing m, subst (λ (r : Drawing). Short 0 (r .sample)) m (alone-short (placedBy (g .axes) v) (placed-size (g .axes) v h f)))
 
 -- ---- a draw from a bins grid, as the code makes it
 
@@ -213,3 +277,60 @@ module _ (f : ℕ → Grid) (table : List ℕ) (reals : List Float) (counts : Li
       ∙ ap (λ (b : Drawing). over i (binIn table reals counts w i) b) d
       ∙ sym (draw-bin f table reals counts w many i (stepOf start) inside)
       ∙ ap (λ (k : ℕ). drawBin (binsIn f table reals counts w 0 many) k k (stepOf start)) j
+
+pub shorter : (k l : ℕ) (s : Sample) → k ≤ l → Short k s → Short l s
+shorter k l s h q = record { levels = omega (arith, q .levels); given = omega (arith, q .given); axes = q .axes }
+
+-- the numbers of a sample that was laid
+pub laid-levels : (l : ℕ) (m : Drawing) (d : drawn.Drawing) → DrawsAs l m d → (d .sample .levels ≤ l) × (d .sample .given ≤ l + 1)
+unfolding laidDrawing laidSample
+laid-levels l m d q =
+    let e : d .sample .levels ≡ length (m .sample .path) = ap (λ (x : drawn.Drawing). x .sample .levels) (q .0) in
+    let f : d .sample .given ≡ length (m .sample .weights) = ap (λ (x : drawn.Drawing). x .sample .given) (q .0) in
+    (omega (arith, e, q .1 .levels), omega (arith, f, q .1 .given))
+
+below-weights : (m : Drawing) → length (m .sample .weights) ≤ 5 → sampleOf (laidDrawing m .sample) .weights ≡ m .sample .weights
+unfolding laidDrawing
+below-weights m h = laid-weights (m .sample) h
+
+below-push : (i : ℕ) (x : Float) (m : Drawing) → length (m .sample .path) ≤ 3 → length (m .sample .weights) ≤ 4 → pushedOn i x (laidDrawing m .sample) ≡ laidSample (pushed i x (m .sample))
+unfolding laidDrawing
+below-push i x m h k = push-laid i x (m .sample) h k
+
+laid-stream : (m : Drawing) → laidDrawing m .stream ≡ m .stream
+unfolding laidDrawing
+laid-stream m = refl
+
+laid-again : (d : Drawing) → record { sample = laidSample (d .sample); stream = d .stream } ≡ laidDrawing d
+unfolding laidDrawing
+laid-again d = refl
+
+pushed-short : (l i : ℕ) (x : Float) (s : Sample) → Short l s → Short (l + 1) (pushed i x s)
+unfolding pushed
+pushed-short l i x s q = record { levels = omega (arith, q .levels); given = omega (arith, q .given); axes = q .axes }
+
+module _ (f : ℕ → Grid) (table : List ℕ) (reals : List Float) (counts : List ℕ) (w : ℕ) (h : Head) where
+  abbrev holds : ℕ
+  holds = getD table (w + 2) 0
+
+  abbrev begins : ℕ
+  begins = getD table (w + 5) 0 + 14
+
+  -- the struct that the code makes of what was drawn below
+  pub bins-made : (l : ℕ) (start : MonteCarloRng) (u : Unit) (i : ℕ) (m : Drawing) (below : drawn.Drawing) (weighs inverse : Float) (made : given.Sample)
+      → begins + holds ≤ length reals → l ≤ 3 → u ≡ unitDrawnOf start
+      → i ≡ reached (u .value) zero64 (take (begins + holds - begins) (drop begins reals)) → i < holds
+      → m ≡ drawChild (childIn f (getD table (w + 7 + i) 0)) (u .stream) → DrawsAs l m below
+      → inverse ≡ invOf (getD reals (begins + i) nan) → weighs ≡ weightAt (sampleOf (below .sample) .weights)
+      → made ≡ pushedOn i (mul binary64 inverse weighs) (below .sample)
+      → DrawsAs (l + 1) (drawGrid (bins h (binsIn f table reals counts w 0 holds)) start) (record { sample = made; stream = below .stream })
+  bins-made l start u i m below weighs inverse made room top taken at inside hung draws inv weight push =
+      let after : Drawing = record { sample = pushed i (mul binary64 inverse weighs) (m .sample); stream = m .stream } in
+      let q = draws .1 in
+      let w₁ : weighs ≡ weightAt (m .sample .weights) = weight ∙ ap (λ (d : drawn.Drawing). weightAt (sampleOf (d .sample) .weights)) (draws .0) ∙ ap weightAt (below-weights m (omega (arith, q .given))) in
+      let e = bins-drawn f table reals counts w h start u i m after (mul binary64 inverse weighs) room taken at inside hung (ap₂ (mul binary64) inv w₁) refl in
+      let s : made ≡ laidSample (after .sample) =
+      push ∙ ap (λ (d : drawn.Drawing). pushedOn i (mul binary64 inverse weighs) (d .sample)) (draws .0) ∙ below-push i (mul binary64 inverse weighs) m (omega (arith, q .levels)) (omega (arith, q .given)) in
+      subst (λ (d : Drawing). DrawsAs (l + 1) d (record { sample = made; stream = below .stream })) e
+      (ap₂ (λ (a : given.Sample) (b : MonteCarloRng). record { sample = a; stream = b }) s (ap (λ (d : drawn.Drawing). d .stream) (draws .0) ∙ laid-stream m) ∙ laid-again after,
+      pushed-short l i (mul binary64 inverse weighs) (m .sample) q)

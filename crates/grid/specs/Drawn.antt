@@ -2,9 +2,10 @@
 use mathlib.Core.Path.{_≡_}
 use mathlib.Core.Bool.{true}
 use Prim.Native.Nat.{ℕ, zero, suc, _+_, _≤_}
-use mathlib.Core.List.{List}
-use lib.ListN.{length, take, getD}
+use mathlib.Core.List.{List, _++_}
+use lib.ListN.{length, take, getD, replicate}
 use lib.Ieee.{Float}
+use Rattle.real.specs.Numbers.{zero64}
 use Rattle.axis.specs.Edges.{wellFormed}
 use Rattle.model.specs.Axes.{Axis}
 use Rattle.model.specs.Draw.{Placed, flooredOf}
@@ -15,6 +16,14 @@ use Rattle.grid.specs.Layout.{stretch, axisReals, axisCounts, axesFrom}
 -- the coordinates that a walk over k axes has set, its weight and its stream
 unfoldable pub placedBy : ℕ → Walked → Placed
 placedBy k w = record { coordinates = take k (w .coordinates); weight = w .weight; stream = w .stream }
+
+-- n entries: those of a list, then others
+unfoldable pub padded : {A : Type 0} → ℕ → A → List A → List A
+padded n d xs = take n (xs ++ replicate n d)
+
+-- a walk over k axes has set so many coordinates, and the others are 0
+abbrev pub Filled : ℕ → Walked → Type 0
+Filled k w = (w .coordinates ≡ padded 8 zero64 (take k (w .coordinates))) × (length (take k (w .coordinates)) ≡ k)
 
 -- a draw whose weight is put under a floor
 unfoldable pub underFloor : Float → Placed → Placed

@@ -12,3 +12,5 @@ pub mod Tree
 pub mod Judged
 pub mod Renewed
 pub mod Sampled
+pub mod State
+pub mod Calls

@@ -1,13 +1,16 @@
 -- Samples: what the struct says, in the model's words.
+use mathlib.Core.Path.{_≡_}
 use Prim.Native.Nat.{ℕ, zero, suc, _+_, _≤_}
 use mathlib.Core.Logic.{_≢_}
 use mathlib.Core.Bool.{Bool, _&&_}
 use mathlib.Core.List.{List, [], _∷_}
-use lib.ListN.{take, getD}
+use lib.ListN.{length, take, getD}
 use lib.Ieee.{Float, nan}
+use Rattle.real.specs.Numbers.{zero64}
 use Rattle.model.specs.Grid.{Child}
 use Rattle.model.specs.Sound.{formedChild, keptChild}
 use Rattle.model.specs.Draw.{Sample, Drawing}
+use Rattle.grid.specs.Drawn.{padded}
 use Rattle.grid.specs.Tree.{Laid}
 use Rattle.grid.specs.declared.Sample as given
 use Rattle.grid.specs.declared.Drawing as drawn
@@ -21,18 +24,21 @@ unfoldable pub sampleOf : given.Sample → Sample
 sampleOf s =
     record { path = entries 0 (s .path) 0 (s .levels); weights = entries nan (s .weights) 0 (s .given); coordinates = take (s .axes) (s .coordinates) }
 
-unfoldable pub drawingOf : drawn.Drawing → Drawing
-drawingOf d = record { sample = sampleOf (d .sample); stream = d .stream }
-
--- its numbers are those of a grid with so many levels at most
-pub record Within (l : ℕ) (s : given.Sample) : Type 0 where
-  pub levels : s .levels ≤ l
-  pub given : s .given ≤ l + 1
-  pub axes : s .axes ≤ 8
-
 -- a bin and a weight in front
 unfoldable pub pushed : ℕ → Float → Sample → Sample
 pushed i w s = record { path = i ∷ s .path; weights = w ∷ s .weights; coordinates = s .coordinates }
+
+-- the same on the struct: every entry moves one place on
+unfoldable pub pushedOn : ℕ → Float → given.Sample → given.Sample
+pushedOn i w s =
+    record {
+      path = i ∷ (getD (s .path) 0 0 ∷ (getD (s .path) 1 0 ∷ (getD (s .path) 2 0 ∷ [])));
+      levels = s .levels + 1;
+      weights = w ∷ (getD (s .weights) 0 nan ∷ (getD (s .weights) 1 nan ∷ (getD (s .weights) 2 nan ∷ (getD (s .weights) 3 nan ∷ []))));
+      given = s .given + 1;
+      coordinates = s .coordinates;
+      axes = s .axes;
+    }
 
 -- what hangs at a link lies there: nothing at 0, else a grid
 unfoldable pub ChildLaid : ℕ → List ℕ → ℕ → ℕ → ℕ → Type 0
@@ -40,3 +46,29 @@ ChildLaid l table R C link = link ≢ 0 → Laid l table R C link
 
 unfoldable pub soundChild : Child → Bool
 soundChild c = formedChild c && keptChild c
+
+-- ---- a sample as the struct: what is not given is 0
+
+unfoldable pub laidSample : Sample → given.Sample
+laidSample s =
+    record {
+      path = padded 4 0 (s .path);
+      levels = length (s .path);
+      weights = padded 5 zero64 (s .weights);
+      given = length (s .weights);
+      coordinates = padded 8 zero64 (s .coordinates);
+      axes = length (s .coordinates);
+    }
+
+unfoldable pub laidDrawing : Drawing → drawn.Drawing
+laidDrawing d = record { sample = laidSample (d .sample); stream = d .stream }
+
+-- its lists are those of a grid with so many levels at most
+pub record Short (l : ℕ) (s : Sample) : Type 0 where
+  pub levels : length (s .path) ≤ l
+  pub given : length (s .weights) ≤ l + 1
+  pub axes : length (s .coordinates) ≤ 8
+
+-- a drawing that is this one of the model's
+abbrev pub DrawsAs : ℕ → Drawing → drawn.Drawing → Type 0
+DrawsAs l m d = (d ≡ laidDrawing m) × Short l (m .sample)

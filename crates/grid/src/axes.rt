@@ -4,7 +4,7 @@ ghost use mathlib.Core.Bool.{true};
 ghost use Rattle.real.specs.Numbers.{one64};
 ghost use Rattle.axis.specs.Edges.{wellFormed, inUnit};
 ghost use Rattle.model.specs.Draw.{placeOn, walked, placedFrom, flooredOf};
-ghost use Rattle.grid.specs.Drawn.{axesAt, placedBy, underFloor, Stands};
+ghost use Rattle.grid.specs.Drawn.{axesAt, placedBy, Filled, underFloor, Stands};
 use axis::Point;
 use stream::MonteCarloRng;
 
@@ -41,7 +41,7 @@ fn place_on(edges: &[f64], unit: f64, evenly: bool) -> Point
 // Draws a coordinate on each axis.
 fn walk_axes(reals: &[f64], counts: &[u64], g: AxesAt, evenly: bool, start: MonteCarloRng) -> Walked
     requires { ⌜ Stands (now reals) (now counts) g ⌝ }
-    ensures { λ w. ⌜ placedBy (g .axes) w ≡ walked evenly (axesAt (now (reals .entry)) (now (counts .entry)) g) one64 start ⌝ }
+    ensures { λ w. ⌜ (placedBy (g .axes) w ≡ walked evenly (axesAt (now (reals .entry)) (now (counts .entry)) g) one64 start) × Filled (g .axes) w ⌝ }
 {
     let mut coordinates = [0.0f64; 8];
     let mut weight = 1.0;
@@ -71,7 +71,7 @@ fn walk_axes(reals: &[f64], counts: &[u64], g: AxesAt, evenly: bool, start: Mont
 // The walk that the floor selects: 0 and 1 draw no choice word; between, a draw below the floor is for even sampling.
 fn place_axes(reals: &[f64], counts: &[u64], g: AxesAt, start: MonteCarloRng) -> Walked
     requires { ⌜ Stands (now reals) (now counts) g ⌝ }
-    ensures { λ w. ⌜ placedBy (g .axes) w ≡ placedFrom (g .floor) (axesAt (now (reals .entry)) (now (counts .entry)) g) start ⌝ }
+    ensures { λ w. ⌜ (placedBy (g .axes) w ≡ placedFrom (g .floor) (axesAt (now (reals .entry)) (now (counts .entry)) g) start) × Filled (g .axes) w ⌝ }
 {
     if g.floor == 0.0 {
         return walk_axes(reals, counts, g, false, start);
@@ -102,7 +102,7 @@ pub fn floored(floor: f64, weight: f64) -> f64
 // A draw from an axes grid: the walk that its floor selects, its weight under the floor.
 pub fn draw_axes(reals: &[f64], counts: &[u64], g: AxesAt, start: MonteCarloRng) -> Walked
     requires { ⌜ Stands (now reals) (now counts) g ⌝ }
-    ensures { λ w. ⌜ placedBy (g .axes) w ≡ underFloor (g .floor) (placedFrom (g .floor) (axesAt (now (reals .entry)) (now (counts .entry)) g) start) ⌝ }
+    ensures { λ w. ⌜ (placedBy (g .axes) w ≡ underFloor (g .floor) (placedFrom (g .floor) (axesAt (now (reals .entry)) (now (counts .entry)) g) start)) × Filled (g .axes) w ⌝ }
 {
     let mut walked = place_axes(reals, counts, g, start);
     walked.weight = floored(g.floor, walked.weight);

@@ -13,7 +13,11 @@ mod onward;
 mod probing;
 mod renewal;
 mod sampling;
+mod state;
 mod training;
+
+ghost use mathlib.Core.Path.{_≡_};
+ghost use Rattle.grid.specs.Calls.{drawnAs, drawOf};
 
 // A sample: a bin for each bins grid on its path, a weight for each of them and for the axes grid at its end, and that grid's
 // coordinates. Of each as many are there as its number says.
@@ -30,4 +34,29 @@ pub struct Sample {
 pub struct Drawing {
     pub sample: Sample,
     pub stream: stream::MonteCarloRng,
+}
+
+// What a draw answers: 0, the sample and the stream after it; or a refusal's number, no sample and the stream as it was.
+pub struct Drawn {
+    pub refused: u64,
+    pub drawing: Drawing,
+}
+
+// Draws a sample. Refused: 10, 12.
+pub fn draw(table: &[u64], reals: &[f64], counts: &[u64], start: stream::MonteCarloRng) -> Drawn
+    ensures { λ r. ⌜ r ≡ drawnAs start (drawOf (now (table .entry)) (now (reals .entry)) (now (counts .entry)) start) ⌝ }
+{
+    let refused = state::fault(table, reals, counts);
+    if refused != 0 {
+        let drawing = sampling::draw_nothing(start);
+        return Drawn {
+            refused,
+            drawing,
+        };
+    }
+    let drawing = sampling::draw_grid(table, reals, counts, 4, 0, start);
+    Drawn {
+        refused,
+        drawing,
+    }
 }

@@ -8,7 +8,7 @@ ghost use Rattle.model.specs.Grid.{axes, bins};
 ghost use Rattle.model.specs.Sound.{sound};
 ghost use Rattle.model.specs.Draw.{weightAt, reached, drawAxes, drawNothing, drawGrid, drawChild};
 ghost use Rattle.grid.specs.Tree.{axesGridAt, headAt, childIn, binsIn, gridAt, AxesLaid, BinsLaid, Laid};
-ghost use Rattle.grid.specs.Sampled.{sampleOf, drawingOf, Within, pushed, ChildLaid, soundChild};
+ghost use Rattle.grid.specs.Sampled.{sampleOf, pushedOn, ChildLaid, soundChild, DrawsAs};
 use crate::Drawing;
 use crate::Sample;
 use crate::axes;
@@ -44,8 +44,8 @@ pub fn weight_of(s: Sample) -> f64
 
 // A bin and a weight in front of a sample.
 fn push(s: Sample, bin: usize, weight: f64) -> Sample
-    requires { ⌜ Within 3 s ⌝ }
-    ensures { λ r. ⌜ (sampleOf r ≡ pushed bin weight (sampleOf s)) × (r .levels ≡ s .levels + 1) × (r .given ≡ s .given + 1) × (r .axes ≡ s .axes) ⌝ }
+    requires { ⌜ (s .levels ≤ 3) × (s .given ≤ 4) ⌝ }
+    ensures { λ r. ⌜ r ≡ pushedOn bin weight s ⌝ }
 {
     Sample {
         path: [bin, s.path[0], s.path[1], s.path[2]],
@@ -64,8 +64,8 @@ fn push(s: Sample, bin: usize, weight: f64) -> Sample
 }
 
 // Nothing drawn: no child hangs there.
-fn draw_nothing(start: MonteCarloRng) -> Drawing
-    ensures { λ d. ⌜ (drawingOf d ≡ drawNothing start) × Within 0 (d .sample) ⌝ }
+pub fn draw_nothing(start: MonteCarloRng) -> Drawing
+    ensures { λ d. ⌜ DrawsAs 0 (drawNothing start) d ⌝ }
 {
     Drawing {
         sample: Sample {
@@ -89,7 +89,7 @@ fn draw_from_axes(
     start: MonteCarloRng,
 ) -> Drawing
     requires { ⌜ AxesLaid (now table) (length (now reals)) (length (now counts)) w × (sound (axes (axesGridAt (now table) (now reals) (now counts) w)) ≡ true) ⌝ }
-    ensures { λ d. ⌜ (drawingOf d ≡ drawAxes (axesGridAt (now (table .entry)) (now (reals .entry)) (now (counts .entry)) w) start) × Within 0 (d .sample) ⌝ }
+    ensures { λ d. ⌜ DrawsAs 0 (drawAxes (axesGridAt (now (table .entry)) (now (reals .entry)) (now (counts .entry)) w) start) d ⌝ }
 {
     let g = layout::axes_place(table, w);
     let walked = axes::draw_axes(reals, counts, g, start);
@@ -117,7 +117,7 @@ fn draw_child(
     start: MonteCarloRng,
 ) -> Drawing
     requires { ⌜ ChildLaid level (now table) (length (now reals)) (length (now counts)) link × (level ≤ 4) × (soundChild (childIn (gridAt level (now table) (now reals) (now counts)) link) ≡ true) ⌝ }
-    ensures { λ d. ⌜ (drawingOf d ≡ drawChild (childIn (gridAt level (now (table .entry)) (now (reals .entry)) (now (counts .entry))) link) start) × Within level (d .sample) ⌝ }
+    ensures { λ d. ⌜ DrawsAs level (drawChild (childIn (gridAt level (now (table .entry)) (now (reals .entry)) (now (counts .entry))) link) start) d ⌝ }
 {
     if link == 0 {
         return draw_nothing(start);
@@ -136,8 +136,8 @@ fn draw_from_bins(
 ) -> Drawing
     requires { ⌜ BinsLaid (Laid level (now table) (length (now reals)) (length (now counts))) (now table) (length (now reals)) (length (now counts)) w × (level ≤ 3)
         × (sound (bins (headAt (now table) (now reals) (now counts) w) (binsIn (gridAt level (now table) (now reals) (now counts)) (now table) (now reals) (now counts) w 0 (getD (now table) (w + 2) 0))) ≡ true) ⌝ }
-    ensures { λ d. ⌜ (drawingOf d ≡ drawGrid (bins (headAt (now (table .entry)) (now (reals .entry)) (now (counts .entry)) w)
-        (binsIn (gridAt level (now (table .entry)) (now (reals .entry)) (now (counts .entry))) (now (table .entry)) (now (reals .entry)) (now (counts .entry)) w 0 (getD (now (table .entry)) (w + 2) 0))) start) × Within (level + 1) (d .sample) ⌝ }
+    ensures { λ d. ⌜ DrawsAs (level + 1) (drawGrid (bins (headAt (now (table .entry)) (now (reals .entry)) (now (counts .entry)) w)
+        (binsIn (gridAt level (now (table .entry)) (now (reals .entry)) (now (counts .entry))) (now (table .entry)) (now (reals .entry)) (now (counts .entry)) w 0 (getD (now (table .entry)) (w + 2) 0))) start) d ⌝ }
 {
     let unit = start.unit();
     let next = unit.stream;
@@ -164,7 +164,7 @@ pub fn draw_grid(
     start: MonteCarloRng,
 ) -> Drawing
     requires { ⌜ Laid level (now table) (length (now reals)) (length (now counts)) w × (level ≤ 4) × (sound (gridAt level (now table) (now reals) (now counts) w) ≡ true) ⌝ }
-    ensures { λ d. ⌜ (drawingOf d ≡ drawGrid (gridAt level (now (table .entry)) (now (reals .entry)) (now (counts .entry)) w) start) × Within level (d .sample) ⌝ }
+    ensures { λ d. ⌜ DrawsAs level (drawGrid (gridAt level (now (table .entry)) (now (reals .entry)) (now (counts .entry)) w) start) d ⌝ }
 {
     if table[w] == 1 {
         return draw_from_axes(table, reals, counts, w, start);

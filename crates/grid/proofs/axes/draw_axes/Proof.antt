@@ -19,7 +19,7 @@ floored-requires c κs = search needs
 -- src/axes.rt:103:1
 returns : tie.Need-returns
 unfolding placedBy underFloor
-returns c = rw (c .floored .ensures) (ap (underFloor (c .before .before .before .before .args .g .floor)) (c .before .place-axes .ensures))
+returns c = (rw (c .floored .ensures) (ap (underFloor (c .before .before .before .before .args .g .floor)) (c .before .place-axes .ensures .0)), c .before .place-axes .ensures .1)
 
 pub draw-axes-spec : {M : Type 1} → statement M
 draw-axes-spec = tie.close (tie.spec place-axes-requires floored-requires returns)

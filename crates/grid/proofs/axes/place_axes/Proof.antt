@@ -20,7 +20,7 @@ walk-axes-requires c κs = search needs
 -- src/axes.rt:77:9
 returns : tie.Need-returns
 unfolding placedFrom
-returns c = rw (c .before .if1 .taken) (c .walk-axes .ensures)
+returns c = (rw (c .before .if1 .taken) (c .walk-axes .ensures .0), c .walk-axes .ensures .1)
 
 -- src/axes.rt:80:9
 walk-axes-requires-2 : tie.Need-walk-axes-requires-2
@@ -29,7 +29,7 @@ walk-axes-requires-2 c κs = search needs
 -- src/axes.rt:80:9
 returns-2 : tie.Need-returns-2
 unfolding placedFrom
-returns-2 c = rw (c .before .before .before .if1 .left, c .before .if2 .taken) (c .walk-axes2 .ensures)
+returns-2 c = (rw (c .before .before .before .if1 .left, c .before .if2 .taken) (c .walk-axes2 .ensures .0), c .walk-axes2 .ensures .1)
 
 -- src/axes.rt:82:9
 unit-requires : tie.Need-unit-requires
@@ -43,9 +43,9 @@ walk-axes-requires-3 c κs = search needs
 returns-3 : tie.Need-returns-3
 unfolding placedFrom unitDrawnOf unitAt
 returns-3 c =
-    rw (c .before .before .before .before .before .before .if1 .left, c .before .before .before .before .if2 .left)
-    (c .walk-axes3 .ensures
-    ∙ ap (λ (u : Unit). walked (lt (u .value) (c .before .before .before .before .before .before .before .before .before .before .args .g .floor)) (axesAt (c .before .before .before .before .before .before .before .before .before .before .args .reals .now) (c .before .before .before .before .before .before .before .before .before .before .args .counts .now) (c .before .before .before .before .before .before .before .before .before .before .args .g)) one64 (u .stream)) (c .before .before .before .unit .ensures))
+    (rw (c .before .before .before .before .before .before .if1 .left, c .before .before .before .before .if2 .left)
+    (c .walk-axes3 .ensures .0
+    ∙ ap (λ (u : Unit). walked (lt (u .value) (c .before .before .before .before .before .before .before .before .before .before .args .g .floor)) (axesAt (c .before .before .before .before .before .before .before .before .before .before .args .reals .now) (c .before .before .before .before .before .before .before .before .before .before .args .counts .now) (c .before .before .before .before .before .before .before .before .before .before .args .g)) one64 (u .stream)) (c .before .before .before .unit .ensures)), c .walk-axes3 .ensures .1)
 
 pub place-axes-spec : {M : Type 1} → statement M
 place-axes-spec =

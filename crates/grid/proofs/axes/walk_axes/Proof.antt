@@ -4,9 +4,9 @@ use native.Mathlib.Numerals.{unary-clauses}
 use mathlib.Core.Path.{_≡_, refl, sym, ap, ap₂, _∙_}
 use mathlib.Core.List.{List, append-nil}
 use Prim.Native.Nat.{ℕ, _+_, _-_, _*_, _≤_}
-use lib.ListN.{length, take, drop, getD, length-set}
+use lib.ListN.{length, take, drop, getD, replicate, length-set}
 use lib.Ieee.{Float}
-use Rattle.real.specs.Numbers.{one64}
+use Rattle.real.specs.Numbers.{zero64, one64}
 use Rattle.stream.specs.declared.MonteCarloRng.{MonteCarloRng}
 use Rattle.stream.specs.declared.Unit.{Unit}
 use Rattle.stream.specs.Xoshiro.{stepOf}
@@ -15,7 +15,7 @@ use Rattle.model.specs.Draw.{walked}
 use Rattle.grid.specs.Layout.{stretch, axesFrom}
 use Rattle.grid.specs.Drawn.{placedBy, Standing}
 use Rattle.grid.proofs.Standing.{next}
-use Rattle.grid.proofs.Draws.{behind, drawn-on, drawn-out, asked-part, asked-unit}
+use Rattle.grid.proofs.Draws.{behind, drawn-on, drawn-out, asked-part, asked-unit, zeros-on, zeros-out}
 use Rattle.grid.proofs.axes.walk_axes.Statement.{statement}
 use Rattle.grid.proofs.axes.walk_axes.Tie as tie
 use Rattle.grid.proofs.axes.walk_axes.Reads as reads
@@ -27,6 +27,7 @@ abbrev Inv-loop : tie.InvT-loop
 Inv-loop reals counts g evenly coordinates₀ weight₀ stream₀ at₀ place₀ done₀ coordinates weight stream at place done =
     (done ≤ g .axes) × (length coordinates ≡ 8) × Standing (g .most) reals counts (g .axes - done) at place
     × (behind (take done coordinates) (walked evenly (axesFrom (g .most) reals counts (g .axes - done) at place) weight stream) ≡ walked evenly (axesFrom (g .most) reals counts (g .axes) (g .reals) (g .counts)) one64 stream₀)
+    × (drop done coordinates ≡ replicate (8 - done) zero64)
 
 abbrev μ-loop : tie.MeasureT-loop
 μ-loop reals counts g evenly coordinates₀ weight₀ stream₀ at₀ place₀ done₀ coordinates weight stream at place done =
@@ -34,7 +35,7 @@ abbrev μ-loop : tie.MeasureT-loop
 
 -- src/axes.rt:28:5
 loop-holds : tie.Need-loop-holds Inv-loop μ-loop
-loop-holds c = let e : c .before .before .args .g .axes - 0 ≡ c .before .before .args .g .axes = omega arith in (omega arith, refl, rw e (c .before .before .pre .2), rw e)
+loop-holds c = let e : c .before .before .args .g .axes - 0 ≡ c .before .before .args .g .axes = omega arith in (omega arith, refl, rw e (c .before .before .pre .2), rw e, refl)
 
 -- src/axes.rt:29:20
 mul-held : tie.Need-mul-held Inv-loop μ-loop
@@ -124,12 +125,15 @@ loop-again c = let n = next (c .before .before .before .before .before .before .
   simp length-set (c .before .before .before .before .before .before .before .before .before .before .loop .inv .1),
   n .rest,
   drawn-on (c .before .before .before .before .before .before .before .before .before .before .before .before .before .args .g .most) (c .before .before .before .before .before .before .before .before .before .before .before .before .before .args .reals .now) (c .before .before .before .before .before .before .before .before .before .before .before .before .before .args .counts .now) (c .before .before .before .before .before .before .before .before .before .before .before .before .before .args .evenly) (c .before .before .before .before .before .before .before .before .before .before .before .before .before .args .g .axes) (c .before .before .before .before .before .before .before .before .before .before .loop .done) (c .before .before .before .before .before .before .before .before .before .before .loop .at) (c .before .before .before .before .before .before .before .before .before .before .loop .place) (c .before .before .before .before .before .before .before .before .before .before .loop .coordinates) (c .before .before .before .before .before .before .before .before .before .before .loop .weight) (c .before .before .before .before .before .before .before .before .before .before .loop .stream) (c .before .before .before .before .before .before .unit .result) (c .before .before .before .before .place-on .result) (c .before .before .before .before .before .before .before .before .if1 .taken) (omega (arith, c .before .before .before .before .before .before .before .before .before .before .before .before .before .pre .0, c .before .before .before .before .before .before .before .before .before .before .loop .inv .1, c .before .before .before .before .before .before .before .before .if1 .taken)) (c .before .before .before .before .before .before .unit .ensures) (c .before .before .before .before .place-on .ensures) ∙ c .before .before .before .before .before .before .before .before .before .before .loop .inv .3,
+  zeros-on (c .before .before .before .before .before .before .before .before .before .before .loop .coordinates) (c .before .before .before .before .before .before .before .before .before .before .loop .done) (c .before .before .before .before .place-on .result .at) (omega (arith, c .before .before .before .before .before .before .before .before .if1 .taken, c .before .before .before .before .before .before .before .before .before .before .before .before .before .pre .0)) (c .before .before .before .before .before .before .before .before .before .before .loop .inv .4),
 )
 
 -- src/axes.rt:18:1
 returns : tie.Need-returns Inv-loop μ-loop
 unfolding placedBy
-returns c = sym (drawn-out (c .before .before .before .before .before .args .g .most) (c .before .before .before .before .before .args .reals .now) (c .before .before .before .before .before .args .counts .now) (c .before .before .before .before .before .args .evenly) (c .before .before .before .before .before .args .g .axes) (c .before .before .loop .done) (c .before .before .loop .at) (c .before .before .loop .place) (c .before .before .loop .coordinates) (c .before .before .loop .weight) (c .before .before .loop .stream) (c .before .before .loop .inv .0) (c .if1 .left)) ∙ c .before .before .loop .inv .3
+returns c =
+    let same : c .before .before .loop .done ≡ (c .before .before .before .before .before .args .g .axes) = omega (arith, c .before .before .loop .inv .0, c .if1 .left) in
+    (sym (drawn-out (c .before .before .before .before .before .args .g .most) (c .before .before .before .before .before .args .reals .now) (c .before .before .before .before .before .args .counts .now) (c .before .before .before .before .before .args .evenly) (c .before .before .before .before .before .args .g .axes) (c .before .before .loop .done) (c .before .before .loop .at) (c .before .before .loop .place) (c .before .before .loop .coordinates) (c .before .before .loop .weight) (c .before .before .loop .stream) (c .before .before .loop .inv .0) (c .if1 .left)) ∙ c .before .before .loop .inv .3, zeros-out (c .before .before .loop .coordinates) (c .before .before .before .before .before .args .g .axes) (c .before .before .loop .done) same (c .before .before .before .before .before .pre .0) (c .before .before .loop .inv .1) (c .before .before .loop .inv .4))
 
 pub walk-axes-spec : {M : Type 1} → statement M
 walk-axes-spec =

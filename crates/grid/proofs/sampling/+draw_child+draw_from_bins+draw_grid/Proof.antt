@@ -1,3 +1,5 @@
+use Rattle.grid.specs.Sampled.{sampleOf, laidSample, laidDrawing, Short, pushed, pushedOn, ChildLaid, soundChild, DrawsAs}
+use Rattle.grid.proofs.Samples.{child-none, child-is, child-sound, sound-in, sound-below, length-chances, bins-made, shorter, laid-levels}
 use Rattle.model.specs.Draw.{Drawing}
 use lib.Ieee.{Float, binary64, mul}
 use mathlib.Core.Path.{_≡_, refl, sym, ap, ap₂, _∙_, subst}
@@ -10,10 +12,8 @@ use Rattle.model.specs.Grid.{Grid, bins}
 use Rattle.model.specs.Sound.{sound}
 use Rattle.model.specs.Draw.{Sample, drawGrid, drawChild}
 use Rattle.grid.specs.Tree.{binIn, childIn, binsIn, headAt, gridAt, axesGridAt, Laid}
-use Rattle.grid.specs.Sampled.{sampleOf, drawingOf, Within, ChildLaid, soundChild}
 use Rattle.grid.proofs.Laid.{laid-axes, laid-bins, laid-head}
 use Rattle.grid.proofs.Sounds.{node-axes, node-bins}
-use Rattle.grid.proofs.Samples.{child-none, child-is, child-sound, sound-in, sound-below, length-chances, bins-drawn}
 use Prim.Native.Nat.{ℕ, _<_}
 use borrow.Fn.Kinds.{In}
 use borrow.Fn.PlainCycle.{Measures, is, falls, and}
@@ -92,7 +92,7 @@ draw-child-returns : (t : ℕ) → draw-child-lts.Need-returns (
   draw-grid-below t,
   draw-grid.Post,
 ) (draw-child-at t) draw-child.Post
-draw-child-returns t c = (c .draw-nothing .ensures .0 ∙ sym (child-none (gridAt (c .before .before .before .before .before .args .level) (c .before .before .before .before .before .args .table .now) (c .before .before .before .before .before .args .reals .now) (c .before .before .before .before .before .args .counts .now)) (c .before .before .before .before .before .args .link) (c .before .before .before .before .before .args .start) (c .before .if1 .taken)), record { levels = omega (arith, c .draw-nothing .ensures .1 .levels); given = omega (arith, c .draw-nothing .ensures .1 .given); axes = c .draw-nothing .ensures .1 .axes })
+draw-child-returns t c = let e = sym (child-none (gridAt (c .before .before .before .before .before .args .level) (c .before .before .before .before .before .args .table .now) (c .before .before .before .before .before .args .reals .now) (c .before .before .before .before .before .args .counts .now)) (c .before .before .before .before .before .args .link) (c .before .before .before .before .before .args .start) (c .before .if1 .taken)) in subst (λ (d : Drawing). DrawsAs (c .before .before .before .before .before .args .level) d (c .draw-nothing .result)) e (c .draw-nothing .ensures .0, shorter 0 (c .before .before .before .before .before .args .level) _ (omega arith) (c .draw-nothing .ensures .1))
 
 -- src/sampling.rt:109:5
 draw-child-draw-grid-requires : (t : ℕ) → draw-child-lts.Need-draw-grid-requires (
@@ -111,7 +111,7 @@ draw-child-returns-2 : (t : ℕ) → draw-child-lts.Need-returns-2 (
   draw-grid-below t,
   draw-grid.Post,
 ) (draw-child-at t) draw-child.Post
-draw-child-returns-2 t c = (c .draw-grid .ensures .0 ∙ sym (child-is (gridAt (c .before .before .before .before .before .args .level) (c .before .before .before .before .before .args .table .now) (c .before .before .before .before .before .args .reals .now) (c .before .before .before .before .before .args .counts .now)) (c .before .before .before .before .before .args .link) (c .before .before .before .before .before .args .start) (c .before .if1 .left)), c .draw-grid .ensures .1)
+draw-child-returns-2 t c = subst (λ (d : Drawing). DrawsAs (c .before .before .before .before .before .args .level) d (c .draw-grid .result)) (sym (child-is (gridAt (c .before .before .before .before .before .args .level) (c .before .before .before .before .before .args .table .now) (c .before .before .before .before .before .args .reals .now) (c .before .before .before .before .before .args .counts .now)) (c .before .before .before .before .before .args .link) (c .before .before .before .before .before .args .start) (c .before .if1 .left))) (c .draw-grid .ensures)
 
 -- src/sampling.rt:119:9
 draw-from-bins-unit-requires : (t : ℕ) → draw-from-bins-lts.Need-unit-requires (
@@ -538,7 +538,7 @@ draw-from-bins-push-requires : (t : ℕ) → draw-from-bins-lts.Need-push-requir
   push-reads.Asked,
   push-reads.Learnt,
 ) (draw-from-bins-at t) draw-from-bins.Post
-draw-from-bins-push-requires t c κs = let q = c .before .before .before .before .draw-child .ensures .1 in record { levels = omega (arith, q .levels, (c .before .before .before .before .before .before .before .before .before .before .before .before .before .before .before .before .pre .1) .1); given = omega (arith, q .given, (c .before .before .before .before .before .before .before .before .before .before .before .before .before .before .before .before .pre .1) .1); axes = q .axes }
+draw-from-bins-push-requires t c κs = let q = laid-levels (c .before .before .before .before .before .before .before .before .before .before .before .before .before .before .before .before .args .level) (drawChild (childIn (gridAt (c .before .before .before .before .before .before .before .before .before .before .before .before .before .before .before .before .args .level) (c .before .before .before .before .before .before .before .before .before .before .before .before .before .before .before .before .args .table .now) (c .before .before .before .before .before .before .before .before .before .before .before .before .before .before .before .before .args .reals .now) (c .before .before .before .before .before .before .before .before .before .before .before .before .before .before .before .before .args .counts .now)) (getD (c .before .before .before .before .before .before .before .before .before .before .before .before .before .before .before .before .args .table .now) ((c .before .before .before .before .before .before .before .before .before .before .before .before .before .before .before .before .args .w) + 7 + (c .before .before .before .before .before .before .before .reach .result)) 0)) (c .before .before .before .before .before .before .before .before .before .before .before .before .unit .result .stream)) (c .before .before .before .before .draw-child .result) (c .before .before .before .before .draw-child .ensures) in (omega (arith, q .0, (c .before .before .before .before .before .before .before .before .before .before .before .before .before .before .before .before .pre .1) .1), omega (arith, q .1, (c .before .before .before .before .before .before .before .before .before .before .before .before .before .before .before .before .pre .1) .1))
 
 -- src/sampling.rt:113:1
 draw-from-bins-returns : (t : ℕ) → draw-from-bins-lts.Need-returns (
@@ -555,11 +555,7 @@ draw-from-bins-returns : (t : ℕ) → draw-from-bins-lts.Need-returns (
   push-reads.Asked,
   push-reads.Learnt,
 ) (draw-from-bins-at t) draw-from-bins.Post
-unfolding drawingOf
-draw-from-bins-returns t c = let q = c .before .before .before .before .before .draw-child .ensures .1 in let m = c .push .ensures in (
-  bins-drawn (gridAt (c .before .before .before .before .before .before .before .before .before .before .before .before .before .before .before .before .before .args .level) (c .before .before .before .before .before .before .before .before .before .before .before .before .before .before .before .before .before .args .table .now) (c .before .before .before .before .before .before .before .before .before .before .before .before .before .before .before .before .before .args .reals .now) (c .before .before .before .before .before .before .before .before .before .before .before .before .before .before .before .before .before .args .counts .now)) (c .before .before .before .before .before .before .before .before .before .before .before .before .before .before .before .before .before .args .table .now) (c .before .before .before .before .before .before .before .before .before .before .before .before .before .before .before .before .before .args .reals .now) (c .before .before .before .before .before .before .before .before .before .before .before .before .before .before .before .before .before .args .counts .now) (c .before .before .before .before .before .before .before .before .before .before .before .before .before .before .before .before .before .args .w) (headAt (c .before .before .before .before .before .before .before .before .before .before .before .before .before .before .before .before .before .args .table .now) (c .before .before .before .before .before .before .before .before .before .before .before .before .before .before .before .before .before .args .reals .now) (c .before .before .before .before .before .before .before .before .before .before .before .before .before .before .before .before .before .args .counts .now) (c .before .before .before .before .before .before .before .before .before .before .before .before .before .before .before .before .before .args .w)) (c .before .before .before .before .before .before .before .before .before .before .before .before .before .before .before .before .before .args .start) (c .before .before .before .before .before .before .before .before .before .before .before .before .before .unit .result) (c .before .before .before .before .before .before .before .before .reach .result) (drawingOf (c .before .before .before .before .before .draw-child .result)) (drawingOf (record { sample = c .push .result; stream = (c .before .before .before .before .before .draw-child .result) .stream })) (mul binary64 (c .before .before .inv .result) (c .before .weight-of .result)) (omega (arith, (c .before .before .before .before .before .before .before .before .before .before .before .before .before .before .before .before .before .pre .1) .0)) (c .before .before .before .before .before .before .before .before .before .before .before .before .before .unit .ensures) (c .before .before .before .before .before .before .before .before .reach .ensures .0) (omega (arith, c .before .before .before .before .before .before .before .before .reach .ensures .1, (length-chances (getD (c .before .before .before .before .before .before .before .before .before .before .before .before .before .before .before .before .before .args .table .now) ((c .before .before .before .before .before .before .before .before .before .before .before .before .before .before .before .before .before .args .w) + 5) 0 + 14) (getD (c .before .before .before .before .before .before .before .before .before .before .before .before .before .before .before .before .before .args .table .now) ((c .before .before .before .before .before .before .before .before .before .before .before .before .before .before .before .before .before .args .w) + 2) 0) (c .before .before .before .before .before .before .before .before .before .before .before .before .before .before .before .before .before .args .reals .now) (omega (arith, (c .before .before .before .before .before .before .before .before .before .before .before .before .before .before .before .before .before .pre .1) .0))))) (c .before .before .before .before .before .draw-child .ensures .0) (ap₂ (mul binary64) (c .before .before .inv .ensures) (c .before .weight-of .ensures)) (ap (λ (s : Sample). record { sample = s; stream = (c .before .before .before .before .before .draw-child .result) .stream }) (m .0)),
-  record { levels = omega (arith, m .1, q .levels); given = omega (arith, m .2, q .given); axes = omega (arith, m .3, q .axes) },
-)
+draw-from-bins-returns t c = bins-made (gridAt (c .before .before .before .before .before .before .before .before .before .before .before .before .before .before .before .before .before .args .level) (c .before .before .before .before .before .before .before .before .before .before .before .before .before .before .before .before .before .args .table .now) (c .before .before .before .before .before .before .before .before .before .before .before .before .before .before .before .before .before .args .reals .now) (c .before .before .before .before .before .before .before .before .before .before .before .before .before .before .before .before .before .args .counts .now)) (c .before .before .before .before .before .before .before .before .before .before .before .before .before .before .before .before .before .args .table .now) (c .before .before .before .before .before .before .before .before .before .before .before .before .before .before .before .before .before .args .reals .now) (c .before .before .before .before .before .before .before .before .before .before .before .before .before .before .before .before .before .args .counts .now) (c .before .before .before .before .before .before .before .before .before .before .before .before .before .before .before .before .before .args .w) (headAt (c .before .before .before .before .before .before .before .before .before .before .before .before .before .before .before .before .before .args .table .now) (c .before .before .before .before .before .before .before .before .before .before .before .before .before .before .before .before .before .args .reals .now) (c .before .before .before .before .before .before .before .before .before .before .before .before .before .before .before .before .before .args .counts .now) (c .before .before .before .before .before .before .before .before .before .before .before .before .before .before .before .before .before .args .w)) (c .before .before .before .before .before .before .before .before .before .before .before .before .before .before .before .before .before .args .level) (c .before .before .before .before .before .before .before .before .before .before .before .before .before .before .before .before .before .args .start) (c .before .before .before .before .before .before .before .before .before .before .before .before .before .unit .result) (c .before .before .before .before .before .before .before .before .reach .result) (drawChild (childIn (gridAt (c .before .before .before .before .before .before .before .before .before .before .before .before .before .before .before .before .before .args .level) (c .before .before .before .before .before .before .before .before .before .before .before .before .before .before .before .before .before .args .table .now) (c .before .before .before .before .before .before .before .before .before .before .before .before .before .before .before .before .before .args .reals .now) (c .before .before .before .before .before .before .before .before .before .before .before .before .before .before .before .before .before .args .counts .now)) (getD (c .before .before .before .before .before .before .before .before .before .before .before .before .before .before .before .before .before .args .table .now) ((c .before .before .before .before .before .before .before .before .before .before .before .before .before .before .before .before .before .args .w) + 7 + (c .before .before .before .before .before .before .before .before .reach .result)) 0)) (c .before .before .before .before .before .before .before .before .before .before .before .before .before .unit .result .stream)) (c .before .before .before .before .before .draw-child .result) (c .before .weight-of .result) (c .before .before .inv .result) (c .push .result) (omega (arith, (c .before .before .before .before .before .before .before .before .before .before .before .before .before .before .before .before .before .pre .1) .0)) ((c .before .before .before .before .before .before .before .before .before .before .before .before .before .before .before .before .before .pre .1) .1) (c .before .before .before .before .before .before .before .before .before .before .before .before .before .unit .ensures) (c .before .before .before .before .before .before .before .before .reach .ensures .0) (omega (arith, c .before .before .before .before .before .before .before .before .reach .ensures .1, (length-chances (getD (c .before .before .before .before .before .before .before .before .before .before .before .before .before .before .before .before .before .args .table .now) ((c .before .before .before .before .before .before .before .before .before .before .before .before .before .before .before .before .before .args .w) + 5) 0 + 14) (getD (c .before .before .before .before .before .before .before .before .before .before .before .before .before .before .before .before .before .args .table .now) ((c .before .before .before .before .before .before .before .before .before .before .before .before .before .before .before .before .before .args .w) + 2) 0) (c .before .before .before .before .before .before .before .before .before .before .before .before .before .before .before .before .before .args .reals .now) (omega (arith, (c .before .before .before .before .before .before .before .before .before .before .before .before .before .before .before .before .before .pre .1) .0))))) refl (c .before .before .before .before .before .draw-child .ensures) (c .before .before .inv .ensures) (c .before .weight-of .ensures) (c .push .ensures)
 
 -- src/sampling.rt:142:8
 draw-grid-mul-if1 : (t : ℕ) → draw-grid-lts.Need-mul-if1 (
@@ -596,7 +592,7 @@ draw-grid-returns : (t : ℕ) → draw-grid-lts.Need-returns (
   draw-from-bins.Post,
 ) (draw-grid-at t) draw-grid.Post
 unfolding drawGrid
-draw-grid-returns t c = (c .draw-from-axes .ensures .0 ∙ sym (ap (λ (g : Grid). drawGrid g (c .before .before .before .before .before .before .args .start)) (node-axes (c .before .before .before .before .before .before .args .level) (c .before .before .before .before .before .before .args .table .now) (c .before .before .before .before .before .before .args .reals .now) (c .before .before .before .before .before .before .args .counts .now) (c .before .before .before .before .before .before .args .w) (c .before .if1 .taken))), record { levels = omega (arith, c .draw-from-axes .ensures .1 .levels); given = omega (arith, c .draw-from-axes .ensures .1 .given); axes = c .draw-from-axes .ensures .1 .axes })
+draw-grid-returns t c = subst (λ (g : Grid). DrawsAs (c .before .before .before .before .before .before .args .level) (drawGrid g (c .before .before .before .before .before .before .args .start)) (c .draw-from-axes .result)) (sym (node-axes (c .before .before .before .before .before .before .args .level) (c .before .before .before .before .before .before .args .table .now) (c .before .before .before .before .before .before .args .reals .now) (c .before .before .before .before .before .before .args .counts .now) (c .before .before .before .before .before .before .args .w) (c .before .if1 .taken))) (c .draw-from-axes .ensures .0, shorter 0 (c .before .before .before .before .before .before .args .level) _ (omega arith) (c .draw-from-axes .ensures .1))
 
 -- src/sampling.rt:145:42
 draw-grid-sub-draw-from-bins : (t : ℕ) → draw-grid-lts.Need-sub-draw-from-bins (
@@ -623,7 +619,7 @@ draw-grid-returns-2 : (t : ℕ) → draw-grid-lts.Need-returns-2 (
   draw-from-bins-below t,
   draw-from-bins.Post,
 ) (draw-grid-at t) draw-grid.Post
-draw-grid-returns-2 t c = let d = laid-bins (c .before .before .before .before .before .before .args .level) (c .before .before .before .before .before .before .args .table .now) (length (c .before .before .before .before .before .before .args .reals .now)) (length (c .before .before .before .before .before .before .args .counts .now)) (c .before .before .before .before .before .before .args .w) ((c .before .before .before .before .before .before .pre .1) .0) (c .before .if1 .left) in let e : (c .before .before .before .before .before .before .args .level) - 1 + 1 ≡ (c .before .before .before .before .before .before .args .level) = omega (arith, d .level) in (c .draw-from-bins .ensures .0 ∙ sym (ap (λ (g : Grid). drawGrid g (c .before .before .before .before .before .before .args .start)) (node-bins (c .before .before .before .before .before .before .args .level) (c .before .before .before .before .before .before .args .table .now) (c .before .before .before .before .before .before .args .reals .now) (c .before .before .before .before .before .before .args .counts .now) (c .before .before .before .before .before .before .args .w) (c .before .if1 .left) (d .level))), subst (λ (k : ℕ). Within k (c .draw-from-bins .result .sample)) e (c .draw-from-bins .ensures .1))
+draw-grid-returns-2 t c = let d = laid-bins (c .before .before .before .before .before .before .args .level) (c .before .before .before .before .before .before .args .table .now) (length (c .before .before .before .before .before .before .args .reals .now)) (length (c .before .before .before .before .before .before .args .counts .now)) (c .before .before .before .before .before .before .args .w) ((c .before .before .before .before .before .before .pre .1) .0) (c .before .if1 .left) in let e : (c .before .before .before .before .before .before .args .level) - 1 + 1 ≡ (c .before .before .before .before .before .before .args .level) = omega (arith, d .level) in let m = drawGrid (bins (headAt (c .before .before .before .before .before .before .args .table .now) (c .before .before .before .before .before .before .args .reals .now) (c .before .before .before .before .before .before .args .counts .now) (c .before .before .before .before .before .before .args .w)) (binsIn (gridAt ((c .before .before .before .before .before .before .args .level) - 1) (c .before .before .before .before .before .before .args .table .now) (c .before .before .before .before .before .before .args .reals .now) (c .before .before .before .before .before .before .args .counts .now)) (c .before .before .before .before .before .before .args .table .now) (c .before .before .before .before .before .before .args .reals .now) (c .before .before .before .before .before .before .args .counts .now) (c .before .before .before .before .before .before .args .w) 0 (getD (c .before .before .before .before .before .before .args .table .now) ((c .before .before .before .before .before .before .args .w) + 2) 0))) (c .before .before .before .before .before .before .args .start) in subst (λ (g : Grid). DrawsAs (c .before .before .before .before .before .before .args .level) (drawGrid g (c .before .before .before .before .before .before .args .start)) (c .draw-from-bins .result)) (sym (node-bins (c .before .before .before .before .before .before .args .level) (c .before .before .before .before .before .before .args .table .now) (c .before .before .before .before .before .before .args .reals .now) (c .before .before .before .before .before .before .args .counts .now) (c .before .before .before .before .before .before .args .w) (c .before .if1 .left) (d .level))) (c .draw-from-bins .ensures .0, subst (λ (k : ℕ). Short k (m .sample)) e (c .draw-from-bins .ensures .1))
 
 pub +draw-child+draw-from-bins+draw-grid-spec : {M : Type 1} → statement M
 +draw-child+draw-from-bins+draw-grid-spec =

@@ -1,3 +1,4 @@
+use Rattle.grid.specs.Sampled.{pushedOn}
 use mathlib.Core.Path.{_≡_, refl, ap, ap₂}
 use mathlib.Core.List.{List}
 use Prim.Native.Nat.{ℕ}
@@ -5,8 +6,6 @@ use native.Mathlib.Omega.{arith}
 use lib.ListN.{length, take}
 use lib.Ieee.{Float, nan}
 use Rattle.model.specs.Draw.{Sample}
-use Rattle.grid.specs.Sampled.{sampleOf, pushed}
-use Rattle.grid.proofs.Samples.{front-three, front-four}
 use borrow.Author.Needs.{needs}
 use Rattle.grid.proofs.sampling.push.Statement.{statement}
 use Rattle.grid.proofs.sampling.push.Tie as tie
@@ -51,8 +50,8 @@ add-t31 c = search needs
 
 -- src/sampling.rt:46:1
 returns : tie.Need-returns
-unfolding sampleOf pushed
-returns c = (ap₂ (λ (a : List ℕ) (b : List Float). record { path = a; weights = b; coordinates = take ((c .before .before .before .before .before .before .before .before .args .t1) .axes) ((c .before .before .before .before .before .before .before .before .args .t1) .coordinates) }) (front-three (c .before .before .before .before .before .before .before .before .args .bin) 0 ((c .before .before .before .before .before .before .before .before .args .t1) .path) ((c .before .before .before .before .before .before .before .before .args .t1) .levels) (c .before .before .before .before .before .before .before .before .pre .levels)) (front-four (c .before .before .before .before .before .before .before .before .args .weight) nan ((c .before .before .before .before .before .before .before .before .args .t1) .weights) ((c .before .before .before .before .before .before .before .before .args .t1) .given) (omega (arith, c .before .before .before .before .before .before .before .before .pre .given))), refl, refl, refl)
+unfolding pushedOn
+returns c = refl
 
 pub push-spec : {M : Type 1} → statement M
 push-spec =

@@ -1,0 +1,43 @@
+-- A state that nothing stands against: its grid lies in memory and is well formed.
+use mathlib.Core.Path.{_≡_, refl, sym, ap, _∙_}
+use mathlib.Core.Bool.{Bool, true, false, not, cond}
+use mathlib.Core.List.{List}
+use Prim.Native.Nat.{ℕ, _≤_, _<_}
+use native.Mathlib.Omega.{arith}
+use borrow.Author.Tests.{ltb-false, not-false}
+use lib.Dec.{ltb}
+use lib.ListN.{length}
+use lib.Ieee.{Float}
+use Rattle.plan.specs.declared.Needs.{Needs}
+use Rattle.plan.specs.Paper as plan
+use Rattle.plan.specs.Calls.{sizesOf}
+use Rattle.plan.proofs.Tables.{Words}
+use Rattle.model.specs.Sound.{sound}
+use Rattle.grid.specs.Tree.{Laid}
+use Rattle.grid.specs.State.{rootOf, judgedBy, faultBy, stateFault}
+use Rattle.grid.proofs.Laid.{root-laid}
+
+pub record Clear (table : List ℕ) (reals : List Float) (counts : List ℕ) : Type 0 where
+  pub laid : Laid 4 table (length reals) (length counts) 0
+  pub well : sound (rootOf table reals counts) ≡ true
+
+passes : (b : Bool) (n rest : ℕ) → (n ≡ 0 → ⊥) → cond b n rest ≡ 0 → (b ≡ false) × (rest ≡ 0)
+passes true n rest z e = absurd (z e)
+passes false n rest z e = (refl, e)
+
+clear-by : (table : List ℕ) (reals : List Float) (counts : List ℕ) (p : plan.Paper Needs) → Words table → sizesOf table ≡ p → faultBy table reals counts p ≡ 0 → Clear table reals counts
+unfolding faultBy judgedBy
+clear-by table reals counts (plan.gives n) large e f =
+    let a = passes (ltb (length reals) (n .reals)) 10 _ (λ z. omega (arith, z)) f in
+    let b = passes (ltb (length counts) (n .counts)) 10 _ (λ z. omega (arith, z)) (a .1) in
+    let c = passes (not (sound (rootOf table reals counts))) 12 0 (λ z. omega (arith, z)) (b .1) in
+    record {
+      laid = root-laid table n (length reals) (length counts) large e (ltb-false (length reals) (n .reals) (a .0)) (ltb-false (length counts) (n .counts) (b .0));
+      well = not-false (sound (rootOf table reals counts)) (c .0);
+    }
+clear-by table reals counts (plan.refuses k) large e f = absurd (omega (arith, f))
+clear-by table reals counts (plan.refusesAt k at) large e f = absurd (omega (arith, f))
+
+pub clear : (table : List ℕ) (reals : List Float) (counts : List ℕ) → Words table → stateFault table reals counts ≡ 0 → Clear table reals counts
+unfolding stateFault
+clear table reals counts large f = clear-by table reals counts (sizesOf table) large refl f

@@ -1,0 +1,33 @@
+-- What stands against a call on lent memory, before anything of its own: 12, 10, 12.
+use Prim.Native.Nat.{ℕ}
+use mathlib.Core.Bool.{not, cond}
+use mathlib.Core.List.{List}
+use lib.Dec.{ltb, eqb}
+use lib.ListN.{length}
+use lib.Ieee.{Float}
+use Rattle.plan.specs.declared.Needs.{Needs}
+use Rattle.plan.specs.Paper as plan
+use Rattle.plan.specs.Calls.{sizesOf}
+use Rattle.model.specs.Grid.{Grid}
+use Rattle.model.specs.Sound.{sound}
+use Rattle.grid.specs.Tree.{gridAt}
+
+-- the whole grid: a plan has four levels, and its first run begins at word 0
+abbrev pub rootOf : List ℕ → List Float → List ℕ → Grid
+rootOf table reals counts = gridAt 4 table reals counts 0
+
+-- too short for what the plan needs: 10; not well formed: 12; else 0
+unfoldable pub judgedBy : List ℕ → List Float → List ℕ → Needs → ℕ
+judgedBy table reals counts n =
+    cond (ltb (length reals) (n .reals)) 10
+    (cond (ltb (length counts) (n .counts)) 10
+    (cond (not (sound (rootOf table reals counts))) 12 0))
+
+-- a table that is no plan's, or is cut: 12
+unfoldable pub faultBy : List ℕ → List Float → List ℕ → plan.Paper Needs → ℕ
+faultBy table reals counts (plan.gives n) = judgedBy table reals counts n
+faultBy table reals counts (plan.refuses k) = 12
+faultBy table reals counts (plan.refusesAt k at) = 12
+
+unfoldable pub stateFault : List ℕ → List Float → List ℕ → ℕ
+stateFault table reals counts = faultBy table reals counts (sizesOf table)

@@ -1,0 +1,35 @@
+// What stands against a call: each judges the table, the room and the state that it is lent.
+ghost use mathlib.Core.Path.{_≡_};
+ghost use Rattle.plan.specs.Paper.{gives};
+ghost use Rattle.plan.specs.Calls.{sizesOf};
+ghost use Rattle.grid.specs.State.{judgedBy, stateFault};
+use crate::judge;
+use plan::Needs;
+use plan::Sized;
+
+// The room that the plan needs, then the state in it.
+fn judged(table: &[u64], reals: &[f64], counts: &[u64], needs: Needs) -> u64
+    requires { ⌜ sizesOf (now table) ≡ gives needs ⌝ }
+    ensures { λ n. ⌜ n ≡ judgedBy (now (table .entry)) (now (reals .entry)) (now (counts .entry)) needs ⌝ }
+{
+    if reals.len() < needs.reals {
+        return 10;
+    }
+    if counts.len() < needs.counts {
+        return 10;
+    }
+    if !judge::grid_fits(table, reals, counts, 4, 0) {
+        return 12;
+    }
+    0
+}
+
+// 12 for a table that is no plan's; 10 for slices that are too short for it; 12 for a state that is not well formed; else 0.
+pub fn fault(table: &[u64], reals: &[f64], counts: &[u64]) -> u64
+    ensures { λ n. ⌜ n ≡ stateFault (now (table .entry)) (now (reals .entry)) (now (counts .entry)) ⌝ }
+{
+    match plan::sizes(table) {
+        Sized::Plan(needs) => judged(table, reals, counts, needs),
+        Sized::Refused(_) => 12,
+    }
+}
