@@ -98,8 +98,10 @@ zeros-out cs k d same h size e =
     let z : drop k cs ≡ replicate (8 - k) zero64 = rw (sym same) e in
     let m : 8 ≡ length (take k cs) + (8 - k) = omega arith in
     let p : 8 ≡ 8 - k + k = omega arith in
-    let s : length (replicate (8 - k) zero64) ≡ 8 - k = length-replicate (8 - k) zero64 in
-    (sym (take-append-drop k cs) ∙ ap (λ (l : List Float). take k cs ++ l) (z ∙ sym (take-at (replicate (8 - k) zero64) (replicate k zero64) (8 - k) s))
-    ∙ ap (λ (l : List Float). take k cs ++ take (8 - k) l) (replicate-append-replicate (8 - k) k zero64 ∙ ap (λ (j : ℕ). replicate j zero64) (sym p))
-    ∙ sym (take-append-add (take k cs) (replicate 8 zero64) (8 - k))
-    ∙ ap (λ (j : ℕ). take j (take k cs ++ replicate 8 zero64)) (sym m), n)
+    let s : length (replicate (8 - k) zero64) ≡ 8 - k = length-replicate (8 - k) zero64 in (
+      sym (take-append-drop k cs) ∙ ap (λ (l : List Float). take k cs ++ l) (z ∙ sym (take-at (replicate (8 - k) zero64) (replicate k zero64) (8 - k) s))
+          ∙ ap (λ (l : List Float). take k cs ++ take (8 - k) l) (replicate-append-replicate (8 - k) k zero64 ∙ ap (λ (j : ℕ). replicate j zero64) (sym p))
+          ∙ sym (take-append-add (take k cs) (replicate 8 zero64) (8 - k))
+          ∙ ap (λ (j : ℕ). take j (take k cs ++ replicate 8 zero64)) (sym m),
+      n,
+    )

@@ -25,3 +25,4 @@ pub mod Samples
 pub mod States
 pub mod Trains
 pub mod Trained
+pub mod Unique

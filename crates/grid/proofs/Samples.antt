@@ -331,6 +331,7 @@ module _ (f : ℕ → Grid) (table : List ℕ) (reals : List Float) (counts : Li
       let e = bins-drawn f table reals counts w h start u i m after (mul binary64 inverse weighs) room taken at inside hung (ap₂ (mul binary64) inv w₁) refl in
       let s : made ≡ laidSample (after .sample) =
       push ∙ ap (λ (d : drawn.Drawing). pushedOn i (mul binary64 inverse weighs) (d .sample)) (draws .0) ∙ below-push i (mul binary64 inverse weighs) m (omega (arith, q .levels)) (omega (arith, q .given)) in
-      subst (λ (d : Drawing). DrawsAs (l + 1) d (record { sample = made; stream = below .stream })) e
-      (ap₂ (λ (a : given.Sample) (b : MonteCarloRng). record { sample = a; stream = b }) s (ap (λ (d : drawn.Drawing). d .stream) (draws .0) ∙ laid-stream m) ∙ laid-again after,
-      pushed-short l i (mul binary64 inverse weighs) (m .sample) q)
+      subst (λ (d : Drawing). DrawsAs (l + 1) d (record { sample = made; stream = below .stream })) e (
+        ap₂ (λ (a : given.Sample) (b : MonteCarloRng). record { sample = a; stream = b }) s (ap (λ (d : drawn.Drawing). d .stream) (draws .0) ∙ laid-stream m) ∙ laid-again after,
+        pushed-short l i (mul binary64 inverse weighs) (m .sample) q,
+      )

@@ -4,17 +4,22 @@ use mathlib.Core.Bool.{Bool, true, false, not, cond}
 use mathlib.Core.List.{List}
 use Prim.Native.Nat.{ℕ, _≤_, _<_}
 use native.Mathlib.Omega.{arith}
-use borrow.Author.Tests.{ltb-false, not-false}
+use borrow.Author.Tests.{ltb-false, not-false, ne-eqb}
 use lib.Dec.{ltb}
 use lib.ListN.{length}
 use lib.Ieee.{Float}
 use Rattle.plan.specs.declared.Needs.{Needs}
+use Rattle.plan.specs.declared.Sized.{Sized}
+use Rattle.plan.specs.declared.Sized.the-variants as sized
+use Rattle.plan.specs.Paper.{paperSized}
 use Rattle.plan.specs.Paper as plan
 use Rattle.plan.specs.Calls.{sizesOf}
 use Rattle.plan.proofs.Tables.{Words}
 use Rattle.model.specs.Sound.{sound}
+use Rattle.real.specs.Paper.{Paper, gives, refuses}
 use Rattle.grid.specs.Tree.{Laid}
 use Rattle.grid.specs.State.{rootOf, judgedBy, faultBy, stateFault}
+use Rattle.grid.specs.Calls.{onState}
 use Rattle.grid.proofs.Laid.{root-laid}
 
 pub record Clear (table : List ℕ) (reals : List Float) (counts : List ℕ) : Type 0 where
@@ -41,3 +46,24 @@ clear-by table reals counts (plan.refusesAt k at) large e f = absurd (omega (ari
 pub clear : (table : List ℕ) (reals : List Float) (counts : List ℕ) → Words table → stateFault table reals counts ≡ 0 → Clear table reals counts
 unfolding stateFault
 clear table reals counts large f = clear-by table reals counts (sizesOf table) large refl f
+
+-- what the plan's own answer comes to
+pub fault-planned : (table : List ℕ) (reals : List Float) (counts : List ℕ) (r : Sized) (n : Needs) (k : ℕ) → paperSized r ≡ sizesOf table → sized.Plan n ≡ r → k ≡ judgedBy table reals counts n → k ≡ stateFault table reals counts
+unfolding stateFault faultBy paperSized
+fault-planned table reals counts r n k e q j = j ∙ ap (λ (p : plan.Paper Needs). faultBy table reals counts p) (ap paperSized q ∙ e)
+
+pub sizes-planned : (table : List ℕ) (r : Sized) (n : Needs) → paperSized r ≡ sizesOf table → sized.Plan n ≡ r → sizesOf table ≡ plan.gives n
+unfolding paperSized
+sizes-planned table r n e q = sym e ∙ sym (ap paperSized q)
+
+pub fault-strayed : (table : List ℕ) (reals : List Float) (counts : List ℕ) (r : Sized) (n : ℕ) → paperSized r ≡ sizesOf table → sized.Refused n ≡ r → 12 ≡ stateFault table reals counts
+unfolding stateFault faultBy paperSized
+fault-strayed table reals counts r n e q = ap (λ (p : plan.Paper Needs). faultBy table reals counts p) (ap paperSized q ∙ e)
+
+-- ---- answers on a state
+
+pub refused-first : {A : Type 0} (fault : ℕ) (p : Paper A) → (fault ≡ 0 → ⊥) → onState fault p ≡ refuses fault
+refused-first fault p n = rw (ne-eqb fault 0 n)
+
+pub answered-last : {A : Type 0} (fault : ℕ) (p : Paper A) → fault ≡ 0 → onState fault p ≡ p
+answered-last fault p e = rw e

@@ -49,14 +49,8 @@ pub fn draw(table: &[u64], reals: &[f64], counts: &[u64], start: stream::MonteCa
     let refused = state::fault(table, reals, counts);
     if refused != 0 {
         let drawing = sampling::draw_nothing(start);
-        return Drawn {
-            refused,
-            drawing,
-        };
+        return Drawn { refused, drawing };
     }
     let drawing = sampling::draw_grid(table, reals, counts, 4, 0, start);
-    Drawn {
-        refused,
-        drawing,
-    }
+    Drawn { refused, drawing }
 }

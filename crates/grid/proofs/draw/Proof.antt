@@ -1,3 +1,13 @@
+use mathlib.Core.Path.{_≡_, refl, sym, ap, ap₂, _∙_}
+use Prim.Native.Nat.{ℕ}
+use native.Mathlib.Omega.{arith}
+use Rattle.real.specs.Paper.{Paper, gives, refuses}
+use Rattle.model.specs.Draw.{Drawing, drawGrid, drawNothing}
+use Rattle.grid.specs.declared.Drawing as laid
+use Rattle.grid.specs.State.{rootOf, stateFault}
+use Rattle.grid.specs.Sampled.{laidDrawing}
+use Rattle.grid.specs.Calls.{onState, drawnAs, drawOf}
+use Rattle.grid.proofs.States.{clear, refused-first, answered-last}
 use borrow.Author.Needs.{needs}
 use Rattle.grid.proofs.draw.Statement.{statement}
 use Rattle.grid.proofs.draw.Tie as tie
@@ -17,15 +27,17 @@ draw-nothing-requires c κs = search needs
 
 -- src/lib.rt:52:9
 returns : tie.Need-returns
-returns c = ?
+unfolding drawOf drawnAs
+returns c = ap₂ (λ (n : ℕ) (d : laid.Drawing). record { refused = n; drawing = d }) (c .before .before .fault .ensures) (c .draw-nothing .ensures .0) ∙ sym (ap (drawnAs (c .before .before .before .before .before .before .args .start)) (refused-first (stateFault (c .before .before .before .before .before .before .args .table .now) (c .before .before .before .before .before .before .args .reals .now) (c .before .before .before .before .before .before .args .counts .now)) (gives (drawGrid (rootOf (c .before .before .before .before .before .before .args .table .now) (c .before .before .before .before .before .before .args .reals .now) (c .before .before .before .before .before .before .args .counts .now)) (c .before .before .before .before .before .before .args .start))) (λ z. c .before .if1 .taken (c .before .before .fault .ensures ∙ z))))
 
 -- src/lib.rt:57:9
 draw-grid-requires : tie.Need-draw-grid-requires
-draw-grid-requires c κs = ?
+draw-grid-requires c κs = ((clear (c .before .before .before .before .before .args .table .now) (c .before .before .before .before .before .args .reals .now) (c .before .before .before .before .before .args .counts .now) (λ i. omega (arith, c .before .before .before .before .shared-slice-known .given i)) (sym (c .before .fault .ensures) ∙ c .if1 .left)) .laid, omega arith, (clear (c .before .before .before .before .before .args .table .now) (c .before .before .before .before .before .args .reals .now) (c .before .before .before .before .before .args .counts .now) (λ i. omega (arith, c .before .before .before .before .shared-slice-known .given i)) (sym (c .before .fault .ensures) ∙ c .if1 .left)) .well)
 
 -- src/lib.rt:46:1
 returns-2 : tie.Need-returns-2
-returns-2 c = ?
+unfolding drawOf drawnAs
+returns-2 c = ap₂ (λ (n : ℕ) (d : laid.Drawing). record { refused = n; drawing = d }) (c .before .if1 .left) (c .draw-grid .ensures .0) ∙ sym (ap (drawnAs (c .before .before .before .before .before .before .args .start)) (answered-last (stateFault (c .before .before .before .before .before .before .args .table .now) (c .before .before .before .before .before .before .args .reals .now) (c .before .before .before .before .before .before .args .counts .now)) (gives (drawGrid (rootOf (c .before .before .before .before .before .before .args .table .now) (c .before .before .before .before .before .before .args .reals .now) (c .before .before .before .before .before .before .args .counts .now)) (c .before .before .before .before .before .before .args .start))) (sym (c .before .before .fault .ensures) ∙ c .before .if1 .left)))
 
 pub draw-spec : {M : Type 1} → statement M
 draw-spec =

@@ -42,10 +42,12 @@ walk-axes-requires-3 c κs = search needs
 -- src/axes.rt:72:1
 returns-3 : tie.Need-returns-3
 unfolding placedFrom unitDrawnOf unitAt
-returns-3 c =
-    (rw (c .before .before .before .before .before .before .if1 .left, c .before .before .before .before .if2 .left)
-    (c .walk-axes3 .ensures .0
-    ∙ ap (λ (u : Unit). walked (lt (u .value) (c .before .before .before .before .before .before .before .before .before .before .args .g .floor)) (axesAt (c .before .before .before .before .before .before .before .before .before .before .args .reals .now) (c .before .before .before .before .before .before .before .before .before .before .args .counts .now) (c .before .before .before .before .before .before .before .before .before .before .args .g)) one64 (u .stream)) (c .before .before .before .unit .ensures)), c .walk-axes3 .ensures .1)
+returns-3 c = (
+  rw (c .before .before .before .before .before .before .if1 .left, c .before .before .before .before .if2 .left)
+      (c .walk-axes3 .ensures .0
+      ∙ ap (λ (u : Unit). walked (lt (u .value) (c .before .before .before .before .before .before .before .before .before .before .args .g .floor)) (axesAt (c .before .before .before .before .before .before .before .before .before .before .args .reals .now) (c .before .before .before .before .before .before .before .before .before .before .args .counts .now) (c .before .before .before .before .before .before .before .before .before .before .args .g)) one64 (u .stream)) (c .before .before .before .unit .ensures)),
+  c .walk-axes3 .ensures .1,
+)
 
 pub place-axes-spec : {M : Type 1} → statement M
 place-axes-spec =

@@ -1,3 +1,5 @@
+use mathlib.Core.Path.{sym, _∙_}
+use Rattle.grid.proofs.States.{fault-planned, sizes-planned, fault-strayed}
 use borrow.Author.Needs.{needs}
 use Rattle.grid.proofs.state.fault.Statement.{statement}
 use Rattle.grid.proofs.state.fault.Tie as tie
@@ -16,7 +18,7 @@ enum-known-needs c = search needs
 
 -- src/state.rt:32:31
 judged-requires : tie.Need-judged-requires
-judged-requires c κs = ?
+judged-requires c κs = sizes-planned (c .before .before .before .before .before .before .before .args .table .now) (c .before .before .before .sizes .result) (c .before .needs .given .0 .0) (c .before .before .before .sizes .ensures) (sym (c .before .needs .given .1))
 
 -- src/state.rt:33:30
 enum-told : tie.Need-enum-told
@@ -24,11 +26,11 @@ enum-told c = search needs
 
 -- src/state.rt:28:1
 returns : tie.Need-returns
-returns c = ?
+returns c = fault-planned (c .before .before .before .before .before .before .before .before .args .table .now) (c .before .before .before .before .before .before .before .before .args .reals .now) (c .before .before .before .before .before .before .before .before .args .counts .now) (c .before .before .before .before .sizes .result) (c .before .before .needs .given .0 .0) (c .judged .result) (c .before .before .before .before .sizes .ensures) (sym (c .before .before .needs .given .1)) (c .judged .ensures)
 
 -- src/state.rt:28:1
 returns-2 : tie.Need-returns-2
-returns-2 c = ?
+returns-2 c = fault-strayed (c .before .before .before .before .before .before .args .table .now) (c .before .before .before .before .before .before .args .reals .now) (c .before .before .before .before .before .before .args .counts .now) (c .before .before .sizes .result) (c .enum-told .given .0 .0) (c .before .before .sizes .ensures) (sym (c .enum-told .given .1))
 
 pub fault-spec : {M : Type 1} → statement M
 fault-spec =
