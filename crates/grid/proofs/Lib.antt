@@ -14,7 +14,6 @@ pub mod Merges
 pub mod MergedAxes
 pub mod Copies
 pub mod Lays
-pub mod Lays
 pub mod Inside
 pub mod Renewals
 pub mod Changes
@@ -24,6 +23,3 @@ pub mod Judges
 pub mod Sounds
 pub mod Trains
 pub mod Trained
-pub mod Inside
-pub mod Renewals
-pub mod Changes

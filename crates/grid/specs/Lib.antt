@@ -11,8 +11,3 @@ pub mod Trained
 pub mod Tree
 pub mod Judged
 pub mod Renewed
-pub mod Laid
-pub mod Renewed
-pub mod Trained
-pub mod Tree
-pub mod Judged
