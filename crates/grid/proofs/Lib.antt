@@ -21,5 +21,6 @@ pub mod Empties
 pub mod Updates
 pub mod Judges
 pub mod Sounds
+pub mod Samples
 pub mod Trains
 pub mod Trained

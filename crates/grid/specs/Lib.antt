@@ -11,3 +11,4 @@ pub mod Trained
 pub mod Tree
 pub mod Judged
 pub mod Renewed
+pub mod Sampled
