@@ -20,7 +20,7 @@ use Rattle.grid.specs.Onward.{onward}
 use Rattle.grid.specs.Merged.{joinAt, higherOf, lowerOf, mergedReals, mergedCounts, mergeAt, eachOf, mergedMemory}
 use Rattle.grid.proofs.Same.{Same, same-on, stretch-same}
 use Rattle.grid.proofs.Reading.{Holding, axis-same}
-use Rattle.grid.proofs.Over.{Local, Frames, eachAxis, over-tied}
+use Rattle.grid.proofs.Over.{Local, Frames, eachAxis, over-below, over-above, over-tied}
 use Rattle.grid.proofs.First.{first}
 use Rattle.grid.proofs.Scans.{joined-sum, bounded-at}
 use Rattle.grid.proofs.Kept.{merged-record, kept-bounded}
@@ -319,3 +319,23 @@ merged-axes g o others s t u same kept sound =
     (subst (λ (i : ℕ). Holding m (s .counts) i (g .counts)) (sym many) (a .1)) (a .0))
     ∙ all-merged m others j (axesAt (s .reals) (s .counts) g) o
     ∙ ap (λ (i : ℕ). mergeAll (axesAt (s .reals) (s .counts) g) (axesFrom (o .most) (others .reals) (others .counts) i (o .reals) (o .counts))) both-many
+
+-- nothing below the first axis is touched, nor above the last
+module _ (g o : AxesAt) (others s : Memory) (t : Stands (s .reals) (s .counts) g) (u : Stands (others .reals) (others .counts) o)
+    (same : sameLengths (axesAt (s .reals) (s .counts) g) (axesAt (others .reals) (others .counts) o) ≡ true)
+    (kept : keptAxisList (axesAt (s .reals) (s .counts) g) ≡ true) (sound : keptAxisList (axesAt (others .reals) (others .counts) o) ≡ true) where
+  pub merged-below : (lo hi lo′ hi′ : ℕ) → hi ≤ g .reals → hi′ ≤ g .counts
+      → Same nan lo hi (mergedMemory g o others s .reals) (s .reals) × Same 0 lo′ hi′ (mergedMemory g o others s .counts) (s .counts)
+  unfolding mergedMemory
+  merged-below =
+      over-below (g .most) (mergeAt (g .most) others) (Fit (g .most) others) (merge-local (g .most) others) (merge-frames (g .most) others) (eachOf (g .axes) o) (g .reals) (g .counts) s
+      (fit-all (g .axes) g o others s refl t u same kept sound .0)
+
+  pub merged-above : (lo hi lo′ hi′ : ℕ) → g .reals + g .axes * (6 * g .most + 1) ≤ lo → g .counts + g .axes * (3 * g .most + 2) ≤ lo′
+      → Same nan lo hi (mergedMemory g o others s .reals) (s .reals) × Same 0 lo′ hi′ (mergedMemory g o others s .counts) (s .counts)
+  unfolding mergedMemory
+  merged-above lo hi lo′ hi′ h k =
+      let many = each-many (g .axes) o in
+      over-above (g .most) (mergeAt (g .most) others) (Fit (g .most) others) (merge-local (g .most) others) (merge-frames (g .most) others) (eachOf (g .axes) o) (g .reals) (g .counts) s
+      (fit-all (g .axes) g o others s refl t u same kept sound .0) lo hi lo′ hi′
+      (subst (λ (j : ℕ). g .reals + j * (6 * g .most + 1) ≤ lo) (sym many) h) (subst (λ (j : ℕ). g .counts + j * (3 * g .most + 2) ≤ lo′) (sym many) k)

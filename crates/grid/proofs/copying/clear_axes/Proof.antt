@@ -1,3 +1,4 @@
+-- `copying::clear_axes` meets its contract: what is left to clear in memory as it is now makes what all of it makes of memory at entry.
 use native.Mathlib.Omega.{arith}
 use mathlib.Core.Path.{_≡_, refl, sym, _∙_}
 use lib.ListN.{length, getD}
@@ -52,7 +53,7 @@ loop-less c = omega (arith, one-less (c .before .before .before .before .before 
 -- src/copying.rt:16:5
 loop-again : tie.Need-loop-again Inv-loop μ-loop
 loop-again c = let n = first (c .before .before .before .before .before .before .before .before .before .before .before .before .before .before .args .reals .now) (c .before .before .before .before .before .before .before .before .before .before .before .before .before .before .args .counts .now) (c .before .before .before .before .before .before .before .before .before .before .before .loop .left) (c .before .before .before .before .before .before .before .before .before .if1 .taken) (c .before .before .before .before .before .before .before .before .before .before .before .loop .inv .0) in let held : getD (c .before .before .before .before .before .before .before .before .before .before .before .loop .counts) (c .before .before .before .before .before .before .before .before .before .before .before .loop .left .counts) 0 ≡ getD (c .before .before .before .before .before .before .before .before .before .before .before .before .before .before .args .counts .now) (c .before .before .before .before .before .before .before .before .before .before .before .loop .left .counts) 0 = c .before .before .before .before .before .before .before .before .before .before .before .loop .inv .2 .cells (c .before .before .before .before .before .before .before .before .before .before .before .loop .left .counts) (omega arith) (omega arith) in let size = c .before .before .before .before .before .before .before .before .before .before .before .loop .inv .2 .size in
-    let a = cleared-apart (c .before .before .before .before .before .before .before .before .before .before .before .loop .left .most) (c .before .before .before .before .before .before .before .before .before .before .before .loop .left .reals) (c .before .before .before .before .before .before .before .before .before .before .before .loop .left .counts) (getD (c .before .before .before .before .before .before .before .before .before .before .before .loop .counts) (c .before .before .before .before .before .before .before .before .before .before .before .loop .left .counts) 0) (memory (c .before .before .before .before .before .before .before .before .before .before .before .loop .reals) (c .before .before .before .before .before .before .before .before .before .before .before .loop .counts)) (memory (c .before .before .before .before .before .clear-waiting .last .0) (c .before .before .before .before .before .clear-waiting .last .1 .0)) (omega arith) (omega (arith, c .before .before .before .before .before .before .before .before .before .before .before .loop .inv .1)) (omega arith) (c .before .before .before .before .before .clear-waiting .ensures) in (
+    let a = cleared-apart (c .before .before .before .before .before .before .before .before .before .before .before .loop .left .most) (c .before .before .before .before .before .before .before .before .before .before .before .loop .left .reals) (c .before .before .before .before .before .before .before .before .before .before .before .loop .left .counts) (getD (c .before .before .before .before .before .before .before .before .before .before .before .loop .counts) (c .before .before .before .before .before .before .before .before .before .before .before .loop .left .counts) 0) (memory (c .before .before .before .before .before .before .before .before .before .before .before .loop .reals) (c .before .before .before .before .before .before .before .before .before .before .before .loop .counts)) (memory (c .before .before .before .before .before .clear-waiting .last .0) (c .before .before .before .before .before .clear-waiting .last .1 .0)) (omega arith) (record { room = omega (arith, c .before .before .before .before .before .before .before .before .before .before .before .loop .inv .1); places = omega arith }) (c .before .before .before .before .before .clear-waiting .ensures) in (
       stands-on (c .before .before .before .before .before .before .before .before .before .before .before .before .before .before .args .reals .now) (c .before .before .before .before .before .before .before .before .before .before .before .before .before .before .args .counts .now) (c .before .before .before .before .before .before .before .before .before .before .before .loop .left) (c .after-first .result) (c .before .before .before .before .before .before .before .before .before .if1 .taken) (c .before .before .before .before .before .before .before .before .before .before .before .loop .inv .0) (c .after-first .ensures),
       reals-left (c .before .before .before .before .before .before .before .before .before .before .before .loop .left .most) (c .before .before .before .before .before .before .before .before .before .before .before .loop .left .reals) (c .before .before .before .before .before .before .before .before .before .before .before .loop .left .counts) (memory (c .before .before .before .before .before .before .before .before .before .before .before .loop .reals) (c .before .before .before .before .before .before .before .before .before .before .before .loop .counts)) (memory (c .before .before .before .before .before .clear-waiting .last .0) (c .before .before .before .before .before .clear-waiting .last .1 .0)) a ∙ c .before .before .before .before .before .before .before .before .before .before .before .loop .inv .1,
       counts-left (c .before .before .before .before .before .before .before .before .before .before .before .loop .left) (c .after-first .result) (length (c .before .before .before .before .before .before .before .before .before .before .before .before .before .before .args .counts .now)) (memory (c .before .before .before .before .before .before .before .before .before .before .before .loop .reals) (c .before .before .before .before .before .before .before .before .before .before .before .loop .counts)) (memory (c .before .before .before .before .before .clear-waiting .last .0) (c .before .before .before .before .before .clear-waiting .last .1 .0)) (c .before .before .before .before .before .before .before .before .before .before .before .before .before .before .args .counts .now) (c .after-first .ensures) a (c .before .before .before .before .before .before .before .before .before .before .before .loop .inv .2),

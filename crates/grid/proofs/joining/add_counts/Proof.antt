@@ -1,3 +1,4 @@
+-- `joining::add_counts` meets its contract: the part comes back joined.
 use Rattle.recut.specs.Gather.{joinedCount, joinedCounts}
 use Rattle.grid.proofs.Joins.{joined}
 use borrow.Author.Needs.{needs}

@@ -1,3 +1,4 @@
+-- `joining::add_reals` meets its contract: the part comes back joined.
 use lib.Ieee.{binary64, add}
 use Rattle.recut.specs.Gather.{gatheredOf}
 use Rattle.grid.proofs.Joins.{joined}

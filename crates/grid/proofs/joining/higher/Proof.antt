@@ -1,3 +1,4 @@
+-- `joining::higher` meets its contract: the two cases of the definition.
 use Rattle.grid.specs.Merged.{higherOf}
 use Rattle.grid.proofs.joining.higher.Statement.{statement}
 use Rattle.grid.proofs.joining.higher.Tie as tie

@@ -1,3 +1,4 @@
+-- `joining::lower` meets its contract: the two cases of the definition.
 use Rattle.grid.specs.Merged.{lowerOf}
 use Rattle.grid.proofs.joining.lower.Statement.{statement}
 use Rattle.grid.proofs.joining.lower.Tie as tie

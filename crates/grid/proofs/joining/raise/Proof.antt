@@ -1,3 +1,4 @@
+-- `joining::raise` meets its contract: what is raised, and what the rest of both lists will give, stay the whole.
 use mathlib.Core.Path.{_≡_, refl, sym, _∙_}
 use mathlib.Core.List.{_++_}
 use Prim.Native.Nat.{zero-le, _-_, _≤_}

@@ -1,3 +1,4 @@
+-- `joining::raise_reals` meets its contract: the part comes back joined.
 use Rattle.grid.specs.Merged.{higherOf}
 use Rattle.grid.proofs.Joins.{joined}
 use borrow.Author.Needs.{needs}

@@ -1,3 +1,4 @@
+-- `joining::sink_reals` meets its contract: the part comes back joined.
 use Rattle.grid.specs.Merged.{lowerOf}
 use Rattle.grid.proofs.Joins.{joined}
 use borrow.Author.Needs.{needs}

@@ -1,3 +1,4 @@
+-- `merging::are_bounded_with` meets its contract: what was found and what is left of both stretches stay the answer for the whole; no sum overflows.
 use native.Mathlib.Omega.{arith}
 use mathlib.Core.Path.{_≡_, refl, sym, ap, _∙_}
 use mathlib.Core.Bool.{_&&_}

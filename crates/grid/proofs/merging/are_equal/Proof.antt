@@ -1,3 +1,4 @@
+-- `merging::are_equal` meets its contract: what was found and what is left of both stretches stay the answer for the whole.
 use native.Mathlib.Omega.{arith}
 use mathlib.Core.Path.{_≡_, refl, sym, _∙_}
 use Prim.Native.Nat.{_-_}

@@ -1,3 +1,4 @@
+-- `merging::are_finite_with` meets its contract: what was found and what is left of both stretches stay the answer for the whole.
 use native.Mathlib.Omega.{arith}
 use mathlib.Core.Path.{_≡_, refl, sym, ap, _∙_}
 use mathlib.Core.Bool.{Bool, _&&_}

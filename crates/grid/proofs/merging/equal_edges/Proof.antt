@@ -1,3 +1,4 @@
+-- `merging::equal_edges` meets its contract: what was found and what is left of both grids stay the answer for them all.
 use native.Mathlib.Omega.{arith}
 use mathlib.Core.Path.{_≡_, refl, sym, _∙_}
 use mathlib.Core.Bool.{true, _&&_}

@@ -1,3 +1,4 @@
+-- `merging::first_fits` meets its contract: the four columns decide, the rest of the axis is kept already.
 use native.Mathlib.Omega.{arith}
 use mathlib.Core.Path.{refl, sym}
 use Rattle.grid.specs.Layout.{axisReals, axisCounts}

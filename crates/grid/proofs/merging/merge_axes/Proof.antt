@@ -1,3 +1,4 @@
+-- `merging::merge_axes` meets its contract: what is left to merge in memory as it is now makes what all of it makes of memory at entry.
 use native.Mathlib.Omega.{arith}
 use mathlib.Core.Path.{_≡_, refl, sym, ap₂, _∙_}
 use mathlib.Core.Bool.{true}

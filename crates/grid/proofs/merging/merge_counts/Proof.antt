@@ -1,3 +1,4 @@
+-- `merging::merge_counts` meets its contract: two columns one after the other.
 use native.Mathlib.Omega.{arith}
 use Rattle.grid.specs.Layout.{axisCounts}
 use Rattle.grid.specs.Merged.{mergedCounts}

@@ -1,3 +1,4 @@
+-- `merging::merge_reals` meets its contract: four columns one after the other.
 use native.Mathlib.Omega.{arith}
 use Rattle.grid.specs.Layout.{axisReals}
 use Rattle.grid.specs.Merged.{mergedReals}

@@ -1,3 +1,4 @@
+-- `onward::after_first` meets its contract: the fields of the record that the definition names.
 use mathlib.Core.Path.{refl}
 use Rattle.grid.specs.Layout.{axisReals, axisCounts}
 use Rattle.grid.specs.Onward.{onward}

@@ -1,3 +1,4 @@
+-- `probing::is_fit` meets its contract: an open coordinate fits, a given one where it lies in [0, 1].
 use borrow.Author.Needs.{needs}
 use Rattle.grid.proofs.probing.is_fit.Statement.{statement}
 use Rattle.grid.proofs.probing.is_fit.Tie as tie

@@ -1,3 +1,4 @@
+-- `probing::probe_axes` meets its contract: as many coordinates as axes, then the product under the floor.
 use mathlib.Core.Path.{ap, _∙_}
 use Rattle.real.specs.Paper.{Paper}
 use lib.Ieee.{Float}

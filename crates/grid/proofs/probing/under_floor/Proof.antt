@@ -1,3 +1,4 @@
+-- `probing::under_floor` meets its contract: the floor on a weight; a refusal passes through.
 use Rattle.grid.proofs.Probes.{floors-weight, floors-refusal}
 use borrow.Author.Needs.{needs}
 use Rattle.grid.proofs.probing.under_floor.Statement.{statement}

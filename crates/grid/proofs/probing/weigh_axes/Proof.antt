@@ -1,3 +1,4 @@
+-- `probing::weigh_axes` meets its contract: the weight so far and what is left of the axes stay the probe of them all.
 use Rattle.grid.specs.Drawn.{axesAt}
 use Rattle.grid.proofs.First.{stands-on, one-less}
 use Rattle.model.specs.Probe.{probeAll}

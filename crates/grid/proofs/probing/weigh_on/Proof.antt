@@ -1,3 +1,4 @@
+-- `probing::weigh_on` meets its contract: the search by halves finds the rule's bin on well-formed edges.
 use Rattle.axis.proofs.Searches.{search-is}
 use borrow.Author.Needs.{needs}
 use Rattle.grid.proofs.probing.weigh_on.Statement.{statement}
