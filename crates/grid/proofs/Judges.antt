@@ -83,7 +83,7 @@ two-and-two true true c d = refl
 two-and-two true false c d = sym (and-false c)
 two-and-two false b c d = refl
 
-four-and-four : (a b c d A B C D : Bool) → (((a && b) && (c && d)) && ((A && B) && (C && D))) ≡ (((a && A) && (b && B)) && ((c && C) && (d && D)))
+pub four-and-four : (a b c d A B C D : Bool) → (((a && b) && (c && d)) && ((A && B) && (C && D))) ≡ (((a && A) && (b && B)) && ((c && C) && (d && D)))
 four-and-four a b c d A B C D = two-and-two (a && b) (c && d) (A && B) (C && D) ∙ ap₂ _&&_ (two-and-two a b A B) (two-and-two c d C D)
 
 zero-finite : finiteOf zero64 ≡ true
@@ -91,7 +91,7 @@ unfolding finiteOf ofBits
 zero-finite = refl
 
 -- a bin's record: two sums and two counts decide
-sound-bin : (s q h l : Float) (n z : ℕ) → record-of.wellFormed (binRecord s q h l n z) ≡ ((finiteOf s && finiteOf q) && (leb n (2 ^ 53) && leb z (2 ^ 53)))
+pub sound-bin : (s q h l : Float) (n z : ℕ) → record-of.wellFormed (binRecord s q h l n z) ≡ ((finiteOf s && finiteOf q) && (leb n (2 ^ 53) && leb z (2 ^ 53)))
 unfolding record-of.wellFormed record-of.finiteSums record-of.boundedCounts record-of.bounded binRecord record-of.withExtremes record-of.withWaiting record-of.fresh
 sound-bin s q h l n z = rw (zero-finite, and-true (finiteOf s && finiteOf q), and-true (finiteOf s && finiteOf q)) (ap (λ (b : Bool). (finiteOf s && finiteOf q) && b) (and-true _ ∙ and-true _ ∙ and-true _))
 
@@ -124,7 +124,7 @@ spread true i s q w z k u = two-and-two i (s && q) (w && z) (k && u) ∙ ap (λ 
 spread false i s q w z k u = refl
 
 module _ (m : ℕ) (reals : List Float) (counts : List ℕ) where
-  sound-bins : (r c i n : ℕ) → i + n ≤ m → r + (6 * m + 1) ≤ length reals → c + (3 * m + 2) ≤ length counts
+  pub sound-bins : (r c i n : ℕ) → i + n ≤ m → r + (6 * m + 1) ≤ length reals → c + (3 * m + 2) ≤ length counts
       → allSound (binsFrom m reals counts r c i n)
       ≡ ((allFinite (stretch (r + (2 * m + 1) + i) n reals) && allFinite (stretch (r + (3 * m + 1) + i) n reals))
       && (allBounded (stretch (c + 2 + i) n counts) && allBounded (stretch (c + (m + 2) + i) n counts)))

@@ -4,7 +4,15 @@ pub mod Reading
 pub mod Over
 pub mod Laid
 pub mod Standing
+pub mod First
 pub mod Draws
+pub mod Probes
+pub mod Scans
+pub mod Joins
+pub mod Kept
+pub mod Merges
+pub mod MergedAxes
+pub mod Copies
 pub mod Lays
 pub mod Inside
 pub mod Renewals
@@ -13,5 +21,6 @@ pub mod Empties
 pub mod Updates
 pub mod Judges
 pub mod Sounds
+pub mod Samples
 pub mod Trains
 pub mod Trained

@@ -18,7 +18,7 @@ module _ (m : ℕ) (reals : List Float) (counts : List ℕ) where
   left-on k d r c h = let e : k - d ≡ suc (k - (d + 1)) = omega arith in rw e
 
   -- where they begin is within memory
-  begins : (k r c : ℕ) → Standing m reals counts k r c → (r ≤ length reals) × (c ≤ length counts)
+  pub begins : (k r c : ℕ) → Standing m reals counts k r c → (r ≤ length reals) × (c ≤ length counts)
   unfolding Standing axisReals axisCounts
   begins zero r c s = s
   begins (suc k) r c s = let b = begins k (r + (6 * m + 1)) (c + (3 * m + 2)) (s .2) in (omega arith, omega arith)

@@ -2,8 +2,13 @@
 pub mod Layout
 pub mod Memory
 pub mod Drawn
+pub mod Onward
+pub mod Probed
 pub mod Laid
-pub mod Renewed
+pub mod Merged
+pub mod Cleared
 pub mod Trained
 pub mod Tree
 pub mod Judged
+pub mod Renewed
+pub mod Sampled

@@ -84,7 +84,7 @@ fn place_axes(reals: &[f64], counts: &[u64], g: AxesAt, start: MonteCarloRng) ->
 }
 
 // The weight under a floor.
-fn floored(floor: f64, weight: f64) -> f64
+pub fn floored(floor: f64, weight: f64) -> f64
     ensures { λ r. ⌜ r ≡ flooredOf floor weight ⌝ }
 {
     if floor == 0.0 {

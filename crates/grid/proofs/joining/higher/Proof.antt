@@ -1,0 +1,18 @@
+use Rattle.grid.specs.Merged.{higherOf}
+use Rattle.grid.proofs.joining.higher.Statement.{statement}
+use Rattle.grid.proofs.joining.higher.Tie as tie
+use Rattle.grid.proofs.joining.higher.Reads as reads
+use Rattle.grid.proofs.joining.higher.Lts as lts
+
+-- src/joining.rt:15:9
+returns : tie.Need-returns
+unfolding higherOf
+returns c = rw (c .if1 .taken)
+
+-- src/joining.rt:11:1
+returns-2 : tie.Need-returns-2
+unfolding higherOf
+returns-2 c = rw (c .if1 .left)
+
+pub higher-spec : {M : Type 1} → statement M
+higher-spec = tie.close (tie.spec returns returns-2)
