@@ -6,7 +6,7 @@ use Prim.Native.Nat.{ℕ, _≤_, _<_}
 use native.Mathlib.Omega.{arith}
 use borrow.Author.Tests.{ltb-false, not-false, ne-eqb}
 use lib.Dec.{ltb}
-use lib.ListN.{length}
+use lib.ListN.{length, getD}
 use lib.Ieee.{Float}
 use Rattle.plan.specs.declared.Needs.{Needs}
 use Rattle.plan.specs.declared.Sized.{Sized}
@@ -17,10 +17,12 @@ use Rattle.plan.specs.Calls.{sizesOf}
 use Rattle.plan.proofs.Tables.{Words}
 use Rattle.model.specs.Sound.{sound}
 use Rattle.real.specs.Paper.{Paper, gives, refuses}
-use Rattle.grid.specs.Tree.{Laid}
-use Rattle.grid.specs.State.{rootOf, judgedBy, faultBy, stateFault}
+use Rattle.grid.specs.Memory.{recordAt}
+use Rattle.grid.specs.Tree.{axesGridAt, headAt, Laid}
+use Rattle.grid.specs.State.{rootOf, ownOf, judgedBy, faultBy, stateFault}
 use Rattle.grid.specs.Calls.{onState}
 use Rattle.grid.proofs.Laid.{root-laid}
+use Rattle.grid.proofs.Sounds.{node-axes, node-bins}
 
 pub record Clear (table : List ℕ) (reals : List Float) (counts : List ℕ) : Type 0 where
   pub laid : Laid 4 table (length reals) (length counts) 0
@@ -67,3 +69,13 @@ refused-first fault p n = rw (ne-eqb fault 0 n)
 
 pub answered-last : {A : Type 0} (fault : ℕ) (p : Paper A) → fault ≡ 0 → onState fault p ≡ p
 answered-last fault p e = rw e
+
+-- ---- the root's own accumulator
+
+pub own-axes : (table : List ℕ) (reals : List Float) (counts : List ℕ) → getD table 0 0 ≡ 1 → recordAt reals counts (getD table 9 0) (getD table 10 0) ≡ ownOf (rootOf table reals counts)
+unfolding ownOf axesGridAt
+own-axes table reals counts e = sym (ap ownOf (node-axes 4 table reals counts 0 e))
+
+pub own-bins : (table : List ℕ) (reals : List Float) (counts : List ℕ) → (getD table 0 0 ≡ 1 → ⊥) → recordAt reals counts (getD table 5 0) (getD table 6 0) ≡ ownOf (rootOf table reals counts)
+unfolding ownOf headAt
+own-bins table reals counts n = sym (ap ownOf (node-bins 4 table reals counts 0 n (omega arith)))

@@ -4,8 +4,15 @@ use contract.Lifetimes.{Lfts}
 use borrow.Fn.Kinds.{Dens, endedOf}
 use denote.Triple.Clauses.{AtExit}
 use Rattle.grid.specs.declared.Drawn.{Drawn}
+use Rattle.accumulator.specs.declared.Estimated.{Estimated}
+use Rattle.accumulator.specs.declared.Summed.{Summed}
+use Rattle.accumulator.proofs.Unique.{estimated-one, summed-one}
 use Rattle.grid.proofs.draw.Kinds as draw-kinds
 use Rattle.grid.proofs.draw.Reads as draw-reads
+use Rattle.grid.proofs.live_estimate.Kinds as live-kinds
+use Rattle.grid.proofs.live_estimate.Reads as live-reads
+use Rattle.grid.proofs.summary.Kinds as summary-kinds
+use Rattle.grid.proofs.summary.Reads as summary-reads
 
 pub draw-total : (κs : Lfts 3) (a : Dens κs draw-kinds.ps) → draw-reads.Pre κs a
 draw-total κs a = tt
@@ -13,3 +20,17 @@ draw-total κs a = tt
 pub draw-unique : (κs : Lfts 3) (a : Dens κs draw-kinds.ps) (r r′ : Drawn) (s s′ : AtExit (endedOf 3 draw-kinds.ps draw-kinds.r) κs)
     → draw-reads.Post κs a r s → draw-reads.Post κs a r′ s′ → r ≡ r′
 draw-unique κs a r r′ s s′ p q = p ∙ sym q
+
+pub summary-total : (κs : Lfts 3) (a : Dens κs summary-kinds.ps) → summary-reads.Pre κs a
+summary-total κs a = tt
+
+pub summary-unique : (κs : Lfts 3) (a : Dens κs summary-kinds.ps) (r r′ : Summed) (s s′ : AtExit (endedOf 3 summary-kinds.ps summary-kinds.r) κs)
+    → summary-reads.Post κs a r s → summary-reads.Post κs a r′ s′ → r ≡ r′
+summary-unique κs a r r′ s s′ p q = summed-one r r′ (p ∙ sym q)
+
+pub live-estimate-total : (κs : Lfts 3) (a : Dens κs live-kinds.ps) → live-reads.Pre κs a
+live-estimate-total κs a = tt
+
+pub live-estimate-unique : (κs : Lfts 3) (a : Dens κs live-kinds.ps) (r r′ : Estimated) (s s′ : AtExit (endedOf 3 live-kinds.ps live-kinds.r) κs)
+    → live-reads.Post κs a r s → live-reads.Post κs a r′ s′ → r ≡ r′
+live-estimate-unique κs a r r′ s s′ p q = estimated-one r r′ (p ∙ sym q)

@@ -8,13 +8,19 @@ use lib.Ieee.{Float}
 use Rattle.plan.specs.declared.Needs.{Needs}
 use Rattle.plan.specs.Paper as plan
 use Rattle.plan.specs.Calls.{sizesOf}
-use Rattle.model.specs.Grid.{Grid}
+use Rattle.accumulator.specs.declared.StatisticsAccumulator.{StatisticsAccumulator}
+use Rattle.model.specs.Grid.{Grid, axes, bins}
 use Rattle.model.specs.Sound.{sound}
 use Rattle.grid.specs.Tree.{gridAt}
 
 -- the whole grid: a plan has four levels, and its first run begins at word 0
 abbrev pub rootOf : List ℕ → List Float → List ℕ → Grid
 rootOf table reals counts = gridAt 4 table reals counts 0
+
+-- a grid's own accumulator
+unfoldable pub ownOf : Grid → StatisticsAccumulator
+ownOf (axes g) = g .own
+ownOf (bins h bs) = h .own
 
 -- too short for what the plan needs: 10; not well formed: 12; else 0
 unfoldable pub judgedBy : List ℕ → List Float → List ℕ → Needs → ℕ

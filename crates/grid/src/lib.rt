@@ -17,7 +17,10 @@ mod state;
 mod training;
 
 ghost use mathlib.Core.Path.{_≡_};
-ghost use Rattle.grid.specs.Calls.{drawnAs, drawOf};
+ghost use Rattle.accumulator.specs.Calls.{paperEstimated, paperSummed};
+ghost use Rattle.grid.specs.Calls.{drawnAs, drawOf, summaryOf, liveOf};
+use accumulator::Estimated;
+use accumulator::Summed;
 
 // A sample: a bin for each bins grid on its path, a weight for each of them and for the axes grid at its end, and that grid's
 // coordinates. Of each as many are there as its number says.
@@ -53,4 +56,26 @@ pub fn draw(table: &[u64], reals: &[f64], counts: &[u64], start: stream::MonteCa
     }
     let drawing = sampling::draw_grid(table, reals, counts, 4, 0, start);
     Drawn { refused, drawing }
+}
+
+// Iterations, samples, average, error and chi-squared of the whole grid, and whether it is flat. Refused: 10, 12.
+pub fn summary(table: &[u64], reals: &[f64], counts: &[u64]) -> Summed
+    ensures { λ r. ⌜ paperSummed r ≡ summaryOf (now (table .entry)) (now (reals .entry)) (now (counts .entry)) ⌝ }
+{
+    let refused = state::fault(table, reals, counts);
+    if refused != 0 {
+        return Summed::Refused(refused);
+    }
+    state::own(table, reals, counts).summary()
+}
+
+// Average, error and chi-squared as if the iteration ended now. Refused: 10, 12, 8.
+pub fn live_estimate(table: &[u64], reals: &[f64], counts: &[u64]) -> Estimated
+    ensures { λ r. ⌜ paperEstimated r ≡ liveOf (now (table .entry)) (now (reals .entry)) (now (counts .entry)) ⌝ }
+{
+    let refused = state::fault(table, reals, counts);
+    if refused != 0 {
+        return Estimated::Refused(refused);
+    }
+    state::own(table, reals, counts).get_live_estimate()
 }

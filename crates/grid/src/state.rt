@@ -2,8 +2,12 @@
 ghost use mathlib.Core.Path.{_≡_};
 ghost use Rattle.plan.specs.Paper.{gives};
 ghost use Rattle.plan.specs.Calls.{sizesOf};
-ghost use Rattle.grid.specs.State.{judgedBy, stateFault};
+ghost use lib.ListN.{length};
+ghost use Rattle.grid.specs.Tree.{Laid};
+ghost use Rattle.grid.specs.State.{rootOf, ownOf, judgedBy, stateFault};
+use crate::accounts;
 use crate::judge;
+use accumulator::StatisticsAccumulator;
 use plan::Needs;
 use plan::Sized;
 
@@ -32,4 +36,15 @@ pub fn fault(table: &[u64], reals: &[f64], counts: &[u64]) -> u64
         Sized::Plan(needs) => judged(table, reals, counts, needs),
         Sized::Refused(_) => 12,
     }
+}
+
+// The root's own accumulator.
+pub fn own(table: &[u64], reals: &[f64], counts: &[u64]) -> StatisticsAccumulator
+    requires { ⌜ Laid 4 (now table) (length (now reals)) (length (now counts)) 0 ⌝ }
+    ensures { λ a. ⌜ a ≡ ownOf (rootOf (now (table .entry)) (now (reals .entry)) (now (counts .entry))) ⌝ }
+{
+    if table[0] == 1 {
+        return accounts::load(reals, counts, table[9] as usize, table[10] as usize);
+    }
+    accounts::load(reals, counts, table[5] as usize, table[6] as usize)
 }
