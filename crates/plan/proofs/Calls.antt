@@ -22,7 +22,7 @@ use Rattle.plan.specs.Walk.{fromTable}
 use Rattle.plan.specs.Bounds.{Bytes, Inside}
 use Rattle.plan.specs.Writing.{Writable, laid}
 use Rattle.plan.specs.Paper.{paperRead, paperSized}
-use Rattle.plan.specs.Calls.{begin, gridOf, end, writtenOf, readPrefixOf, readPlanOf, sizesOf}
+use Rattle.plan.specs.Calls.{begin, gridOf, end, writtenOf, readPrefixOf, measureOf, readPlanOf, sizesOf}
 use Rattle.plan.proofs.Trees.{start-roomy}
 use Rattle.plan.proofs.Readings.{stops-reads}
 use Rattle.plan.proofs.Steps.{some, stopped}
@@ -97,6 +97,20 @@ module _ (bs xs : List ℕ) where
           let s = grid-done bs q e in
           let v : new ≡ sets xs 0 (rows 4 (s .tree) untaken) = w ∙ ap (λ (p : Place). laid 4 (p .tally) (treeOf (fromBytes bs) 4 p) xs) b ∙ ap (λ (o : Out). laid 4 untaken o xs) (s .reads .read) in
           rw (s .reads .grid, le-ltb (length xs) (q .tally .words) m, n, v)
+
+module _ (bs : List ℕ) where
+  pub measure-refused : {n at : ℕ} → step.Stopped n at ≡ stepOf (gridOf bs) → paperRead (answer.Refused n at) ≡ measureOf bs
+  unfolding measureOf paperRead
+  measure-refused {n} {at} e = rw (stopped (gridOf bs) n at e)
+
+  module _ {q : Place} (e : step.Done q ≡ stepOf (gridOf bs)) where
+    pub measure-surplus : q .at < length bs → paperRead (answer.Refused 1 (q .at)) ≡ measureOf bs
+    unfolding measureOf paperRead
+    measure-surplus m = rw (grid-done bs q e .reads .grid, lt-ltb (q .at) (length bs) m)
+
+    pub measure-whole : {n : Needs} → length bs ≤ q .at → n ≡ needsOf (q .tally) → paperRead (answer.Plan (q .at) n) ≡ measureOf bs
+    unfolding measureOf paperRead
+    measure-whole m n = rw (grid-done bs q e .reads .grid, le-ltb (q .at) (length bs) m, n)
 
 -- 3. A table's sizes --------------------------------------------------------------------------------------
 

@@ -10,6 +10,8 @@ use Rattle.plan.specs.declared.Sized.{Sized}
 use Rattle.plan.specs.declared.Sized.the-variants as sized
 use Rattle.plan.specs.Paper.{PlanRead, planRead, paperRead, paperSized}
 use Rattle.plan.specs.Calls.{End}
+use Rattle.plan.proofs.measure_plan.Kinds as measure-plan
+use Rattle.plan.proofs.measure_plan.Reads as measure-plan-reads
 use Rattle.plan.proofs.read_plan.Kinds as read-plan
 use Rattle.plan.proofs.read_plan.Reads as read-plan-reads
 use Rattle.plan.proofs.read_prefix.Kinds as read-prefix
@@ -35,6 +37,13 @@ paper-sized-one (sized.Plan n) (sized.Plan m) h = cc
 paper-sized-one (sized.Plan n) (sized.Refused k) h = cc
 paper-sized-one (sized.Refused k) (sized.Plan n) h = cc
 paper-sized-one (sized.Refused k) (sized.Refused m) h = cc
+
+pub measure-plan-total : (κs : Lfts 1) (a : Dens κs measure-plan.ps) → measure-plan-reads.Pre κs a
+measure-plan-total κs a = tt
+
+pub measure-plan-unique : (κs : Lfts 1) (a : Dens κs measure-plan.ps) (r r′ : Read) (s s′ : AtExit (endedOf 1 measure-plan.ps measure-plan.r) κs)
+    → measure-plan-reads.Post κs a r s → measure-plan-reads.Post κs a r′ s′ → r ≡ r′
+measure-plan-unique κs a r r′ s s′ p q = paper-read-one r r′ (p ∙ sym q)
 
 pub read-plan-total : (κs : Lfts 2) (a : Dens κs read-plan.ps) → read-plan-reads.Pre κs a
 read-plan-total κs a = tt

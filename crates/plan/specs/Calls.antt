@@ -51,6 +51,14 @@ planEnd bs xs (Out.reads t q) = cond (ltb (q .at) (length bs)) (end (refusesAt 1
 unfoldable pub readPlanOf : List ℕ → List ℕ → End
 readPlanOf bs xs = planEnd bs xs (gridOf bs)
 
+abbrev pub measuredEnd : List ℕ → Out → Paper PlanRead
+measuredEnd bs (Out.stops n at) = refusesAt n at
+measuredEnd bs (Out.reads t q) = cond (ltb (q .at) (length bs)) (refusesAt 1 (q .at)) (gives (planRead (q .at) (needsOf (q .tally))))
+
+-- the whole plan measured: its bytes and its needs
+unfoldable pub measureOf : List ℕ → Paper PlanRead
+measureOf bs = measuredEnd bs (gridOf bs)
+
 abbrev pub sizedEnd : List ℕ → Out → Paper Needs
 sizedEnd xs (Out.stops n at) = refuses 12
 sizedEnd xs (Out.reads t q) = cond (leb (q .tally .words) (length xs)) (gives (needsOf (q .tally))) (refuses 12)

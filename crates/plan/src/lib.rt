@@ -13,7 +13,7 @@ ghost use mathlib.Core.Path.{_≡_};
 ghost use Rattle.plan.specs.Reading.{stepOf};
 ghost use Rattle.plan.specs.Paper.{paperRead, paperSized};
 ghost use Rattle.plan.specs.Needs.{needsOf};
-ghost use Rattle.plan.specs.Calls.{begin, end, gridOf, readPlanOf, readPrefixOf, sizesOf};
+ghost use Rattle.plan.specs.Calls.{begin, end, gridOf, measureOf, readPlanOf, readPrefixOf, sizesOf};
 use bytes::byte_at;
 use measuring::measure;
 use walking::known;
@@ -151,6 +151,29 @@ fn put(bytes: &[u8], past: Place, table: &mut [u64]) -> Read
     Read::Plan {
         end: past.at,
         needs: needs_of(taken),
+    }
+}
+
+// Judges a whole plan and measures it: how many bytes it takes and what it needs.
+pub fn measure_plan(bytes: &[u8]) -> Read
+    ensures { λ r. ⌜ paperRead r ≡ measureOf (now (bytes .entry)) ⌝ }
+{
+    match judge(bytes) {
+        Step::Stopped { number, at } => Read::Refused { number, offset: at },
+        Step::Done(past) => {
+            let at = past.at;
+            if at < bytes.len() {
+                return Read::Refused {
+                    number: 1,
+                    offset: at,
+                };
+            }
+            let taken = past.tally;
+            Read::Plan {
+                end: at,
+                needs: needs_of(taken),
+            }
+        }
     }
 }
 
