@@ -15,6 +15,7 @@ use Rattle.axis.specs.Edges.{inUnit, binOf}
 use Rattle.model.specs.Axes.{Axis}
 use Rattle.grid.specs.Layout.{stretch, axisReals, axisCounts, axisAt, axesFrom}
 use Rattle.grid.specs.Memory.{Memory, memory, overAxes, Asked}
+use Rattle.grid.specs.Sampled.{entries}
 use Rattle.grid.specs.Trained.{allInUnit, binsOn, trainedAt, Cell, cellFits, cellsFit}
 use Rattle.grid.proofs.Same.{Same, same-refl, same-on, same-sym, same-within, same-set-below, same-set-above}
 use Rattle.grid.proofs.Standing.{left-on}
@@ -36,6 +37,15 @@ unfolding allInUnit
 unit-at [] d h e = absurd (omega arith)
 unit-at (x ∷ xs) zero h e = both (inUnit x) (allInUnit xs) e .0
 unit-at (x ∷ xs) (suc d) h e = unit-at xs d (omega arith) (both (inUnit x) (allInUnit xs) e .1)
+
+-- n entries of an array are its first n
+entries-from : {A : Type 0} (d : A) (xs : List A) (i n : ℕ) → i + n ≤ length xs → entries d xs i n ≡ take n (drop i xs)
+unfolding entries
+entries-from d xs i zero h = refl
+entries-from d xs i (suc n) h = rw (drop-cons xs i d (omega arith)) (ap (λ (l : List _). getD xs i d ∷ l) (entries-from d xs (i + 1) n (omega arith) ∙ ap (λ (k : ℕ). take n (drop k xs)) (add-one i)))
+
+pub entries-take : {A : Type 0} (d : A) (xs : List A) (n : ℕ) → n ≤ length xs → entries d xs 0 n ≡ take n xs
+entries-take d xs n h = entries-from d xs 0 n (omega arith)
 
 -- ---- bins
 

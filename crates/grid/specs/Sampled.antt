@@ -4,7 +4,7 @@ use Prim.Native.Nat.{ℕ, zero, suc, _+_, _≤_}
 use mathlib.Core.Logic.{_≢_}
 use mathlib.Core.Bool.{Bool, _&&_}
 use mathlib.Core.List.{List, [], _∷_}
-use lib.ListN.{length, take, getD}
+use lib.ListN.{length, getD}
 use lib.Ieee.{Float, nan}
 use Rattle.real.specs.Numbers.{zero64}
 use Rattle.model.specs.Grid.{Child}
@@ -22,7 +22,7 @@ entries d xs i (suc n) = getD xs i d ∷ entries d xs (i + 1) n
 
 unfoldable pub sampleOf : given.Sample → Sample
 sampleOf s =
-    record { path = entries 0 (s .path) 0 (s .levels); weights = entries nan (s .weights) 0 (s .given); coordinates = take (s .axes) (s .coordinates) }
+    record { path = entries 0 (s .path) 0 (s .levels); weights = entries nan (s .weights) 0 (s .given); coordinates = entries nan (s .coordinates) 0 (s .axes) }
 
 -- a bin and a weight in front
 unfoldable pub pushed : ℕ → Float → Sample → Sample

@@ -3,6 +3,8 @@ ghost use mathlib.Core.Path.{_≡_};
 ghost use mathlib.Core.Bool.{true};
 ghost use Prim.Native.Nat.{_≤_};
 ghost use lib.ListN.{take};
+ghost use lib.Ieee.{nan};
+ghost use Rattle.grid.specs.Sampled.{entries};
 ghost use Rattle.accumulator.specs.Steps.{zeroCount};
 ghost use Rattle.grid.specs.Drawn.{axesAt, Stands};
 ghost use Rattle.grid.specs.Memory.{memory};
@@ -12,7 +14,7 @@ use crate::axes::AxesAt;
 // Whether the first n coordinates are numbers in [0, 1].
 pub fn are_in_unit(xs: [f64; 8], n: usize) -> bool
     requires { ⌜ n ≤ 8 ⌝ }
-    ensures { λ r. ⌜ r ≡ allInUnit (take n xs) ⌝ }
+    ensures { λ r. ⌜ r ≡ allInUnit (entries nan xs 0 n) ⌝ }
 {
     let mut ok = true;
     let mut i = 0;
@@ -25,8 +27,8 @@ pub fn are_in_unit(xs: [f64; 8], n: usize) -> bool
 
 // The bin of each coordinate on its axis.
 pub fn locate(reals: &[f64], counts: &[u64], g: AxesAt, xs: [f64; 8]) -> [usize; 8]
-    requires { ⌜ Stands (now reals) (now counts) g × (allInUnit (take (g .axes) xs) ≡ true) ⌝ }
-    ensures { λ r. ⌜ take (g .axes) r ≡ binsOn (axesAt (now (reals .entry)) (now (counts .entry)) g) (take (g .axes) xs) ⌝ }
+    requires { ⌜ Stands (now reals) (now counts) g × (allInUnit (entries nan xs 0 (g .axes)) ≡ true) ⌝ }
+    ensures { λ r. ⌜ take (g .axes) r ≡ binsOn (axesAt (now (reals .entry)) (now (counts .entry)) g) (entries nan xs 0 (g .axes)) ⌝ }
 {
     let mut bins = [0usize; 8];
     let mut at = g.reals;

@@ -1,3 +1,4 @@
+use Rattle.grid.proofs.Trains.{entries-take}
 use mathlib.Core.Path.{sym}
 use mathlib.Core.Bool.{Bool}
 use Rattle.axis.specs.Edges.{inUnit}
@@ -58,7 +59,7 @@ loop-again c = (
 
 -- src/training.rt:13:1
 returns : tie.Need-returns Inv-loop μ-loop
-returns c = sym (unit-out (take (c .before .before .args .n) (c .before .before .args .t1)) (c .before .loop .i) (c .before .loop .ok) (omega (arith, (length-take-le (c .before .before .args .n) (c .before .before .args .t1) (omega (arith, c .before .before .good .0 .1 .0 .1, c .before .before .pre))), c .loop-test .left))) ∙ c .before .loop .inv .1
+returns c = sym (unit-out (take (c .before .before .args .n) (c .before .before .args .t1)) (c .before .loop .i) (c .before .loop .ok) (omega (arith, (length-take-le (c .before .before .args .n) (c .before .before .args .t1) (omega (arith, c .before .before .good .0 .1 .0 .1, c .before .before .pre))), c .loop-test .left))) ∙ c .before .loop .inv .1 ∙ ap allInUnit (sym (entries-take nan (c .before .before .args .t1) (c .before .before .args .n) (omega (arith, c .before .before .good .0 .1 .0 .1, c .before .before .pre))))
 
 pub are-in-unit-spec : {M : Type 1} → statement M
 are-in-unit-spec =

@@ -1,3 +1,4 @@
+use Rattle.grid.proofs.Trains.{unit-at, entries-take, located-on, located-out}
 use mathlib.Core.Path.{_≡_, refl, sym, ap, _∙_}
 use mathlib.Core.List.{List, _++_}
 use Prim.Native.Nat.{ℕ, _+_, _-_, _*_, _≤_}
@@ -12,7 +13,6 @@ use Rattle.grid.specs.Drawn.{Standing}
 use Rattle.grid.specs.Trained.{allInUnit, binsOn}
 use Rattle.grid.proofs.Standing.{next}
 use Rattle.grid.proofs.Draws.{asked-part}
-use Rattle.grid.proofs.Trains.{unit-at, located-on, located-out}
 use Rattle.axis.specs.Search.{searchOf}
 use lib.Ieee.{Float}
 use Rattle.grid.proofs.training.locate.Statement.{statement}
@@ -123,12 +123,12 @@ loop-again c = let n = next (c .before .before .before .before .before .before .
   simp length-set ((c .before .before .before .before .before .before .before .loop .inv) .1),
   n .rest,
   located-on (c .before .before .before .before .before .before .before .before .before .before .args .g .most) (c .before .before .before .before .before .before .before .before .before .before .args .reals .now) (c .before .before .before .before .before .before .before .before .before .before .args .counts .now) (c .before .before .before .before .before .before .before .before .before .before .args .g .axes) (c .before .before .before .before .before .before .before .loop .done) (c .before .before .before .before .before .before .before .loop .at) (c .before .before .before .before .before .before .before .loop .place) (take (c .before .before .before .before .before .before .before .before .before .before .args .g .axes) (c .before .before .before .before .before .before .before .before .before .before .args .t4)) (c .before .before .before .before .before .before .before .loop .bins) (c .before .before .bin-of .result) (c .before .before .before .before .before .if1 .taken) (omega (arith, (length-take-le (c .before .before .before .before .before .before .before .before .before .before .args .g .axes) (c .before .before .before .before .before .before .before .before .before .before .args .t4) (omega (arith, c .before .before .before .before .before .before .before .before .before .before .good .1 .1 .1 .0 .1 .0 .1, c .before .before .before .before .before .before .before .before .before .before .pre .0 .0))), c .before .before .before .before .before .if1 .taken)) (omega (arith, (c .before .before .before .before .before .before .before .loop .inv) .1, c .before .before .before .before .before .if1 .taken, c .before .before .before .before .before .before .before .before .before .before .pre .0 .0))
-      (c .before .before .bin-of .ensures ∙ ap (λ (x : Float). searchOf (take ((c .before .before .before .before .before .before .before .loop .at) + (getD (c .before .before .before .before .before .before .before .before .before .before .args .counts .now) (c .before .before .before .before .before .before .before .loop .place) 0) + 1 - (c .before .before .before .before .before .before .before .loop .at)) (drop (c .before .before .before .before .before .before .before .loop .at) (c .before .before .before .before .before .before .before .before .before .before .args .reals .now))) x) (sym (getD-take (c .before .before .before .before .before .before .before .before .before .before .args .g .axes) (c .before .before .before .before .before .before .before .before .before .before .args .t4) (c .before .before .before .before .before .before .before .loop .done) nan (c .before .before .before .before .before .if1 .taken))) ∙ search-is (take ((c .before .before .before .before .before .before .before .loop .at) + (getD (c .before .before .before .before .before .before .before .before .before .before .args .counts .now) (c .before .before .before .before .before .before .before .loop .place) 0) + 1 - (c .before .before .before .before .before .before .before .loop .at)) (drop (c .before .before .before .before .before .before .before .loop .at) (c .before .before .before .before .before .before .before .before .before .before .args .reals .now))) (getD (take (c .before .before .before .before .before .before .before .before .before .before .args .g .axes) (c .before .before .before .before .before .before .before .before .before .before .args .t4)) (c .before .before .before .before .before .before .before .loop .done) nan) (asked-part (c .before .before .before .before .before .before .before .loop .at) (getD (c .before .before .before .before .before .before .before .before .before .before .args .counts .now) (c .before .before .before .before .before .before .before .loop .place) 0) (c .before .before .before .before .before .before .before .before .before .before .args .reals .now) (n .edges)) (unit-at (take (c .before .before .before .before .before .before .before .before .before .before .args .g .axes) (c .before .before .before .before .before .before .before .before .before .before .args .t4)) (c .before .before .before .before .before .before .before .loop .done) (omega (arith, (length-take-le (c .before .before .before .before .before .before .before .before .before .before .args .g .axes) (c .before .before .before .before .before .before .before .before .before .before .args .t4) (omega (arith, c .before .before .before .before .before .before .before .before .before .before .good .1 .1 .1 .0 .1 .0 .1, c .before .before .before .before .before .before .before .before .before .before .pre .0 .0))), c .before .before .before .before .before .if1 .taken)) (c .before .before .before .before .before .before .before .before .before .before .pre .1))) ∙ (c .before .before .before .before .before .before .before .loop .inv) .3,
+      (c .before .before .bin-of .ensures ∙ ap (λ (x : Float). searchOf (take ((c .before .before .before .before .before .before .before .loop .at) + (getD (c .before .before .before .before .before .before .before .before .before .before .args .counts .now) (c .before .before .before .before .before .before .before .loop .place) 0) + 1 - (c .before .before .before .before .before .before .before .loop .at)) (drop (c .before .before .before .before .before .before .before .loop .at) (c .before .before .before .before .before .before .before .before .before .before .args .reals .now))) x) (sym (getD-take (c .before .before .before .before .before .before .before .before .before .before .args .g .axes) (c .before .before .before .before .before .before .before .before .before .before .args .t4) (c .before .before .before .before .before .before .before .loop .done) nan (c .before .before .before .before .before .if1 .taken))) ∙ search-is (take ((c .before .before .before .before .before .before .before .loop .at) + (getD (c .before .before .before .before .before .before .before .before .before .before .args .counts .now) (c .before .before .before .before .before .before .before .loop .place) 0) + 1 - (c .before .before .before .before .before .before .before .loop .at)) (drop (c .before .before .before .before .before .before .before .loop .at) (c .before .before .before .before .before .before .before .before .before .before .args .reals .now))) (getD (take (c .before .before .before .before .before .before .before .before .before .before .args .g .axes) (c .before .before .before .before .before .before .before .before .before .before .args .t4)) (c .before .before .before .before .before .before .before .loop .done) nan) (asked-part (c .before .before .before .before .before .before .before .loop .at) (getD (c .before .before .before .before .before .before .before .before .before .before .args .counts .now) (c .before .before .before .before .before .before .before .loop .place) 0) (c .before .before .before .before .before .before .before .before .before .before .args .reals .now) (n .edges)) (unit-at (take (c .before .before .before .before .before .before .before .before .before .before .args .g .axes) (c .before .before .before .before .before .before .before .before .before .before .args .t4)) (c .before .before .before .before .before .before .before .loop .done) (omega (arith, (length-take-le (c .before .before .before .before .before .before .before .before .before .before .args .g .axes) (c .before .before .before .before .before .before .before .before .before .before .args .t4) (omega (arith, c .before .before .before .before .before .before .before .before .before .before .good .1 .1 .1 .0 .1 .0 .1, c .before .before .before .before .before .before .before .before .before .before .pre .0 .0))), c .before .before .before .before .before .if1 .taken)) (sym (ap allInUnit (entries-take nan (c .before .before .before .before .before .before .before .before .before .before .args .t4) (c .before .before .before .before .before .before .before .before .before .before .args .g .axes) (omega (arith, c .before .before .before .before .before .before .before .before .before .before .good .1 .1 .1 .0 .1 .0 .1, c .before .before .before .before .before .before .before .before .before .before .pre .0 .0)))) ∙ c .before .before .before .before .before .before .before .before .before .before .pre .1))) ∙ (c .before .before .before .before .before .before .before .loop .inv) .3,
 )
 
 -- src/training.rt:27:1
 returns : tie.Need-returns Inv-loop μ-loop
-returns c = sym (located-out (c .before .before .before .before .before .args .g .most) (c .before .before .before .before .before .args .reals .now) (c .before .before .before .before .before .args .counts .now) (c .before .before .before .before .before .args .g .axes) (c .before .before .loop .done) (c .before .before .loop .at) (c .before .before .loop .place) (take (c .before .before .before .before .before .args .g .axes) (c .before .before .before .before .before .args .t4)) (c .before .before .loop .bins) (c .before .before .loop .inv .0) (omega (arith, c .if1 .left))) ∙ (c .before .before .loop .inv) .3
+returns c = sym (located-out (c .before .before .before .before .before .args .g .most) (c .before .before .before .before .before .args .reals .now) (c .before .before .before .before .before .args .counts .now) (c .before .before .before .before .before .args .g .axes) (c .before .before .loop .done) (c .before .before .loop .at) (c .before .before .loop .place) (take (c .before .before .before .before .before .args .g .axes) (c .before .before .before .before .before .args .t4)) (c .before .before .loop .bins) (c .before .before .loop .inv .0) (omega (arith, c .if1 .left))) ∙ (c .before .before .loop .inv) .3 ∙ ap (binsOn (axesFrom (c .before .before .before .before .before .args .g .most) (c .before .before .before .before .before .args .reals .now) (c .before .before .before .before .before .args .counts .now) (c .before .before .before .before .before .args .g .axes) (c .before .before .before .before .before .args .g .reals) (c .before .before .before .before .before .args .g .counts))) (sym (entries-take nan (c .before .before .before .before .before .args .t4) (c .before .before .before .before .before .args .g .axes) (omega (arith, c .before .before .before .before .before .good .1 .1 .1 .0 .1 .0 .1, c .before .before .before .before .before .pre .0 .0))))
 
 pub locate-spec : {M : Type 1} → statement M
 locate-spec =
