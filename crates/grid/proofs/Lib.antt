@@ -25,4 +25,5 @@ pub mod Samples
 pub mod States
 pub mod Trains
 pub mod Trained
+pub mod Fitting
 pub mod Unique

@@ -1,9 +1,9 @@
 -- Training in lent memory: a sample joins a bin of each axis.
 use Prim.Native.Nat.{ℕ, _+_, _*_, _^_, _≤_, _<_}
 use mathlib.Core.Path.{_≡_}
-use mathlib.Core.Bool.{Bool, true, _&&_}
+use mathlib.Core.Bool.{Bool, true, not, _&&_, cond}
 use mathlib.Core.List.{List, [], _∷_}
-use lib.Dec.{leb}
+use lib.Dec.{leb, eqb}
 use lib.ListN.{length, getD, set}
 use lib.Ieee.{Float, nan, binary64, add, mul}
 use Rattle.real.specs.Finite.{finiteOf}
@@ -59,3 +59,14 @@ trainedOver g v is s = overAxes (trainedAt (g .most) v) (g .most) is (g .reals) 
 
 abbrev pub CellsOf : AxesAt → List ℕ → Memory → Type 0
 CellsOf g is s = (g .most ≤ 1024) × (length is ≡ g .axes) × Asked (Cell (g .most)) (g .most) is (g .reals) (g .counts) s
+
+-- ---- the sample's form, at an axes grid of k axes and where nothing hangs
+unfoldable pub formFault : ℕ → List ℕ → List Float → List Float → ℕ
+formFault k (i ∷ path) ws xs = 4
+formFault k [] ws xs = cond (not (eqb (length ws) 1)) 4 (cond (not (eqb (length xs) k)) 4 (cond (allInUnit xs) 0 5))
+
+unfoldable pub nothingFault : List ℕ → List Float → List Float → ℕ
+nothingFault (i ∷ path) ws xs = 4
+nothingFault [] (w ∷ ws) xs = 4
+nothingFault [] [] (x ∷ xs) = 4
+nothingFault [] [] [] = 0
