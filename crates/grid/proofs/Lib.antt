@@ -24,3 +24,4 @@ pub mod Sounds
 pub mod Samples
 pub mod Trains
 pub mod Trained
+pub mod Founds

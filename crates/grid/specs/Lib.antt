@@ -12,3 +12,4 @@ pub mod Tree
 pub mod Judged
 pub mod Renewed
 pub mod Sampled
+pub mod Founded

@@ -3,6 +3,7 @@ mod accounts;
 mod axes;
 mod clearing;
 mod copying;
+mod founding;
 mod joining;
 mod judge;
 mod judging;
