@@ -27,3 +27,4 @@ pub mod Trains
 pub mod Trained
 pub mod Fitting
 pub mod Unique
+pub mod Founds

@@ -13,4 +13,5 @@ pub mod Judged
 pub mod Renewed
 pub mod Sampled
 pub mod State
+pub mod Founded
 pub mod Calls

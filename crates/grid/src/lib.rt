@@ -4,6 +4,7 @@ mod axes;
 mod clearing;
 mod copying;
 mod forms;
+mod founding;
 mod joining;
 mod judge;
 mod judging;
