@@ -26,5 +26,6 @@ pub mod States
 pub mod Trains
 pub mod Trained
 pub mod Fitting
+pub mod Plans
 pub mod Unique
 pub mod Founds

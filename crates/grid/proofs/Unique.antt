@@ -1,14 +1,20 @@
 -- Every exported call answers on any input, and its promise allows one answer.
-use mathlib.Core.Path.{_≡_, sym, _∙_}
+use mathlib.Core.Path.{_≡_, sym, ap, _∙_}
 use contract.Lifetimes.{Lfts}
 use borrow.Fn.Kinds.{Dens, endedOf}
 use denote.Triple.Clauses.{AtExit}
+use denote.Ref.{now}
 use Rattle.grid.specs.declared.Drawn.{Drawn}
 use Rattle.accumulator.specs.declared.Estimated.{Estimated}
 use Rattle.accumulator.specs.declared.Summed.{Summed}
 use Rattle.accumulator.proofs.Unique.{estimated-one, summed-one}
+use Rattle.plan.specs.declared.Read.{Read}
+use Rattle.plan.proofs.Unique.{paper-read-one}
+use Rattle.grid.specs.Calls.{FreshEnd}
 use Rattle.grid.proofs.draw.Kinds as draw-kinds
 use Rattle.grid.proofs.draw.Reads as draw-reads
+use Rattle.grid.proofs.fresh.Kinds as fresh-kinds
+use Rattle.grid.proofs.fresh.Reads as fresh-reads
 use Rattle.grid.proofs.live_estimate.Kinds as live-kinds
 use Rattle.grid.proofs.live_estimate.Reads as live-reads
 use Rattle.grid.proofs.summary.Kinds as summary-kinds
@@ -34,3 +40,14 @@ live-estimate-total κs a = tt
 pub live-estimate-unique : (κs : Lfts 3) (a : Dens κs live-kinds.ps) (r r′ : Estimated) (s s′ : AtExit (endedOf 3 live-kinds.ps live-kinds.r) κs)
     → live-reads.Post κs a r s → live-reads.Post κs a r′ s′ → r ≡ r′
 live-estimate-unique κs a r r′ s s′ p q = estimated-one r r′ (p ∙ sym q)
+
+pub fresh-total : (κs : Lfts 4) (a : Dens κs fresh-kinds.ps) → fresh-reads.Pre κs a
+fresh-total κs a = tt
+
+-- the answer, and every entry of the three lists
+pub fresh-unique : (κs : Lfts 4) (a : Dens κs fresh-kinds.ps) (r r′ : Read) (s s′ : AtExit (endedOf 4 fresh-kinds.ps fresh-kinds.r) κs)
+    → fresh-reads.Post κs a r s → fresh-reads.Post κs a r′ s′
+    → (r ≡ r′) × (now (s .1 .0) ≡ now (s′ .1 .0)) × (now (s .1 .1 .0) ≡ now (s′ .1 .1 .0)) × (now (s .1 .1 .1 .0) ≡ now (s′ .1 .1 .1 .0))
+fresh-unique κs a r r′ s s′ p q =
+    let e = p ∙ sym q in
+    (paper-read-one r r′ (ap (λ (x : FreshEnd). x .answer) e), ap (λ (x : FreshEnd). x .table) e, ap (λ (x : FreshEnd). x .state .reals) e, ap (λ (x : FreshEnd). x .state .counts) e)

@@ -2,7 +2,8 @@
 use Prim.Native.Nat.{ℕ}
 use mathlib.Core.Bool.{not, cond}
 use mathlib.Core.List.{List}
-use lib.Dec.{eqb}
+use lib.Dec.{eqb, ltb}
+use lib.ListN.{length}
 use lib.Ieee.{Float}
 use Rattle.real.specs.Paper.{Paper, gives, refuses}
 use Rattle.stream.specs.declared.MonteCarloRng.{MonteCarloRng}
@@ -11,6 +12,10 @@ use Rattle.accumulator.specs.declared.Summary.{Summary}
 use Rattle.accumulator.specs.Calls.{summarizeOf, liveEstimateOf}
 use Rattle.model.specs.Draw.{Drawing, drawGrid, drawNothing}
 use Rattle.grid.specs.declared.Drawn.{Drawn}
+use Rattle.plan.specs.Paper as plan
+use Rattle.plan.specs.Calls.{measureOf, readPlanOf}
+use Rattle.grid.specs.Memory.{Memory, memory}
+use Rattle.grid.specs.Founded.{laidGrid}
 use Rattle.grid.specs.Sampled.{laidDrawing}
 use Rattle.grid.specs.State.{rootOf, ownOf, stateFault}
 
@@ -35,3 +40,30 @@ summaryOf table reals counts = onState (stateFault table reals counts) (summariz
 
 unfoldable pub liveOf : List ℕ → List Float → List ℕ → Paper Estimate
 liveOf table reals counts = onState (stateFault table reals counts) (liveEstimateOf (ownOf (rootOf table reals counts)))
+
+-- ---- fresh
+
+-- the answer, a plan's needs or a refusal at a field, and the three lists afterwards
+pub record FreshEnd : Type 0 where
+  pub answer : plan.Paper plan.PlanRead
+  pub table : List ℕ
+  pub state : Memory
+
+abbrev pub freshEnd : plan.Paper plan.PlanRead → List ℕ → Memory → FreshEnd
+freshEnd r table s = record { answer = r; table = table; state = s }
+
+-- too little room for any of the three: 10 at 0; else the plan's table, and its fresh grid laid
+unfoldable pub foundedOf : List ℕ → plan.PlanRead → List ℕ → Memory → FreshEnd
+foundedOf bs r table s =
+    cond (ltb (length table) (r .needs .words)) (freshEnd (plan.refusesAt 10 0) table s)
+    (cond (ltb (length (s .reals)) (r .needs .reals)) (freshEnd (plan.refusesAt 10 0) table s)
+    (cond (ltb (length (s .counts)) (r .needs .counts)) (freshEnd (plan.refusesAt 10 0) table s)
+    (freshEnd (plan.gives r) (readPlanOf bs table .table) (laidGrid 4 (readPlanOf bs table .table) 0 s))))
+
+abbrev pub freshBy : List ℕ → plan.Paper plan.PlanRead → List ℕ → Memory → FreshEnd
+freshBy bs (plan.gives r) table s = foundedOf bs r table s
+freshBy bs (plan.refuses n) table s = freshEnd (plan.refuses n) table s
+freshBy bs (plan.refusesAt n at) table s = freshEnd (plan.refusesAt n at) table s
+
+unfoldable pub freshOf : List ℕ → List ℕ → Memory → FreshEnd
+freshOf bs table s = freshBy bs (measureOf bs) table s

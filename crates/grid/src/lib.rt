@@ -20,9 +20,14 @@ mod training;
 
 ghost use mathlib.Core.Path.{_≡_};
 ghost use Rattle.accumulator.specs.Calls.{paperEstimated, paperSummed};
-ghost use Rattle.grid.specs.Calls.{drawnAs, drawOf, summaryOf, liveOf};
+ghost use Rattle.plan.specs.Paper.{gives, planRead, paperRead};
+ghost use Rattle.plan.specs.Calls.{measureOf};
+ghost use Rattle.grid.specs.Memory.{memory};
+ghost use Rattle.grid.specs.Calls.{drawnAs, drawOf, summaryOf, liveOf, freshEnd, foundedOf, freshOf};
 use accumulator::Estimated;
 use accumulator::Summed;
+use plan::Needs;
+use plan::Read;
 
 // A sample: a bin for each bins grid on its path, a weight for each of them and for the axes grid at its end, and that grid's
 // coordinates. Of each as many are there as its number says.
@@ -80,4 +85,47 @@ pub fn live_estimate(table: &[u64], reals: &[f64], counts: &[u64]) -> Estimated
         return Estimated::Refused(refused);
     }
     state::own(table, reals, counts).get_live_estimate()
+}
+
+// Lays a plan's table and its fresh grid, where there is room for all of it. The answer is the plan's: its end and its needs, or a
+// refusal with its field's offset. Refused: 1, 2, 3 in the plan; 10. Nothing is written then.
+pub fn fresh(bytes: &[u8], table: &mut [u64], reals: &mut [f64], counts: &mut [u64]) -> Read
+    ensures { λ r. ⌜ freshEnd (paperRead r) (now (table .exit)) (memory (now (reals .exit)) (now (counts .exit))) ≡
+        freshOf (now (bytes .entry)) (now (table .entry)) (memory (now (reals .entry)) (now (counts .entry))) ⌝ }
+{
+    match plan::measure_plan(bytes) {
+        Read::Refused { number, offset } => Read::Refused { number, offset },
+        Read::Plan { end, needs } => found(bytes, table, reals, counts, end, needs),
+    }
+}
+
+// The plan is known: what it needs, then its table and its grid.
+fn found(
+    bytes: &[u8],
+    table: &mut [u64],
+    reals: &mut [f64],
+    counts: &mut [u64],
+    end: usize,
+    needs: Needs,
+) -> Read
+    requires { ⌜ measureOf (now bytes) ≡ gives (planRead end needs) ⌝ }
+    ensures { λ r. ⌜ freshEnd (paperRead r) (now (table .exit)) (memory (now (reals .exit)) (now (counts .exit))) ≡
+        foundedOf (now (bytes .entry)) (planRead end needs) (now (table .entry)) (memory (now (reals .entry)) (now (counts .entry))) ⌝ }
+{
+    let short = Read::Refused {
+        number: 10,
+        offset: 0,
+    };
+    if table.len() < needs.words {
+        return short;
+    }
+    if reals.len() < needs.reals {
+        return short;
+    }
+    if counts.len() < needs.counts {
+        return short;
+    }
+    let read = plan::read_plan(bytes, table);
+    founding::lay_grid(table, reals, counts, 4, 0);
+    read
 }
