@@ -25,3 +25,5 @@ pub mod Samples
 pub mod Trains
 pub mod Trained
 pub mod Founds
+pub mod FoundedOwn
+pub mod FoundedTree
