@@ -29,3 +29,5 @@ pub mod Fitting
 pub mod Plans
 pub mod Unique
 pub mod Founds
+pub mod FoundedOwn
+pub mod FoundedTree
