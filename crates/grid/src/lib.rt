@@ -3,6 +3,7 @@ mod accounts;
 mod axes;
 mod clearing;
 mod copying;
+mod descent;
 mod joining;
 mod judge;
 mod judging;
@@ -34,6 +35,20 @@ pub struct Sample {
 pub struct Drawing {
     pub sample: Sample,
     pub stream: stream::MonteCarloRng,
+}
+
+// The coordinates of a probe: `many` of them, each given or, where it is free, left open.
+pub struct Coordinates {
+    pub at: [f64; 8],
+    pub free: [bool; 8],
+    pub many: usize,
+}
+
+// A probe: a bin for each bins grid on its path, and the coordinates in the axes grid at its end.
+pub struct Probe {
+    pub path: [usize; 4],
+    pub levels: usize,
+    pub coordinates: Coordinates,
 }
 
 // What a draw answers: 0, the sample and the stream after it; or a refusal's number, no sample and the stream as it was.
