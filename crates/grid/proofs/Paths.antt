@@ -1,6 +1,6 @@
 -- A probe down its path: at each level what the model answers, as the code branches.
 use mathlib.Core.Path.{_≡_, refl, sym, ap, _∙_}
-use mathlib.Core.Bool.{Bool, true, false, cond, _&&_, false≢true}
+use mathlib.Core.Bool.{Bool, true, false, cond, _&&_, _||_, false≢true}
 use mathlib.Core.List.{List, [], _∷_}
 use Prim.Native.Nat.{ℕ, zero, suc, _+_, _-_, _≤_, _<_}
 use native.Mathlib.Omega.{arith}
@@ -19,37 +19,37 @@ use Rattle.model.specs.Axes.{AxesGrid}
 use Rattle.model.specs.Grid.{Grid, Bins, Child, Head, axes, bins, none, more, nothing, grid, many}
 use Rattle.model.specs.Probe.{Coordinate, through, probeAxes, probeGrid, probeBin, probeChild}
 use Rattle.grid.specs.declared.Coordinates.{Coordinates}
-use Rattle.grid.specs.declared.Probe.{Probe}
+use Rattle.grid.specs.declared.Region.{Region}
 use Rattle.grid.specs.declared.axes.AxesAt.{AxesAt}
 use Rattle.grid.specs.Drawn.{axesAt}
 use Rattle.grid.specs.Tree.{axesPlanAt, axesPlace, axesGridAt, binIn, childIn, binsIn}
 use Rattle.grid.specs.Sampled.{entries}
-use Rattle.grid.specs.Probed.{coordinatesFrom, coordinatesOf, probedOf, pathFrom, endsAt}
+use Rattle.grid.specs.Probed.{coordinatesFrom, coordinatesOf, probedOf, pathFrom, endsAt, tooLong}
 use Rattle.grid.proofs.Probes.{coordinates-length, probed-model}
 
 -- ---- the path at a depth
 
-pub path-out : (p : Probe) (d : ℕ) → p .levels ≤ d → pathFrom p d ≡ []
+pub path-out : (p : Region) (d : ℕ) → p .levels ≤ d → pathFrom p d ≡ []
 unfolding pathFrom entries
 path-out p d h = let e : p .levels - d ≡ 0 = omega arith in rw e
 
-pub path-on : (p : Probe) (d : ℕ) → d < p .levels → pathFrom p d ≡ getD (p .path) d 0 ∷ pathFrom p (d + 1)
+pub path-on : (p : Region) (d : ℕ) → d < p .levels → pathFrom p d ≡ getD (p .path) d 0 ∷ pathFrom p (d + 1)
 unfolding pathFrom entries
 path-on p d h = let e : p .levels - d ≡ suc (p .levels - (d + 1)) = omega arith in ap (entries 0 (p .path) d) e
 
 -- ---- an axes grid
 
-pub axes-passed : (g : AxesGrid) (p : Probe) (d : ℕ) (xs : List Coordinate) → d < p .levels → probeGrid (axes g) (pathFrom p d) xs ≡ refuses 4
+pub axes-passed : (g : AxesGrid) (p : Region) (d : ℕ) (xs : List Coordinate) → d < p .levels → probeGrid (axes g) (pathFrom p d) xs ≡ refuses 4
 unfolding probeGrid
 axes-passed g p d xs h = ap (λ (is : List ℕ). probeGrid (axes g) is xs) (path-on p d h)
 
-pub axes-met : (g : AxesGrid) (p : Probe) (d : ℕ) (xs : List Coordinate) → p .levels ≤ d → probeGrid (axes g) (pathFrom p d) xs ≡ probeAxes g xs
+pub axes-met : (g : AxesGrid) (p : Region) (d : ℕ) (xs : List Coordinate) → p .levels ≤ d → probeGrid (axes g) (pathFrom p d) xs ≡ probeAxes g xs
 unfolding probeGrid
 axes-met g p d xs h = ap (λ (is : List ℕ). probeGrid (axes g) is xs) (path-out p d h)
 
 -- ---- a bins grid
 
-pub bins-ended : (h : Head) (bs : Bins) (p : Probe) (d : ℕ) (xs : List Coordinate) → p .levels ≤ d → probeGrid (bins h bs) (pathFrom p d) xs ≡ refuses 4
+pub bins-ended : (h : Head) (bs : Bins) (p : Region) (d : ℕ) (xs : List Coordinate) → p .levels ≤ d → probeGrid (bins h bs) (pathFrom p d) xs ≡ refuses 4
 unfolding probeGrid
 bins-ended h bs p d xs k = ap (λ (is : List ℕ). probeGrid (bins h bs) is xs) (path-out p d k)
 
@@ -77,7 +77,7 @@ module _ (f : ℕ → Grid) (table : List ℕ) (reals : List Float) (counts : Li
       probe-bin-from n 0 i path xs h
       ∙ ap (λ (k : ℕ). through (mul binary64 (invOf (binIn table reals counts w k .probability))) (probeChild (childIn f (getD table (w + 7 + k) 0)) path xs)) e
 
-  module _ (h : Head) (n : ℕ) (p : Probe) (d : ℕ) (xs : List Coordinate) (on : d < p .levels) where
+  module _ (h : Head) (n : ℕ) (p : Region) (d : ℕ) (xs : List Coordinate) (on : d < p .levels) where
     bins-at : probeGrid (bins h (binsIn f table reals counts w 0 n)) (pathFrom p d) xs
         ≡ cond (ltb (getD (p .path) d 0) n) (probeBin (binsIn f table reals counts w 0 n) (getD (p .path) d 0) (pathFrom p (d + 1)) xs) (refuses 6)
     unfolding probeGrid
@@ -101,11 +101,11 @@ unfolding probeChild
 here nothing = refl
 here (grid g) = refl
 
-pub ends-over : (p : Probe) (d : ℕ) → d < p .levels → false ≡ endsAt p d
+pub ends-over : (p : Region) (d : ℕ) → d < p .levels → false ≡ endsAt p d
 unfolding endsAt
 ends-over p d h = rw (lt-leb (p .levels) d h)
 
-pub ends-bare : (p : Probe) (d : ℕ) → p .levels ≤ d → eqb (p .coordinates .many) 0 ≡ endsAt p d
+pub ends-bare : (p : Region) (d : ℕ) → p .levels ≤ d → eqb (p .coordinates .many) 0 ≡ endsAt p d
 unfolding endsAt
 ends-bare p d h = rw (le-leb (p .levels) d h)
 
@@ -114,11 +114,11 @@ unfolding entries
 length-entries xs i zero = refl
 length-entries xs i (suc n) = ap suc (length-entries xs (i + 1) n)
 
-ended : (p : Probe) (d : ℕ) → p .levels ≤ d → p .coordinates .many ≡ 0 → endsAt p d ≡ true
+ended : (p : Region) (d : ℕ) → p .levels ≤ d → p .coordinates .many ≡ 0 → endsAt p d ≡ true
 unfolding endsAt
 ended p d h e = rw (le-leb (p .levels) d h, eq-eqb (p .coordinates .many) 0 e)
 
-still-left : (p : Probe) (d : ℕ) (b : Bool) → b ≡ endsAt p d → b ≡ false → pathFrom p d ≡ [] → coordinatesOf (p .coordinates) ≡ [] → ⊥
+still-left : (p : Region) (d : ℕ) (b : Bool) → b ≡ endsAt p d → b ≡ false → pathFrom p d ≡ [] → coordinatesOf (p .coordinates) ≡ [] → ⊥
 unfolding pathFrom coordinatesOf
 still-left p d b e f u v =
     let m : p .levels - d ≡ 0 = sym (length-entries (p .path) d (p .levels - d)) ∙ ap length u in
@@ -142,7 +142,7 @@ unfolding coordinatesOf coordinatesFrom
 no-coordinates p e = ap (coordinatesFrom p 0) e
 
 -- the path ends, with no coordinates
-pub child-ended : (c : Child) (p : Probe) (d : ℕ) (b : Bool) → b ≡ endsAt p d → b ≡ true → probeChild c (pathFrom p d) (coordinatesOf (p .coordinates)) ≡ gives one64
+pub child-ended : (c : Child) (p : Region) (d : ℕ) (b : Bool) → b ≡ endsAt p d → b ≡ true → probeChild c (pathFrom p d) (coordinatesOf (p .coordinates)) ≡ gives one64
 unfolding endsAt
 child-ended c p d b e f =
     let both-hold = both (leb (p .levels) d) (eqb (p .coordinates .many) 0) (sym e ∙ f) in
@@ -151,12 +151,12 @@ child-ended c p d b e f =
     ∙ here c
 
 -- something is left: nothing hangs there, or a grid
-pub child-missing : (f : ℕ → Grid) (link : ℕ) (p : Probe) (d : ℕ) (b : Bool) → b ≡ endsAt p d → b ≡ false → link ≡ 0
+pub child-missing : (f : ℕ → Grid) (link : ℕ) (p : Region) (d : ℕ) (b : Bool) → b ≡ endsAt p d → b ≡ false → link ≡ 0
     → probeChild (childIn f link) (pathFrom p d) (coordinatesOf (p .coordinates)) ≡ refuses 4
 unfolding childIn
 child-missing f link p d b e n z = rw z (nothing-left (pathFrom p d) (coordinatesOf (p .coordinates)) (still-left p d b e n))
 
-pub child-hung : (f : ℕ → Grid) (link : ℕ) (p : Probe) (d : ℕ) (b : Bool) → b ≡ endsAt p d → b ≡ false → (link ≡ 0 → ⊥)
+pub child-hung : (f : ℕ → Grid) (link : ℕ) (p : Region) (d : ℕ) (b : Bool) → b ≡ endsAt p d → b ≡ false → (link ≡ 0 → ⊥)
     → probeChild (childIn f link) (pathFrom p d) (coordinatesOf (p .coordinates)) ≡ probeGrid (f link) (pathFrom p d) (coordinatesOf (p .coordinates))
 unfolding childIn
 child-hung f link p d b e n z = rw (ne-eqb link 0 z) (grid-left (f link) (pathFrom p d) (coordinatesOf (p .coordinates)) (still-left p d b e n))
@@ -177,3 +177,13 @@ pub axes-probed : (table : List ℕ) (reals : List Float) (counts : List ℕ) (w
 unfolding axesGridAt axesPlanAt axesPlace
 axes-probed table reals counts w g xs e =
     ap (λ (a : AxesAt). probedOf (a .floor) (axesAt reals counts a) xs) e ∙ sym (probed-model (axesGridAt table reals counts w) xs)
+
+-- ---- more than the struct holds
+
+pub long-path : (p : Region) → 4 < p .levels → true ≡ tooLong p
+unfolding tooLong
+long-path p h = rw (lt-ltb 4 (p .levels) h)
+
+pub long-point : (p : Region) → p .levels ≤ 4 → ltb 8 (p .coordinates .many) ≡ tooLong p
+unfolding tooLong
+long-point p h = rw (le-ltb 4 (p .levels) h)

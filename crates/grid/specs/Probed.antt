@@ -11,7 +11,7 @@ use Rattle.model.specs.Axes.{Axis}
 use Rattle.model.specs.Draw.{flooredOf}
 use Rattle.model.specs.Probe.{Coordinate, open′, given, probeAll, through}
 use Rattle.grid.specs.declared.Coordinates.{Coordinates}
-use Rattle.grid.specs.declared.Probe.{Probe}
+use Rattle.grid.specs.declared.Region.{Region}
 use Rattle.grid.specs.Sampled.{entries}
 
 -- a coordinate, open or given
@@ -33,13 +33,13 @@ probedOf floor axes xs = cond (not (eqb (length xs) (length axes))) (refuses 4) 
 -- ---- the path
 
 -- what is left of the path at a depth
-unfoldable pub pathFrom : Probe → ℕ → List ℕ
+unfoldable pub pathFrom : Region → ℕ → List ℕ
 pathFrom p d = entries 0 (p .path) d (p .levels - d)
 
 -- a path that ends here with no coordinates given
-unfoldable pub endsAt : Probe → ℕ → Bool
+unfoldable pub endsAt : Region → ℕ → Bool
 endsAt p d = leb (p .levels) d && eqb (p .coordinates .many) 0
 
 -- more than the struct holds, and than any grid has: four levels, eight axes
-unfoldable pub tooLong : Probe → Bool
+unfoldable pub tooLong : Region → Bool
 tooLong p = ltb 4 (p .levels) || ltb 8 (p .coordinates .many)

@@ -10,14 +10,25 @@ ghost use Rattle.model.specs.Sound.{sound};
 ghost use Rattle.model.specs.Probe.{through, probeGrid, probeChild};
 ghost use Rattle.grid.specs.Tree.{axesGridAt, headAt, childIn, binsIn, gridAt, AxesLaid, BinsLaid, Laid};
 ghost use Rattle.grid.specs.Sampled.{ChildLaid, soundChild};
-ghost use Rattle.grid.specs.Probed.{coordinatesOf, pathFrom, endsAt};
-use crate::Probe;
+ghost use Rattle.grid.specs.Probed.{coordinatesOf, pathFrom, endsAt, tooLong};
+use crate::Region;
 use crate::layout;
 use crate::probing;
 use axis::Probed;
 
+// Whether a probe says that it has more than its arrays hold.
+pub fn is_too_long(p: Region) -> bool
+    ensures { λ r. ⌜ r ≡ tooLong p ⌝ }
+{
+    if 4 < p.levels {
+        return true;
+    }
+    let coordinates = p.coordinates;
+    8 < coordinates.many
+}
+
 // Whether the path ends here and no coordinates are given.
-fn ends_at(p: Probe, depth: usize) -> bool
+fn ends_at(p: Region, depth: usize) -> bool
     ensures { λ r. ⌜ r ≡ endsAt p depth ⌝ }
 {
     if depth < p.levels {
@@ -43,7 +54,7 @@ fn probe_at_axes(
     reals: &[f64],
     counts: &[u64],
     w: usize,
-    p: Probe,
+    p: Region,
     depth: usize,
 ) -> Probed
     requires { ⌜ AxesLaid (now table) (length (now reals)) (length (now counts)) w × (sound (axes (axesGridAt (now table) (now reals) (now counts) w)) ≡ true) ⌝ }
@@ -64,7 +75,7 @@ fn probe_child(
     counts: &[u64],
     level: usize,
     link: usize,
-    p: Probe,
+    p: Region,
     depth: usize,
 ) -> Probed
     requires { ⌜ ChildLaid level (now table) (length (now reals)) (length (now counts)) link × (depth + level ≤ 4)
@@ -88,7 +99,7 @@ fn probe_from_bins(
     counts: &[u64],
     level: usize,
     w: usize,
-    p: Probe,
+    p: Region,
     depth: usize,
 ) -> Probed
     requires { ⌜ BinsLaid (Laid level (now table) (length (now reals)) (length (now counts))) (now table) (length (now reals)) (length (now counts)) w × (depth + level ≤ 3)
@@ -120,7 +131,7 @@ pub fn probe_grid(
     counts: &[u64],
     level: usize,
     w: usize,
-    p: Probe,
+    p: Region,
     depth: usize,
 ) -> Probed
     requires { ⌜ Laid level (now table) (length (now reals)) (length (now counts)) w × (depth + level ≤ 4) × (sound (gridAt level (now table) (now reals) (now counts) w) ≡ true) ⌝ }

@@ -18,7 +18,8 @@ mod state;
 mod training;
 
 ghost use mathlib.Core.Path.{_≡_};
-ghost use Rattle.grid.specs.Calls.{drawnAs, drawOf};
+ghost use Rattle.axis.specs.Calls.{paperProbed};
+ghost use Rattle.grid.specs.Calls.{drawnAs, drawOf, probeOf};
 
 // A sample: a bin for each bins grid on its path, a weight for each of them and for the axes grid at its end, and that grid's
 // coordinates. Of each as many are there as its number says.
@@ -44,8 +45,8 @@ pub struct Coordinates {
     pub many: usize,
 }
 
-// A probe: a bin for each bins grid on its path, and the coordinates in the axes grid at its end.
-pub struct Probe {
+// What a probe asks for: a bin for each bins grid on its path, and the coordinates in the axes grid at its end.
+pub struct Region {
     pub path: [usize; 4],
     pub levels: usize,
     pub coordinates: Coordinates,
@@ -68,4 +69,19 @@ pub fn draw(table: &[u64], reals: &[f64], counts: &[u64], start: stream::MonteCa
     }
     let drawing = sampling::draw_grid(table, reals, counts, 4, 0, start);
     Drawn { refused, drawing }
+}
+
+// The weight at a point, or over the region that open coordinates leave; where the path ends at a bin and no coordinates are given,
+// from the probabilities alone. Refused: 10, 12; along the path 4, 6; then 5.
+pub fn probe(table: &[u64], reals: &[f64], counts: &[u64], p: Region) -> axis::Probed
+    ensures { λ r. ⌜ paperProbed r ≡ probeOf (now (table .entry)) (now (reals .entry)) (now (counts .entry)) p ⌝ }
+{
+    let refused = state::fault(table, reals, counts);
+    if refused != 0 {
+        return axis::Probed::Refused(refused);
+    }
+    if descent::is_too_long(p) {
+        return axis::Probed::Refused(4);
+    }
+    descent::probe_grid(table, reals, counts, 4, 0, p, 0)
 }
