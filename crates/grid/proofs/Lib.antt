@@ -22,6 +22,7 @@ pub mod Updates
 pub mod Judges
 pub mod Sounds
 pub mod Samples
+pub mod Paths
 pub mod States
 pub mod Trains
 pub mod Trained

@@ -15,7 +15,7 @@ use Rattle.model.specs.Axes.{Axis, AxesGrid}
 use Rattle.model.specs.Draw.{flooredOf}
 use Rattle.model.specs.Probe.{Coordinate, probeAll, probeAxes, through}
 use Rattle.grid.specs.declared.axes.AxesAt.{AxesAt}
-use Rattle.grid.specs.declared.probing.Coordinates.{Coordinates}
+use Rattle.grid.specs.declared.Coordinates.{Coordinates}
 use Rattle.grid.specs.Layout.{stretch, axisAt, axesFrom}
 use Rattle.grid.specs.Drawn.{axesAt}
 use Rattle.grid.specs.Onward.{onward}

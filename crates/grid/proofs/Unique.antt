@@ -4,6 +4,8 @@ use contract.Lifetimes.{Lfts}
 use borrow.Fn.Kinds.{Dens, endedOf}
 use denote.Triple.Clauses.{AtExit}
 use denote.Ref.{now}
+use Rattle.axis.specs.declared.Probed.{Probed}
+use Rattle.axis.proofs.Unique.{probed-one}
 use Rattle.grid.specs.declared.Drawn.{Drawn}
 use Rattle.accumulator.specs.declared.Estimated.{Estimated}
 use Rattle.accumulator.specs.declared.Summed.{Summed}
@@ -19,6 +21,8 @@ use Rattle.grid.proofs.live_estimate.Kinds as live-kinds
 use Rattle.grid.proofs.live_estimate.Reads as live-reads
 use Rattle.grid.proofs.summary.Kinds as summary-kinds
 use Rattle.grid.proofs.summary.Reads as summary-reads
+use Rattle.grid.proofs.probe.Kinds as probe-kinds
+use Rattle.grid.proofs.probe.Reads as probe-reads
 
 pub draw-total : (κs : Lfts 3) (a : Dens κs draw-kinds.ps) → draw-reads.Pre κs a
 draw-total κs a = tt
@@ -51,3 +55,9 @@ pub fresh-unique : (κs : Lfts 4) (a : Dens κs fresh-kinds.ps) (r r′ : Read) 
 fresh-unique κs a r r′ s s′ p q =
     let e = p ∙ sym q in
     (paper-read-one r r′ (ap (λ (x : FreshEnd). x .answer) e), ap (λ (x : FreshEnd). x .table) e, ap (λ (x : FreshEnd). x .state .reals) e, ap (λ (x : FreshEnd). x .state .counts) e)
+pub probe-total : (κs : Lfts 3) (a : Dens κs probe-kinds.ps) → probe-reads.Pre κs a
+probe-total κs a = tt
+
+pub probe-unique : (κs : Lfts 3) (a : Dens κs probe-kinds.ps) (r r′ : Probed) (s s′ : AtExit (endedOf 3 probe-kinds.ps probe-kinds.r) κs)
+    → probe-reads.Post κs a r s → probe-reads.Post κs a r′ s′ → r ≡ r′
+probe-unique κs a r r′ s s′ p q = probed-one r r′ (p ∙ sym q)

@@ -11,6 +11,7 @@ use Rattle.accumulator.specs.declared.Estimate.{Estimate}
 use Rattle.accumulator.specs.declared.Summary.{Summary}
 use Rattle.accumulator.specs.Calls.{summarizeOf, liveEstimateOf}
 use Rattle.model.specs.Draw.{Drawing, drawGrid, drawNothing}
+use Rattle.model.specs.Probe.{probeGrid}
 use Rattle.grid.specs.declared.Drawn.{Drawn}
 use Rattle.plan.specs.Paper as plan
 use Rattle.plan.specs.Calls.{measureOf, readPlanOf}
@@ -18,6 +19,10 @@ use Rattle.grid.specs.Memory.{Memory, memory}
 use Rattle.grid.specs.Founded.{laidGrid}
 use Rattle.grid.specs.Sampled.{laidDrawing}
 use Rattle.grid.specs.State.{rootOf, ownOf, stateFault}
+use Rattle.grid.specs.declared.Region.{Region}
+use Rattle.grid.specs.Sampled.{laidDrawing}
+use Rattle.grid.specs.Probed.{coordinatesOf, pathFrom, tooLong}
+use Rattle.grid.specs.State.{rootOf, stateFault}
 
 -- an answer on a state that may be refused
 abbrev pub onState : {A : Type 0} → ℕ → Paper A → Paper A
@@ -67,3 +72,10 @@ freshBy bs (plan.refusesAt n at) table s = freshEnd (plan.refusesAt n at) table 
 
 unfoldable pub freshOf : List ℕ → List ℕ → Memory → FreshEnd
 freshOf bs table s = freshBy bs (measureOf bs) table s
+-- ---- probe
+
+-- 4 for a probe that is longer than any grid; else the model's answer, from the top of the path
+unfoldable pub probeOf : List ℕ → List Float → List ℕ → Region → Paper Float
+probeOf table reals counts p =
+    onState (stateFault table reals counts)
+    (cond (tooLong p) (refuses 4) (probeGrid (rootOf table reals counts) (pathFrom p 0) (coordinatesOf (p .coordinates))))

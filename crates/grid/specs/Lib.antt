@@ -3,7 +3,6 @@ pub mod Layout
 pub mod Memory
 pub mod Drawn
 pub mod Onward
-pub mod Probed
 pub mod Laid
 pub mod Merged
 pub mod Cleared
@@ -12,6 +11,7 @@ pub mod Tree
 pub mod Judged
 pub mod Renewed
 pub mod Sampled
+pub mod Probed
 pub mod State
 pub mod Founded
 pub mod Calls

@@ -1,8 +1,8 @@
--- A probe of the axes of a grid in lent memory.
-use Prim.Native.Nat.{ℕ, zero, suc, _+_}
-use mathlib.Core.Bool.{Bool, false, not, cond}
+-- A probe of a grid in lent memory: what the structs say, in the model's words.
+use Prim.Native.Nat.{ℕ, zero, suc, _+_, _-_}
+use mathlib.Core.Bool.{Bool, false, not, cond, _&&_, _||_}
 use mathlib.Core.List.{List, [], _∷_}
-use lib.Dec.{eqb}
+use lib.Dec.{leb, ltb, eqb}
 use lib.ListN.{length, getD}
 use lib.Ieee.{Float, nan}
 use Rattle.real.specs.Numbers.{one64}
@@ -10,7 +10,9 @@ use Rattle.real.specs.Paper.{Paper, refuses}
 use Rattle.model.specs.Axes.{Axis}
 use Rattle.model.specs.Draw.{flooredOf}
 use Rattle.model.specs.Probe.{Coordinate, open′, given, probeAll, through}
-use Rattle.grid.specs.declared.probing.Coordinates.{Coordinates}
+use Rattle.grid.specs.declared.Coordinates.{Coordinates}
+use Rattle.grid.specs.declared.Region.{Region}
+use Rattle.grid.specs.Sampled.{entries}
 
 -- a coordinate, open or given
 unfoldable pub coordinateOf : Bool → Float → Coordinate
@@ -27,3 +29,17 @@ coordinatesOf p = coordinatesFrom p 0 (p .many)
 -- the model's probe, of an axes grid's floor and axes alone
 unfoldable pub probedOf : Float → List Axis → List Coordinate → Paper Float
 probedOf floor axes xs = cond (not (eqb (length xs) (length axes))) (refuses 4) (through (flooredOf floor) (probeAll axes xs one64))
+
+-- ---- the path
+
+-- what is left of the path at a depth
+unfoldable pub pathFrom : Region → ℕ → List ℕ
+pathFrom p d = entries 0 (p .path) d (p .levels - d)
+
+-- a path that ends here with no coordinates given
+unfoldable pub endsAt : Region → ℕ → Bool
+endsAt p d = leb (p .levels) d && eqb (p .coordinates .many) 0
+
+-- more than the struct holds, and than any grid has: four levels, eight axes
+unfoldable pub tooLong : Region → Bool
+tooLong p = ltb 4 (p .levels) || ltb 8 (p .coordinates .many)

@@ -5,6 +5,7 @@ mod clearing;
 mod copying;
 mod forms;
 mod founding;
+mod descent;
 mod joining;
 mod judge;
 mod judging;
@@ -28,6 +29,8 @@ use accumulator::Estimated;
 use accumulator::Summed;
 use plan::Needs;
 use plan::Read;
+ghost use Rattle.axis.specs.Calls.{paperProbed};
+ghost use Rattle.grid.specs.Calls.{drawnAs, drawOf, probeOf};
 
 // A sample: a bin for each bins grid on its path, a weight for each of them and for the axes grid at its end, and that grid's
 // coordinates. Of each as many are there as its number says.
@@ -44,6 +47,20 @@ pub struct Sample {
 pub struct Drawing {
     pub sample: Sample,
     pub stream: stream::MonteCarloRng,
+}
+
+// The coordinates of a probe: `many` of them, each given or, where it is free, left open.
+pub struct Coordinates {
+    pub at: [f64; 8],
+    pub free: [bool; 8],
+    pub many: usize,
+}
+
+// What a probe asks for: a bin for each bins grid on its path, and the coordinates in the axes grid at its end.
+pub struct Region {
+    pub path: [usize; 4],
+    pub levels: usize,
+    pub coordinates: Coordinates,
 }
 
 // What a draw answers: 0, the sample and the stream after it; or a refusal's number, no sample and the stream as it was.
@@ -128,4 +145,17 @@ fn found(
     let read = plan::read_plan(bytes, table);
     founding::lay_grid(table, reals, counts, 4, 0);
     read
+// The weight at a point, or over the region that open coordinates leave; where the path ends at a bin and no coordinates are given,
+// from the probabilities alone. Refused: 10, 12; along the path 4, 6; then 5.
+pub fn probe(table: &[u64], reals: &[f64], counts: &[u64], p: Region) -> axis::Probed
+    ensures { λ r. ⌜ paperProbed r ≡ probeOf (now (table .entry)) (now (reals .entry)) (now (counts .entry)) p ⌝ }
+{
+    let refused = state::fault(table, reals, counts);
+    if refused != 0 {
+        return axis::Probed::Refused(refused);
+    }
+    if descent::is_too_long(p) {
+        return axis::Probed::Refused(4);
+    }
+    descent::probe_grid(table, reals, counts, 4, 0, p, 0)
 }

@@ -9,15 +9,9 @@ ghost use Rattle.model.specs.Draw.{flooredOf};
 ghost use Rattle.model.specs.Probe.{probeAll, through};
 ghost use Rattle.grid.specs.Drawn.{axesAt, Stands};
 ghost use Rattle.grid.specs.Probed.{coordinatesOf, probedOf};
+use crate::Coordinates;
 use crate::axes::AxesAt;
 use axis::Probed;
-
-// The coordinates of a probe: `many` of them, each given or, where it is free, left open.
-pub struct Coordinates {
-    pub at: [f64; 8],
-    pub free: [bool; 8],
-    pub many: usize,
-}
 
 // Whether a coordinate is open or a number in [0, 1].
 fn is_fit(free: bool, x: f64) -> bool
