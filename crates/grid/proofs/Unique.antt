@@ -55,6 +55,7 @@ pub fresh-unique : (κs : Lfts 4) (a : Dens κs fresh-kinds.ps) (r r′ : Read) 
 fresh-unique κs a r r′ s s′ p q =
     let e = p ∙ sym q in
     (paper-read-one r r′ (ap (λ (x : FreshEnd). x .answer) e), ap (λ (x : FreshEnd). x .table) e, ap (λ (x : FreshEnd). x .state .reals) e, ap (λ (x : FreshEnd). x .state .counts) e)
+
 pub probe-total : (κs : Lfts 3) (a : Dens κs probe-kinds.ps) → probe-reads.Pre κs a
 probe-total κs a = tt
 

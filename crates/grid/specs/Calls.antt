@@ -17,12 +17,10 @@ use Rattle.plan.specs.Paper as plan
 use Rattle.plan.specs.Calls.{measureOf, readPlanOf}
 use Rattle.grid.specs.Memory.{Memory, memory}
 use Rattle.grid.specs.Founded.{laidGrid}
-use Rattle.grid.specs.Sampled.{laidDrawing}
-use Rattle.grid.specs.State.{rootOf, ownOf, stateFault}
 use Rattle.grid.specs.declared.Region.{Region}
 use Rattle.grid.specs.Sampled.{laidDrawing}
 use Rattle.grid.specs.Probed.{coordinatesOf, pathFrom, tooLong}
-use Rattle.grid.specs.State.{rootOf, stateFault}
+use Rattle.grid.specs.State.{rootOf, ownOf, stateFault}
 
 -- an answer on a state that may be refused
 abbrev pub onState : {A : Type 0} → ℕ → Paper A → Paper A
@@ -72,6 +70,7 @@ freshBy bs (plan.refusesAt n at) table s = freshEnd (plan.refusesAt n at) table 
 
 unfoldable pub freshOf : List ℕ → List ℕ → Memory → FreshEnd
 freshOf bs table s = freshBy bs (measureOf bs) table s
+
 -- ---- probe
 
 -- 4 for a probe that is longer than any grid; else the model's answer, from the top of the path

@@ -3,9 +3,9 @@ mod accounts;
 mod axes;
 mod clearing;
 mod copying;
+mod descent;
 mod forms;
 mod founding;
-mod descent;
 mod joining;
 mod judge;
 mod judging;
@@ -24,13 +24,12 @@ ghost use Rattle.accumulator.specs.Calls.{paperEstimated, paperSummed};
 ghost use Rattle.plan.specs.Paper.{gives, planRead, paperRead};
 ghost use Rattle.plan.specs.Calls.{measureOf};
 ghost use Rattle.grid.specs.Memory.{memory};
-ghost use Rattle.grid.specs.Calls.{drawnAs, drawOf, summaryOf, liveOf, freshEnd, foundedOf, freshOf};
+ghost use Rattle.axis.specs.Calls.{paperProbed};
+ghost use Rattle.grid.specs.Calls.{drawnAs, drawOf, probeOf, summaryOf, liveOf, freshEnd, foundedOf, freshOf};
 use accumulator::Estimated;
 use accumulator::Summed;
 use plan::Needs;
 use plan::Read;
-ghost use Rattle.axis.specs.Calls.{paperProbed};
-ghost use Rattle.grid.specs.Calls.{drawnAs, drawOf, probeOf};
 
 // A sample: a bin for each bins grid on its path, a weight for each of them and for the axes grid at its end, and that grid's
 // coordinates. Of each as many are there as its number says.
@@ -145,6 +144,8 @@ fn found(
     let read = plan::read_plan(bytes, table);
     founding::lay_grid(table, reals, counts, 4, 0);
     read
+}
+
 // The weight at a point, or over the region that open coordinates leave; where the path ends at a bin and no coordinates are given,
 // from the probabilities alone. Refused: 10, 12; along the path 4, 6; then 5.
 pub fn probe(table: &[u64], reals: &[f64], counts: &[u64], p: Region) -> axis::Probed
