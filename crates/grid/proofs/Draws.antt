@@ -1,6 +1,6 @@
 -- A draw axis by axis: what is set and what is to come make the model's draw.
 use mathlib.Core.Path.{_≡_, refl, sym, ap, _∙_}
-use mathlib.Core.List.{List, [], _∷_, _++_, append-nil, append-assoc}
+use mathlib.Core.List.{List, _++_, append-nil, append-assoc}
 use mathlib.Core.Bool.{Bool, true, _&&_}
 use Prim.Native.Nat.{ℕ, suc, _+_, _-_, _*_, _^_, _≤_, _<_}
 use native.Mathlib.Nat.{mod-lt}
@@ -21,7 +21,6 @@ use Rattle.stream.specs.Calls.{unitOf, unitDrawnOf}
 use Rattle.stream.proofs.Units.{largest, unit-low, unit-high}
 use Rattle.axis.specs.declared.Point.{Point}
 use Rattle.axis.specs.Edges.{wellFormed, inUnit}
-use Rattle.model.specs.Axes.{Axis}
 use Rattle.model.specs.Draw.{Placed, unitAt, placeOn, walked}
 use Rattle.grid.specs.Layout.{stretch, axisAt, axesFrom}
 use Rattle.grid.specs.Drawn.{padded}

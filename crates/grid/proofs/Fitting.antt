@@ -4,16 +4,13 @@ use mathlib.Core.Bool.{Bool, true, false, not, _&&_, cond}
 use mathlib.Core.List.{List, [], _∷_}
 use Prim.Native.Nat.{ℕ, zero, suc, _+_, _-_, _≤_, _<_}
 use native.Mathlib.Omega.{arith}
-use borrow.Author.Tests.{eq-eqb, ne-eqb, lt-ltb, le-ltb}
-use lib.Dec.{eqb, ltb}
+use borrow.Author.Tests.{ne-eqb, lt-ltb, le-ltb}
 use lib.ListN.{length, getD}
-use lib.Ieee.{Float, nan}
+use lib.Ieee.{Float}
 use Rattle.axis.specs.Edges.{inUnit}
-use Rattle.model.specs.Axes.{AxesGrid}
-use Rattle.model.specs.Grid.{Grid, Bins, Child, Head, axes, bins, none, more, nothing, grid, many}
+use Rattle.model.specs.Grid.{Grid, Head, axes, bins, nothing, grid, many}
 use Rattle.model.specs.Train.{faultOfAll, faultOfAxes, faultOf, faultOfBin, faultOfChild}
-use Rattle.grid.specs.Layout.{axesFrom}
-use Rattle.grid.specs.Tree.{axesPlace, axesGridAt, binIn, childIn, binsIn}
+use Rattle.grid.specs.Tree.{axesPlace, axesGridAt, childIn, binsIn}
 use Rattle.grid.specs.Sampled.{entries}
 use Rattle.grid.specs.Trained.{allInUnit, formFault, nothingFault}
 use Rattle.grid.proofs.Reading.{length-axes}

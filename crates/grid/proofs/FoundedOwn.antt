@@ -1,23 +1,22 @@
 -- What laying a grid's own leaves: which cells it touches, and what is read of them then.
-use mathlib.Core.Path.{_≡_, refl, sym, ap, ap₂, _∙_, subst}
-use mathlib.Core.List.{List, [], _∷_}
+use mathlib.Core.Path.{_≡_, refl, sym, ap, _∙_}
+use mathlib.Core.List.{List}
 use Prim.Native.Nat.{ℕ, zero, suc, _+_, _-_, _*_, _≤_, _<_}
 use native.Mathlib.Omega.{arith}
 use lib.ListN.{length, getD, set, drop, replicate, length-replicate, length-set}
-use lib.Seq.{sets, getD-set-same}
+use lib.Seq.{getD-set-same}
 use lib.Ieee.{Float, nan}
 use Rattle.real.specs.Count.{countOf}
 use Rattle.real.specs.Inverse.{invOf}
 use Rattle.accumulator.specs.declared.StatisticsAccumulator.{StatisticsAccumulator}
 use Rattle.accumulator.specs.Record.{fresh}
-use Rattle.model.specs.Axes.{Axis, AxesGrid, emptyAxis, freshAxis, freshAxes}
-use Rattle.model.specs.Grid.{Grid, Bins, Child, Head, Bin, axes, none, more, freshBin, freshBins, freshHead}
-use Rattle.grid.specs.Layout.{axisReals, axisCounts, binsFrom, axisAt, axesFrom}
-use Rattle.grid.specs.Memory.{Memory, memory, overAxes, realsOf, countsOf, recordAt, stored}
-use Rattle.grid.specs.Laid.{layAt}
-use Rattle.grid.specs.Tree.{axesPlanAt, axesPlace, axesGridAt, headAt, binIn, childIn, binsIn, AxesLaid}
+use Rattle.model.specs.Axes.{Axis, emptyAxis, freshAxis, freshAxes}
+use Rattle.model.specs.Grid.{Grid, axes, freshBin, freshBins}
+use Rattle.grid.specs.Layout.{axisReals, axisCounts, axisAt, axesFrom}
+use Rattle.grid.specs.Memory.{Memory, memory, realsOf, countsOf, recordAt, stored}
+use Rattle.grid.specs.Tree.{axesPlanAt, axesPlace, axesGridAt, binIn, binsIn, AxesLaid}
 use Rattle.grid.specs.Founded.{laidAxes, laidBin, laidBins, laidOwn, freshChildren}
-use Rattle.grid.proofs.Same.{Same, same-refl, same-on, same-sym, same-within, same-set-below, same-set-above, same-sets-below, same-sets-above}
+use Rattle.grid.proofs.Same.{Same, same-refl, same-on, same-within, same-set-below, same-set-above, same-sets-below, same-sets-above}
 use Rattle.grid.proofs.Reading.{record-same, record-stored, Holding, length-bins, axes-same}
 use Rattle.grid.proofs.Empties.{laid-axes, lays-below, lays-above}
 

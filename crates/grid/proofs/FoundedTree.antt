@@ -1,8 +1,8 @@
 -- A fresh tree, laid and read back: on a table in which a plan's tree stands, the memory that was laid holds the model's fresh grid.
 use mathlib.Core.Path.{_≡_, refl, sym, ap, ap₂, _∙_, subst}
 use mathlib.Core.Bool.{Bool, true, false, false≢true}
-use mathlib.Core.List.{List, [], _∷_}
-use Prim.Native.Nat.{ℕ, zero, suc, _+_, _-_, _*_, _≤_, _<_}
+use mathlib.Core.List.{List, _∷_}
+use Prim.Native.Nat.{ℕ, zero, suc, _+_, _-_, _*_, _≤_}
 use native.Mathlib.Omega.{arith}
 use borrow.Author.Tests.{ne-eqb}
 use lib.ListN.{length, getD}
@@ -11,24 +11,24 @@ use Rattle.plan.specs.declared.Tally.{Tally}
 use Rattle.plan.specs.declared.AxesPlan.{AxesPlan}
 use Rattle.plan.specs.declared.BinsPlan.{BinsPlan}
 use Rattle.plan.specs.declared.Needs.{Needs}
-use Rattle.plan.specs.Plan.{Tree, Trees, nothing, axes, bins, none, more, count}
-use Rattle.plan.specs.Needs.{axesReals, axesCounts, binsReals, binsCounts, axesTaken, binsTaken, after, afterAll, childAt, before, untaken, needsOf}
+use Rattle.plan.specs.Plan.{Tree, Trees, nothing, axes, bins, none, more}
+use Rattle.plan.specs.Needs.{axesReals, axesCounts, binsReals, binsCounts, axesTaken, binsTaken, after, childAt, before, untaken, needsOf}
 use Rattle.plan.specs.Table.{link}
 use Rattle.plan.specs.Walk.{axesRow, binsRow}
 use Rattle.plan.specs.Paper.{gives}
 use Rattle.plan.specs.Calls.{sizesOf}
 use Rattle.plan.proofs.Tables.{Words}
 use Rattle.plan.proofs.Rereads.{taken-words}
-use Rattle.plan.proofs.Records.{Stands, axes-record, bins-record, Upto, upto-after, upto-all, upto-bins, child-record, before-next, passed-stands}
+use Rattle.plan.proofs.Records.{Stands, axes-record, bins-record, Upto, upto-after, upto-all, child-record, before-next, passed-stands}
 use Rattle.model.specs.Axes.{AxesGrid, freshAxes}
 use Rattle.model.specs.Grid as model
-use Rattle.grid.specs.Memory.{Memory, memory, recordAt}
-use Rattle.grid.specs.Tree.{axesPlanAt, axesGridAt, headAt, childIn, binsIn, nodeAt, gridAt}
+use Rattle.grid.specs.Memory.{Memory, memory}
+use Rattle.grid.specs.Tree.{axesPlanAt, axesGridAt, headAt, childIn, nodeAt, gridAt}
 use Rattle.grid.specs.Founded.{laidAxes, laidOwn, laidChild, laidChildren, laidNode, laidGrid, freshChildren, freshNode, freshAt}
 use Rattle.grid.proofs.Same.{Same, same-refl, same-on, same-sym, same-within}
 use Rattle.grid.proofs.Laid.{stands-laid, laid-axes}
 use Rattle.grid.proofs.Sounds.{node-axes}
-use Rattle.grid.proofs.Founds.{grid-axes, grid-bins}
+use Rattle.grid.proofs.Founds.{grid-axes}
 use Rattle.grid.proofs.FoundedOwn.{Within, within-same, within-on, axes-within, axes-grid-read, own-within, own-bins-read, own-record-read}
 
 -- what was laid from s on is t, which differs from s within these bounds only; where memory is t there, g is read

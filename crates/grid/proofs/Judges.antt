@@ -9,17 +9,16 @@ use native.Mathlib.Omega.{arith}
 use borrow.Author.Tests.{eqb-true, eq-eqb}
 use lib.Dec.{leb, eqb}
 use lib.ListN.{length, take, drop, getD, drop-of-length-le, length-drop}
-use lib.Seq.{drop-cons, drop-drop, length-take-le}
+use lib.Seq.{drop-cons, length-take-le}
 use lib.Ieee.{Float, nan, ofBits}
 use Rattle.real.specs.Numbers.{zero64}
 use Rattle.real.specs.Finite.{finiteOf}
 use Rattle.real.specs.Total.{allFinite}
 use Rattle.real.proofs.Truth.{both}
-use Rattle.accumulator.specs.declared.StatisticsAccumulator.{StatisticsAccumulator}
 use Rattle.accumulator.specs.Record as record-of
 use Rattle.axis.specs.Edges.{wellFormed}
 use Rattle.axis.specs.Scans.{allBounded}
-use Rattle.model.specs.Axes.{Axis, AxesPlan}
+use Rattle.model.specs.Axes.{AxesPlan}
 use Rattle.model.specs.Sound.{listed, allSound, keptAxis, keptAxisList, formedAxis, formedAxisList}
 use Rattle.grid.specs.Layout.{stretch, axisReals, axisCounts, binRecord, binAt, binsFrom, axisAt, axesFrom}
 use Rattle.grid.specs.Drawn.{Standing}

@@ -1,9 +1,9 @@
 -- What lies in a table that passed: the whole plan's grids, each within the lent memory that the plan needs.
 use mathlib.Core.Path.{_≡_, refl, sym, ap, _∙_, subst}
-use mathlib.Core.Logic.{_≢_, _⊎_, inl, inr}
+use mathlib.Core.Logic.{_≢_, inl, inr}
 use mathlib.Core.Bool.{Bool, true, false, cond}
 use mathlib.Core.List.{List, [], _∷_}
-use Prim.Native.Nat.{ℕ, zero, suc, _+_, _-_, _*_, _≤_, _<_}
+use Prim.Native.Nat.{ℕ, zero, suc, _+_, _-_, _≤_, _<_}
 use native.Mathlib.Omega.{arith}
 use borrow.Author.Tests.{leb-true, ltb-true, ltb-false}
 use lib.Dec.{leb, ltb}
@@ -14,14 +14,14 @@ use Rattle.plan.specs.declared.Needs.{Needs}
 use Rattle.plan.specs.declared.AxesPlan.{AxesPlan}
 use Rattle.plan.specs.declared.BinsPlan.{BinsPlan}
 use Rattle.plan.specs.Ranges.{within, larger, bounded, mostOf, floorFits, ratioFits}
-use Rattle.plan.specs.Plan.{Tree, Trees, nothing, axes, bins, count}
-use Rattle.plan.specs.Needs.{axesReals, axesCounts, binsReals, binsCounts, axesTaken, binsTaken, after, afterAll, childAt, before, untaken, needsOf}
+use Rattle.plan.specs.Plan.{Tree, Trees, nothing, axes, bins}
+use Rattle.plan.specs.Needs.{axesReals, axesCounts, binsReals, binsCounts, axesTaken, binsTaken, after, childAt, before, untaken, needsOf}
 use Rattle.plan.specs.Table.{link}
 use Rattle.plan.specs.Walk.{axesRow, binsRow}
 use Rattle.plan.specs.Paper.{gives}
 use Rattle.plan.specs.Calls.{sizesOf}
 use Rattle.plan.proofs.Tables.{Words}
-use Rattle.plan.proofs.Records.{Stands, AxesRecord, axes-record, BinsRecord, bins-record, Upto, upto-all, ChildRecord, child-record, Root, passed-stands, grid-link, words-at}
+use Rattle.plan.proofs.Records.{Stands, axes-record, bins-record, upto-all, child-record, passed-stands, grid-link, words-at}
 use Rattle.grid.specs.Tree.{AxesLaid, BinsLaid, Laid}
 
 -- a number within bounds lies between them

@@ -1,16 +1,16 @@
 -- A step at each axis, from axis to axis: where every step keeps to its own axis and reads as the model's, so do all of them.
 use mathlib.Core.Path.{_≡_, refl, sym, ap, ap₂, _∙_, subst}
 use mathlib.Core.List.{List, [], _∷_}
-use Prim.Native.Nat.{ℕ, zero, suc, _+_, _-_, _*_, _≤_, _<_}
+use Prim.Native.Nat.{ℕ, suc, _+_, _-_, _*_, _≤_, _<_}
 use native.Mathlib.Numerals.{add-one}
 use native.Mathlib.Omega.{arith}
 use lib.ListN.{length, drop, getD, drop-of-length-le}
 use lib.Seq.{drop-cons}
-use lib.Ieee.{Float, nan}
+use lib.Ieee.{nan}
 use Rattle.model.specs.Axes.{Axis}
 use Rattle.grid.specs.Layout.{axisReals, axisCounts, axisAt, axesFrom}
-use Rattle.grid.specs.Memory.{Memory, memory, overAxes, Asked}
-use Rattle.grid.proofs.Same.{Same, same-refl, same-sym, same-on, same-within}
+use Rattle.grid.specs.Memory.{Memory, overAxes, Asked}
+use Rattle.grid.proofs.Same.{Same, same-refl, same-sym, same-on}
 use Rattle.grid.proofs.Reading.{Holding, axis-same, axes-same}
 
 -- s′ is s outside the axis at r and c

@@ -1,6 +1,6 @@
 -- A probe down its path: at each level what the model answers, as the code branches.
 use mathlib.Core.Path.{_≡_, refl, sym, ap, _∙_}
-use mathlib.Core.Bool.{Bool, true, false, cond, _&&_, _||_, false≢true}
+use mathlib.Core.Bool.{Bool, true, false, cond, false≢true}
 use mathlib.Core.List.{List, [], _∷_}
 use Prim.Native.Nat.{ℕ, zero, suc, _+_, _-_, _≤_, _<_}
 use native.Mathlib.Omega.{arith}
@@ -11,12 +11,12 @@ use lib.Ieee.{Float, nan, binary64, mul}
 use Rattle.real.specs.Numbers.{one64}
 use Rattle.real.specs.Inverse.{invOf}
 use Rattle.real.proofs.Truth.{both}
-use Rattle.real.specs.Paper.{Paper, gives, refuses}
+use Rattle.real.specs.Paper.{gives, refuses}
 use Rattle.axis.specs.declared.Probed.{Probed}
 use Rattle.axis.specs.declared.Probed.the-variants as probed
 use Rattle.axis.specs.Calls.{paperProbed}
 use Rattle.model.specs.Axes.{AxesGrid}
-use Rattle.model.specs.Grid.{Grid, Bins, Child, Head, axes, bins, none, more, nothing, grid, many}
+use Rattle.model.specs.Grid.{Grid, Bins, Child, Head, axes, bins, more, nothing, grid, many}
 use Rattle.model.specs.Probe.{Coordinate, through, probeAxes, probeGrid, probeBin, probeChild}
 use Rattle.grid.specs.declared.Coordinates.{Coordinates}
 use Rattle.grid.specs.declared.Region.{Region}

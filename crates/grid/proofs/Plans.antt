@@ -3,7 +3,6 @@ use mathlib.Core.Path.{_≡_, refl, sym, ap, _∙_, subst}
 use mathlib.Core.Bool.{Bool, true, false, cond, true≢false}
 use mathlib.Core.List.{List}
 use Prim.Native.Nat.{ℕ, _≤_, _<_}
-use native.Mathlib.Omega.{arith}
 use borrow.Author.Tests.{le-ltb, lt-ltb}
 use lib.Dec.{ltb}
 use lib.ListN.{length}
@@ -17,7 +16,7 @@ use Rattle.plan.specs.Needs.{needsOf}
 use Rattle.plan.specs.Reading.{Out}
 use Rattle.plan.specs.Paper as plan
 use Rattle.plan.specs.Paper.{PlanRead, planRead, paperRead}
-use Rattle.plan.specs.Calls.{End, end, gridOf, writtenOf, planEnd, measuredEnd, measureOf, readPlanOf, sizesOf}
+use Rattle.plan.specs.Calls.{End, end, gridOf, writtenOf, planEnd, measuredEnd, measureOf, readPlanOf}
 use Rattle.plan.proofs.Tables.{Words}
 use Rattle.plan.proofs.Plans.{plan-was-plan, read-passes}
 use Rattle.grid.specs.Memory.{Memory}

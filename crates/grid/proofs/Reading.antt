@@ -1,16 +1,16 @@
 -- What is read out of lent memory: the same where memory is the same, and an accumulator as it was stored.
-use mathlib.Core.Path.{_≡_, refl, sym, ap, ap₂, _∙_, subst}
-use mathlib.Core.List.{List, [], _∷_}
+use mathlib.Core.Path.{_≡_, refl, ap, ap₂, _∙_, subst}
+use mathlib.Core.List.{List, _∷_}
 use Prim.Native.Nat.{ℕ, zero, suc, _+_, _-_, _*_, _≤_, _<_}
 use native.Mathlib.Omega.{arith}
 use lib.ListN.{length, getD}
-use lib.Seq.{sets, length-sets}
+use lib.Seq.{sets}
 use lib.Ieee.{Float, nan}
 use Rattle.accumulator.specs.declared.StatisticsAccumulator.{StatisticsAccumulator}
 use Rattle.model.specs.Axes.{Axis}
-use Rattle.grid.specs.Layout.{stretch, axisReals, axisCounts, binAt, binsFrom, axisAt, axesFrom}
-use Rattle.grid.specs.Memory.{Memory, memory, overAxes, realsOf, countsOf, recordAt}
-use Rattle.grid.proofs.Same.{Same, same-refl, same-on, same-within, stretch-same, getD-sets}
+use Rattle.grid.specs.Layout.{axisReals, axisCounts, binAt, binsFrom, axisAt, axesFrom}
+use Rattle.grid.specs.Memory.{memory, realsOf, countsOf, recordAt}
+use Rattle.grid.proofs.Same.{Same, same-within, stretch-same, getD-sets}
 
 -- ---- accumulators
 

@@ -1,7 +1,7 @@
 -- Memory that is the same on an interval: what a write elsewhere leaves, and what reads the same there.
 use mathlib.Core.Path.{_≡_, refl, sym, ap, ap₂, _∙_}
 use mathlib.Core.List.{List, [], _∷_, _++_}
-use Prim.Native.Nat.{ℕ, zero, suc, _+_, _-_, _*_, _≤_, _<_, min}
+use Prim.Native.Nat.{ℕ, zero, suc, _+_, _-_, _≤_, _<_, min}
 use native.Mathlib.Nat.{min-le-left}
 use mathlib.Core.Logic.{_≢_}
 use native.Mathlib.Omega.{arith}

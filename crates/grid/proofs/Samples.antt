@@ -1,13 +1,11 @@
 -- Sampling the tree: the bin that a draw reaches, what is put in front of a sample, and a draw from one of the bins.
 use mathlib.Core.Path.{_≡_, refl, sym, ap, ap₂, _∙_, subst}
-use mathlib.Core.Logic.{_≢_}
-use mathlib.Core.Bool.{Bool, true, false, _&&_, cond, false≢true}
+use mathlib.Core.Bool.{true, false, _&&_}
 use mathlib.Core.List.{List, [], _∷_}
-use Prim.Native.Nat.{ℕ, zero, suc, _+_, _-_, _*_, _^_, _≤_, _<_}
+use Prim.Native.Nat.{ℕ, zero, suc, _+_, _-_, _≤_, _<_}
 use native.Mathlib.Numerals.{add-one}
 use native.Mathlib.Omega.{arith}
-use borrow.Author.Tests.{ne-eqb, eq-eqb}
-use lib.Dec.{eqb}
+use borrow.Author.Tests.{ne-eqb}
 use lib.ListN.{length, take, drop, getD, drop-of-length-le, length-drop}
 use lib.Seq.{drop-cons, length-take-le}
 use lib.Ieee.{Float, nan, binary64, add, mul, le}
@@ -20,18 +18,17 @@ use Rattle.stream.specs.Xoshiro.{wordOf, stepOf}
 use Rattle.stream.specs.Calls.{unitOf, unitDrawnOf}
 use Rattle.accumulator.specs.Record as account
 use Rattle.plan.specs.Numbers.{wordsAt}
-use Rattle.model.specs.Grid.{Grid, Bins, Child, Head, Bin, axes, bins, none, more, nothing, grid, probabilities}
-use Rattle.model.specs.Sound.{chance, sound, formedGrid, formedBins, formedChild, keptGrid, keptBins, keptChild}
+use Rattle.model.specs.Grid.{Grid, Child, Head, Bin, axes, bins, grid, probabilities}
+use Rattle.model.specs.Sound.{chance, sound, formedChild, keptChild}
 use Rattle.model.specs.Draw.{Sample, Drawing, unitAt, Placed, placedFrom, placedOf, drawAxes, weightAt, reached, over, drawBin, drawChild, drawNothing, drawGrid}
 use Rattle.grid.specs.declared.Drawing as drawn
 use Rattle.grid.specs.declared.Sample as given
 use Rattle.grid.specs.declared.axes.AxesAt.{AxesAt}
 use Rattle.grid.specs.declared.axes.Walked.{Walked}
 use Rattle.grid.specs.Layout.{stretch}
-use Rattle.grid.specs.Drawn.{Standing, Stands, axesAt, underFloor, placedBy, padded, Filled}
-use Rattle.grid.specs.Memory.{recordAt}
-use Rattle.grid.specs.Tree.{axesPlanAt, axesPlace, axesGridAt, binIn, childIn, binsIn, headAt, gridAt, AxesLaid}
-use Rattle.grid.specs.Judged.{axesFit, soundBin, soundBins}
+use Rattle.grid.specs.Drawn.{Stands, axesAt, underFloor, placedBy, padded, Filled}
+use Rattle.grid.specs.Tree.{axesPlanAt, axesPlace, axesGridAt, binIn, childIn, binsIn, AxesLaid}
+use Rattle.grid.specs.Judged.{soundBin, soundBins}
 use Rattle.grid.specs.Sampled.{entries, sampleOf, laidSample, laidDrawing, Short, pushed, pushedOn, soundChild, DrawsAs}
 use Rattle.grid.proofs.Judges.{stretch-one, part, fit-stands}
 use Rattle.grid.proofs.Sounds.{numbers-upto, sound-axes, sound-more, sound-bins}

@@ -1,9 +1,8 @@
 -- Judging the tree: an axes grid's run, a bin with what hangs there, one bin on.
-use mathlib.Core.Path.{_≡_, refl, sym, ap, ap₂, _∙_, subst}
-use mathlib.Core.Bool.{Bool, true, false, _&&_, cond, and-assoc, and-true, and-false, and-comm, false≢true}
-use mathlib.Core.List.{List, [], _∷_}
-use Prim.Native.Nat.{ℕ, zero, suc, _+_, _-_, _*_, _^_, _≤_, _<_}
-use native.Mathlib.Numerals.{add-one}
+use mathlib.Core.Path.{_≡_, refl, sym, ap, _∙_}
+use mathlib.Core.Bool.{Bool, true, false, _&&_, and-assoc, and-true, and-comm, false≢true}
+use mathlib.Core.List.{List, _∷_}
+use Prim.Native.Nat.{ℕ, zero, suc, _+_, _-_, _≤_, _<_}
 use native.Mathlib.Omega.{arith}
 use borrow.Author.Tests.{ne-eqb}
 use lib.ListN.{length, getD}
@@ -14,14 +13,13 @@ use Rattle.plan.specs.Numbers.{runOf, wordsAt}
 use Rattle.plan.specs.Ranges.{floorFits, ratioFits}
 use Rattle.plan.proofs.Ranges.{nan-floor, nan-ratio}
 use Rattle.plan.proofs.Records.{words-at}
-use Rattle.model.specs.Grid.{Grid, Bins, Child, Head, Bin, axes, bins, none, more, nothing, grid}
+use Rattle.model.specs.Grid.{Grid, Bins, Child, Head, Bin, axes, bins, none, more, grid}
 use Rattle.model.specs.Sound.{chance, sound, formedGrid, formedBins, formedChild, formedAxisList, keptGrid, keptBins, keptChild, keptAxisList}
 use Rattle.grid.specs.Layout.{stretch, axesFrom}
 use Rattle.grid.specs.Memory.{recordAt}
-use Rattle.grid.specs.Drawn.{Standing}
 use Rattle.grid.specs.Tree.{axesPlanAt, axesPlace, axesGridAt, headAt, binIn, childIn, binsIn, nodeAt, gridAt, AxesLaid}
 use Rattle.grid.specs.Judged.{axesFit, AllUpto, soundBin, soundBins}
-use Rattle.grid.proofs.Judges.{stretch-one, two-and-two, fit-axes, fit-stands}
+use Rattle.grid.proofs.Judges.{stretch-one, two-and-two, fit-axes}
 
 -- ---- doubles of a plan
 

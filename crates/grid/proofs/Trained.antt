@@ -1,9 +1,9 @@
 -- A sample that joined its bins in lent memory is read as the model's trained axes.
-use mathlib.Core.Path.{_≡_, refl, sym, ap, ap₂, _∙_, subst}
-use mathlib.Core.Bool.{Bool, true, false, _&&_, cond}
+use mathlib.Core.Path.{_≡_, refl, sym, ap, _∙_, subst}
+use mathlib.Core.Bool.{Bool, true, false}
 use mathlib.Core.List.{List, [], _∷_}
 use mathlib.Core.Logic.{_≢_}
-use Prim.Native.Nat.{ℕ, zero, suc, _+_, _-_, _*_, _^_, _≤_, _<_}
+use Prim.Native.Nat.{ℕ, zero, suc, _+_, _-_, _*_, _≤_, _<_}
 use native.Mathlib.Omega.{arith}
 use borrow.Author.Tests.{eqb-true, eqb-false}
 use lib.Dec.{eqb}
@@ -15,8 +15,7 @@ use Rattle.accumulator.specs.Record.{fresh, withWaiting, withExtremes}
 use Rattle.accumulator.specs.Steps.{zeroCount, replaced, addedOf}
 use Rattle.model.specs.Axes.{Axis}
 use Rattle.model.specs.Train.{trainAxis, trainAll}
-use Rattle.axis.specs.Edges.{binOf}
-use Rattle.grid.specs.Layout.{stretch, binRecord, binAt, binsFrom, axisAt, axesFrom}
+use Rattle.grid.specs.Layout.{binRecord, binAt, binsFrom, axisAt, axesFrom}
 use Rattle.grid.specs.Memory.{Memory, memory, overAxes, Asked}
 use Rattle.grid.specs.Trained.{binsOn, trainedAt, Cell}
 use Rattle.grid.proofs.Same.{Same, stretch-same}

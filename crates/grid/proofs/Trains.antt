@@ -1,25 +1,24 @@
 -- Training axes in lent memory: scans one coordinate on, what a step keeps to, and what is read afterwards.
-use mathlib.Core.Path.{_≡_, refl, sym, ap, ap₂, _∙_, subst}
+use mathlib.Core.Path.{_≡_, refl, ap, _∙_, subst}
 use mathlib.Core.Bool.{Bool, true, false, _&&_, cond, and-assoc, and-true}
 use mathlib.Core.List.{List, [], _∷_, _++_, append-nil, append-assoc}
-use Prim.Native.Nat.{ℕ, zero, suc, _+_, _-_, _*_, _^_, _≤_, _<_}
+use Prim.Native.Nat.{ℕ, zero, suc, _+_, _-_, _*_, _≤_, _<_}
 use native.Mathlib.Numerals.{add-one}
 use native.Mathlib.Omega.{arith}
-use lib.ListN.{length, take, drop, set, getD, drop-of-length-le, length-set}
-use lib.Seq.{drop-cons, getD-set-same, getD-set-other, take-suc-set, length-take-le, getD-take}
-use lib.Ieee.{Float, nan, binary64, add, mul, eq}
+use lib.ListN.{length, take, drop, set, getD, drop-of-length-le}
+use lib.Seq.{drop-cons, take-suc-set, getD-take}
+use lib.Ieee.{Float, nan, eq}
 use Rattle.real.specs.Numbers.{zero64}
 use Rattle.accumulator.specs.Steps.{zeroCount}
 use Rattle.real.proofs.Truth.{both}
 use Rattle.axis.specs.Edges.{inUnit, binOf}
-use Rattle.model.specs.Axes.{Axis}
 use Rattle.grid.specs.Layout.{stretch, axisReals, axisCounts, axisAt, axesFrom}
-use Rattle.grid.specs.Memory.{Memory, memory, overAxes, Asked}
+use Rattle.grid.specs.Memory.{Memory, memory}
 use Rattle.grid.specs.Sampled.{entries}
 use Rattle.grid.specs.Trained.{allInUnit, binsOn, trainedAt, Cell, cellFits, cellsFit}
-use Rattle.grid.proofs.Same.{Same, same-refl, same-on, same-sym, same-within, same-set-below, same-set-above}
+use Rattle.grid.proofs.Same.{same-on, same-set-below, same-set-above}
 use Rattle.grid.proofs.Standing.{left-on}
-use Rattle.grid.proofs.Over.{Apart, Local, Frames}
+use Rattle.grid.proofs.Over.{Local, Frames}
 
 -- ---- coordinates
 

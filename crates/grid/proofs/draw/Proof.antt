@@ -1,12 +1,11 @@
-use mathlib.Core.Path.{_≡_, refl, sym, ap, ap₂, _∙_}
+use mathlib.Core.Path.{sym, ap, ap₂, _∙_}
 use Prim.Native.Nat.{ℕ}
 use native.Mathlib.Omega.{arith}
-use Rattle.real.specs.Paper.{Paper, gives, refuses}
-use Rattle.model.specs.Draw.{Drawing, drawGrid, drawNothing}
+use Rattle.real.specs.Paper.{gives}
+use Rattle.model.specs.Draw.{Drawing, drawGrid}
 use Rattle.grid.specs.declared.Drawing as laid
 use Rattle.grid.specs.State.{rootOf, stateFault}
-use Rattle.grid.specs.Sampled.{laidDrawing}
-use Rattle.grid.specs.Calls.{onState, drawnAs, drawOf}
+use Rattle.grid.specs.Calls.{drawnAs, drawOf}
 use Rattle.grid.proofs.States.{clear, refused-first, answered-last}
 use borrow.Author.Needs.{needs}
 use Rattle.grid.proofs.draw.Statement.{statement}

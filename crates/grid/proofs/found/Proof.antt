@@ -1,8 +1,8 @@
-use mathlib.Core.Path.{_≡_, sym, ap, _∙_}
+use mathlib.Core.Path.{ap}
 use native.Mathlib.Omega.{arith}
 use lib.ListN.{length}
 use Rattle.plan.specs.Paper.{planRead, paperRead}
-use Rattle.plan.specs.Calls.{End, readPlanOf}
+use Rattle.plan.specs.Calls.{End}
 use Rattle.grid.specs.Memory.{memory}
 use Rattle.grid.proofs.Plans.{read-laid, short-table, short-reals, short-counts, founded}
 use borrow.Author.Needs.{needs}

@@ -1,4 +1,3 @@
-use mathlib.Core.Path.{_≡_, sym, ap, _∙_}
 use Rattle.grid.specs.Memory.{memory}
 use Rattle.grid.specs.Calls.{freshEnd}
 use Rattle.plan.specs.Paper.{paperRead}

@@ -1,4 +1,4 @@
-use mathlib.Core.Path.{_≡_, sym, ap, _∙_}
+use mathlib.Core.Path.{sym, ap, _∙_}
 use mathlib.Core.Bool.{Bool, cond}
 use native.Mathlib.Omega.{arith}
 use lib.Ieee.{Float}
@@ -7,7 +7,7 @@ use Rattle.axis.specs.Calls.{paperProbed}
 use Rattle.model.specs.Probe.{probeGrid}
 use Rattle.grid.specs.State.{rootOf, stateFault}
 use Rattle.grid.specs.Probed.{coordinatesOf, pathFrom, tooLong}
-use Rattle.grid.specs.Calls.{onState, probeOf}
+use Rattle.grid.specs.Calls.{probeOf}
 use Rattle.grid.proofs.States.{clear, refused-first, answered-last}
 use borrow.Author.Needs.{needs}
 use Rattle.grid.proofs.probe.Statement.{statement}

@@ -1,10 +1,10 @@
-use mathlib.Core.Path.{_≡_, refl, sym, ap, _∙_}
+use mathlib.Core.Path.{sym, ap, _∙_}
 use Prim.Native.Nat.{ℕ}
 use native.Mathlib.Omega.{arith}
-use Rattle.real.specs.Paper.{Paper, refuses}
+use Rattle.real.specs.Paper.{refuses}
 use Rattle.accumulator.specs.Calls.{summarizeOf, paperSummed}
 use Rattle.grid.specs.State.{rootOf, ownOf, stateFault}
-use Rattle.grid.specs.Calls.{onState, summaryOf}
+use Rattle.grid.specs.Calls.{summaryOf}
 use Rattle.grid.proofs.States.{clear, refused-first, answered-last}
 use borrow.Author.Needs.{needs}
 use Rattle.grid.proofs.summary.Statement.{statement}

@@ -1,7 +1,3 @@
-use mathlib.Core.Path.{ap}
-use lib.Ieee.{Float}
-use Rattle.axis.specs.declared.Point.{Point}
-use Rattle.axis.specs.Edges.{weightOf}
 use Rattle.axis.proofs.Searches.{search-is}
 use Rattle.model.specs.Draw.{placeOn}
 use borrow.Author.Needs.{needs}

@@ -1,18 +1,10 @@
-use Rattle.axis.specs.declared.Point.{Point}
 use native.Mathlib.Omega.{arith}
-use native.Mathlib.Numerals.{unary-clauses}
-use mathlib.Core.Path.{_≡_, refl, sym, ap, ap₂, _∙_}
-use mathlib.Core.List.{List, append-nil}
-use Prim.Native.Nat.{ℕ, _+_, _-_, _*_, _≤_}
+use mathlib.Core.Path.{_≡_, refl, sym, _∙_}
+use Prim.Native.Nat.{_-_, _≤_}
 use lib.ListN.{length, take, drop, getD, replicate, length-set}
-use lib.Ieee.{Float}
 use Rattle.real.specs.Numbers.{zero64, one64}
-use Rattle.stream.specs.declared.MonteCarloRng.{MonteCarloRng}
-use Rattle.stream.specs.declared.Unit.{Unit}
-use Rattle.stream.specs.Xoshiro.{stepOf}
-use Rattle.stream.specs.Calls.{unitDrawnOf}
 use Rattle.model.specs.Draw.{walked}
-use Rattle.grid.specs.Layout.{stretch, axesFrom}
+use Rattle.grid.specs.Layout.{axesFrom}
 use Rattle.grid.specs.Drawn.{placedBy, Standing}
 use Rattle.grid.proofs.Standing.{next}
 use Rattle.grid.proofs.Draws.{behind, drawn-on, drawn-out, asked-part, asked-unit, zeros-on, zeros-out}

@@ -1,4 +1,3 @@
-use mathlib.Core.Path.{sym}
 use lib.Ieee.{binary64, mul}
 use Rattle.grid.proofs.Paths.{through-weight, through-refusal}
 use borrow.Author.Needs.{needs}

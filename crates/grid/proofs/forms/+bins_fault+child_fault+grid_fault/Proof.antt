@@ -1,12 +1,12 @@
-use mathlib.Core.Path.{_≡_, refl, sym, ap, ap₂, _∙_}
-use mathlib.Core.List.{List, [], _∷_}
-use Prim.Native.Nat.{ℕ, _+_, _-_, _*_, _≤_, _<_}
+use mathlib.Core.Path.{sym, ap, ap₂, _∙_}
+use mathlib.Core.List.{List}
+use Prim.Native.Nat.{ℕ, _+_, _-_, _*_, _<_}
 use native.Mathlib.Omega.{arith}
 use lib.ListN.{length, getD}
 use lib.Ieee.{Float, nan}
 use Rattle.model.specs.Grid.{Grid, bins}
-use Rattle.model.specs.Train.{faultOf, faultOfChild}
-use Rattle.grid.specs.Tree.{childIn, binsIn, headAt, gridAt}
+use Rattle.model.specs.Train.{faultOf}
+use Rattle.grid.specs.Tree.{binsIn, headAt, gridAt}
 use Rattle.grid.specs.Sampled.{entries, ChildLaid}
 use Rattle.grid.proofs.Laid.{laid-axes, laid-bins, laid-head}
 use Rattle.grid.proofs.Sounds.{node-axes, node-bins}

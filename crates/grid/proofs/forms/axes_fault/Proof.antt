@@ -1,10 +1,9 @@
-use mathlib.Core.Path.{_≡_, refl, sym, ap, _∙_}
-use Prim.Native.Nat.{ℕ, _+_, _-_}
+use mathlib.Core.Path.{sym, _∙_}
+use Prim.Native.Nat.{_+_, _-_}
 use native.Mathlib.Omega.{arith}
 use borrow.Author.Tests.{eq-eqb, ne-eqb, not-true, not-false}
-use lib.ListN.{length, getD}
+use lib.ListN.{getD}
 use lib.Ieee.{nan}
-use Rattle.grid.specs.Sampled.{entries}
 use Rattle.grid.specs.Trained.{formFault}
 use Rattle.grid.proofs.Fitting.{none-left, one-left, many-left}
 use borrow.Author.Needs.{needs}

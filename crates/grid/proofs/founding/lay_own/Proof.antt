@@ -1,7 +1,7 @@
 use mathlib.Core.Path.{_≡_, refl, sym, _∙_}
 use Prim.Native.Nat.{_+_, _-_, _≤_}
 use native.Mathlib.Omega.{arith}
-use lib.ListN.{length, getD, set, length-set}
+use lib.ListN.{length, getD, length-set}
 use Rattle.grid.specs.Memory.{memory}
 use Rattle.grid.specs.Founded.{laidBins}
 use Rattle.grid.proofs.Founds.{bins-next, bins-done, own-founded}

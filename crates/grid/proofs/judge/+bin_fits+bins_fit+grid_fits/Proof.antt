@@ -1,12 +1,11 @@
-use mathlib.Core.Path.{_≡_, refl, sym, ap, ap₂, _∙_}
+use mathlib.Core.Path.{_≡_, sym, ap, ap₂, _∙_}
 use mathlib.Core.Bool.{Bool, _&&_}
 use Prim.Native.Nat.{ℕ, _+_, _-_, _*_, _≤_}
 use native.Mathlib.Omega.{arith}
 use lib.ListN.{length, getD}
 use Rattle.model.specs.Sound.{sound}
-use Rattle.model.specs.Grid.{Grid}
-use Rattle.grid.specs.Tree.{binIn, childIn, binsIn, headAt, gridAt}
-use Rattle.grid.specs.Judged.{soundBin, soundBins}
+use Rattle.grid.specs.Tree.{binIn, binsIn, headAt, gridAt}
+use Rattle.grid.specs.Judged.{soundBins}
 use Rattle.grid.proofs.Laid.{laid-axes, laid-bins, laid-head}
 use Rattle.grid.proofs.Sounds.{sound-bins, bins-on, bins-out, child-none, child-grid, node-axes, node-bins}
 use Prim.Native.Nat.{ℕ, _<_}

@@ -1,14 +1,8 @@
-use mathlib.Core.Path.{_≡_, sym, ap, _∙_}
-use mathlib.Core.Bool.{Bool, _&&_}
-use mathlib.Core.List.{List, _∷_}
-use Prim.Native.Nat.{ℕ, _+_, _*_, _≤_}
+use mathlib.Core.Path.{_∙_}
+use Prim.Native.Nat.{_+_}
 use native.Mathlib.Omega.{arith}
-use lib.ListN.{length, getD, take, drop}
-use Rattle.plan.specs.Numbers.{wordsAt}
-use Rattle.grid.specs.declared.axes.AxesAt.{AxesAt}
+use lib.ListN.{length, getD}
 use Rattle.grid.specs.Tree.{axesPlace}
-use Rattle.grid.specs.Judged.{axesFit, AllUpto}
-use Rattle.grid.specs.Layout.{stretch}
 use Rattle.grid.proofs.Judges.{part}
 use Rattle.grid.proofs.Sounds.{words-stretch, numbers-upto, sound-axes}
 use borrow.Author.Needs.{needs}

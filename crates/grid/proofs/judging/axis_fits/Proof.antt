@@ -1,10 +1,6 @@
-use mathlib.Core.Path.{_≡_}
 use mathlib.Core.List.{_∷_}
-use native.Mathlib.Omega.{arith}
 use borrow.Author.Tests.{not-true, not-false}
 use lib.ListN.{getD}
-use Prim.Native.Nat.{_≤_}
-use Rattle.model.specs.Sound.{listed}
 use Rattle.grid.specs.Judged.{axisFits}
 use Rattle.grid.proofs.Judges.{listed-upto}
 use mathlib.Core.Path.{sym, _∙_}

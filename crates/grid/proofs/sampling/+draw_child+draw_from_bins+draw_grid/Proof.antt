@@ -1,17 +1,14 @@
-use Rattle.grid.specs.Sampled.{sampleOf, laidSample, laidDrawing, Short, pushed, pushedOn, ChildLaid, soundChild, DrawsAs}
+use Rattle.grid.specs.Sampled.{Short, ChildLaid, DrawsAs}
 use Rattle.grid.proofs.Samples.{child-none, child-is, child-sound, sound-in, sound-below, length-chances, bins-made, shorter, laid-levels}
 use Rattle.model.specs.Draw.{Drawing}
-use lib.Ieee.{Float, binary64, mul}
-use mathlib.Core.Path.{_≡_, refl, sym, ap, ap₂, _∙_, subst}
-use Prim.Native.Nat.{ℕ, _+_, _-_, _*_, _≤_, _<_}
+use mathlib.Core.Path.{_≡_, refl, sym, ap, _∙_, subst}
+use Prim.Native.Nat.{ℕ, _+_, _-_, _*_, _<_}
 use native.Mathlib.Omega.{arith}
-use lib.ListN.{length, getD, take, drop}
-use lib.Ieee.{nan}
-use Rattle.stream.specs.declared.MonteCarloRng.{MonteCarloRng}
+use lib.ListN.{length, getD}
 use Rattle.model.specs.Grid.{Grid, bins}
 use Rattle.model.specs.Sound.{sound}
-use Rattle.model.specs.Draw.{Sample, drawGrid, drawChild}
-use Rattle.grid.specs.Tree.{binIn, childIn, binsIn, headAt, gridAt, axesGridAt, Laid}
+use Rattle.model.specs.Draw.{drawGrid, drawChild}
+use Rattle.grid.specs.Tree.{binIn, childIn, binsIn, headAt, gridAt}
 use Rattle.grid.proofs.Laid.{laid-axes, laid-bins, laid-head}
 use Rattle.grid.proofs.Sounds.{node-axes, node-bins}
 use Prim.Native.Nat.{ℕ, _<_}

@@ -1,10 +1,7 @@
 use Rattle.grid.proofs.Samples.{sound-stands, structOf, axes-made}
-use mathlib.Core.Path.{_≡_, refl, sym, ap, _∙_, subst}
-use Prim.Native.Nat.{_≤_}
-use native.Mathlib.Omega.{arith}
+use mathlib.Core.Path.{sym, subst}
 use Rattle.grid.specs.declared.axes.AxesAt.{AxesAt}
-use Rattle.grid.specs.Drawn.{Stands, placedBy}
-use Rattle.grid.specs.Tree.{axesPlace}
+use Rattle.grid.specs.Drawn.{Stands}
 use borrow.Author.Needs.{needs}
 use Rattle.grid.proofs.sampling.draw_from_axes.Statement.{statement}
 use Rattle.grid.proofs.sampling.draw_from_axes.Tie as tie

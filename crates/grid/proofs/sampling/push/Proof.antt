@@ -1,11 +1,5 @@
 use Rattle.grid.specs.Sampled.{pushedOn}
-use mathlib.Core.Path.{_≡_, refl, ap, ap₂}
-use mathlib.Core.List.{List}
-use Prim.Native.Nat.{ℕ}
-use native.Mathlib.Omega.{arith}
-use lib.ListN.{length, take}
-use lib.Ieee.{Float, nan}
-use Rattle.model.specs.Draw.{Sample}
+use mathlib.Core.Path.{refl}
 use borrow.Author.Needs.{needs}
 use Rattle.grid.proofs.sampling.push.Statement.{statement}
 use Rattle.grid.proofs.sampling.push.Tie as tie

@@ -1,8 +1,5 @@
 use Rattle.grid.specs.Sampled.{sampleOf}
 use Rattle.grid.proofs.Samples.{no-weight, first-weight}
-use mathlib.Core.Path.{_≡_}
-use native.Mathlib.Omega.{arith}
-use lib.ListN.{length}
 use borrow.Author.Needs.{needs}
 use Rattle.grid.proofs.sampling.weight_of.Statement.{statement}
 use Rattle.grid.proofs.sampling.weight_of.Tie as tie

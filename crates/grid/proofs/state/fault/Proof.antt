@@ -1,4 +1,4 @@
-use mathlib.Core.Path.{sym, _∙_}
+use mathlib.Core.Path.{sym}
 use Rattle.grid.proofs.States.{fault-planned, sizes-planned, fault-strayed}
 use borrow.Author.Needs.{needs}
 use Rattle.grid.proofs.state.fault.Statement.{statement}

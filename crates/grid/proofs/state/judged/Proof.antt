@@ -1,8 +1,7 @@
-use mathlib.Core.Path.{_≡_, refl, sym, _∙_}
+use mathlib.Core.Path.{sym, _∙_}
 use native.Mathlib.Omega.{arith}
 use borrow.Author.Tests.{lt-ltb, le-ltb, not-true, not-false}
 use lib.ListN.{length}
-use Rattle.model.specs.Sound.{sound}
 use Rattle.grid.specs.State.{judgedBy}
 use Rattle.grid.proofs.Laid.{root-laid}
 use Rattle.grid.proofs.state.judged.Statement.{statement}

@@ -2,15 +2,13 @@ use Rattle.grid.proofs.Trains.{entries-take}
 use mathlib.Core.Path.{sym}
 use mathlib.Core.Bool.{Bool}
 use Rattle.axis.specs.Edges.{inUnit}
-use borrow.Kind.Array.{good-length}
 use lib.Seq.{getD-take, length-take-le}
 use lib.Ieee.{nan}
 use mathlib.Core.Path.{_≡_, refl, ap, _∙_}
 use mathlib.Core.Bool.{_&&_}
-use mathlib.Core.List.{List}
 use Prim.Native.Nat.{_+_, _-_, _≤_}
 use native.Mathlib.Omega.{arith}
-use lib.ListN.{length, take, drop}
+use lib.ListN.{take, drop}
 use Rattle.grid.specs.Trained.{allInUnit}
 use Rattle.grid.proofs.Trains.{unit-on, unit-out}
 use Rattle.grid.proofs.training.are_in_unit.Statement.{statement}

@@ -1,14 +1,13 @@
 use Rattle.grid.proofs.Trains.{unit-at, entries-take, located-on, located-out}
 use mathlib.Core.Path.{_≡_, refl, sym, ap, _∙_}
-use mathlib.Core.List.{List, _++_}
-use Prim.Native.Nat.{ℕ, _+_, _-_, _*_, _≤_}
+use mathlib.Core.List.{_++_}
+use Prim.Native.Nat.{_+_, _-_, _≤_}
 use native.Mathlib.Omega.{arith}
 use lib.ListN.{length, take, drop, getD, length-set}
 use lib.Seq.{getD-take, length-take-le}
 use lib.Ieee.{nan}
-use Rattle.axis.specs.Edges.{inUnit, binOf}
 use Rattle.axis.proofs.Searches.{search-is}
-use Rattle.grid.specs.Layout.{stretch, axesFrom}
+use Rattle.grid.specs.Layout.{axesFrom}
 use Rattle.grid.specs.Drawn.{Standing}
 use Rattle.grid.specs.Trained.{allInUnit, binsOn}
 use Rattle.grid.proofs.Standing.{next}

@@ -3,7 +3,7 @@ use Rattle.grid.proofs.Trains.{next-cell, trained-local, trained-frames
 use mathlib.Core.Path.{_≡_, refl, sym, ap, _∙_}
 use Prim.Native.Nat.{ℕ, _+_, _-_, _*_, _≤_}
 use native.Mathlib.Omega.{arith}
-use lib.ListN.{length, take, drop, getD}
+use lib.ListN.{length, take, drop}
 use lib.Seq.{getD-take}
 use Rattle.grid.specs.Memory.{Memory, memory, overAxes, Asked}
 use Rattle.grid.specs.Trained.{Cell, trainedAt}

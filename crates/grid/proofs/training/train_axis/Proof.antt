@@ -1,8 +1,5 @@
-use mathlib.Core.Path.{_≡_, ap}
 use native.Mathlib.Omega.{arith}
-use lib.ListN.{length-set, getD, set}
-use Prim.Native.Nat.{ℕ, _+_, _*_}
-use Rattle.grid.specs.Memory.{memory}
+use lib.ListN.{length-set}
 use Rattle.grid.specs.Trained.{trainedAt}
 use Rattle.grid.proofs.Trains.{zero-count-small}
 use borrow.Author.Needs.{needs}
