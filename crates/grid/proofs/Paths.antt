@@ -24,7 +24,7 @@ use Rattle.grid.specs.declared.axes.AxesAt.{AxesAt}
 use Rattle.grid.specs.Drawn.{axesAt}
 use Rattle.grid.specs.Tree.{axesPlanAt, axesPlace, axesGridAt, binIn, childIn, binsIn}
 use Rattle.grid.specs.Sampled.{entries}
-use Rattle.grid.specs.Probed.{coordinatesFrom, coordinatesOf, probedOf, pathFrom, endsAt, tooLong}
+use Rattle.grid.specs.Probed.{coordinatesFrom, coordinatesOf, probedOf, pathFrom, endsAt}
 use Rattle.grid.proofs.Probes.{coordinates-length, probed-model}
 
 -- ---- the path at a depth
@@ -177,13 +177,3 @@ pub axes-probed : (table : List ℕ) (reals : List Float) (counts : List ℕ) (w
 unfolding axesGridAt axesPlanAt axesPlace
 axes-probed table reals counts w g xs e =
     ap (λ (a : AxesAt). probedOf (a .floor) (axesAt reals counts a) xs) e ∙ sym (probed-model (axesGridAt table reals counts w) xs)
-
--- ---- more than the struct holds
-
-pub long-path : (p : Region) → 4 < p .levels → true ≡ tooLong p
-unfolding tooLong
-long-path p h = rw (lt-ltb 4 (p .levels) h)
-
-pub long-point : (p : Region) → p .levels ≤ 4 → ltb 8 (p .coordinates .many) ≡ tooLong p
-unfolding tooLong
-long-point p h = rw (le-ltb 4 (p .levels) h)

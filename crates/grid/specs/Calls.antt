@@ -19,7 +19,7 @@ use Rattle.grid.specs.Memory.{Memory, memory}
 use Rattle.grid.specs.Founded.{laidGrid}
 use Rattle.grid.specs.declared.Region.{Region}
 use Rattle.grid.specs.Sampled.{laidDrawing}
-use Rattle.grid.specs.Probed.{coordinatesOf, pathFrom, tooLong}
+use Rattle.grid.specs.Probed.{coordinatesOf, pathFrom}
 use Rattle.grid.specs.State.{rootOf, ownOf, stateFault}
 
 -- an answer on a state that may be refused
@@ -73,8 +73,6 @@ freshOf bs table s = freshBy bs (measureOf bs) table s
 
 -- ---- probe
 
--- 4 for a probe that is longer than any grid; else the model's answer, from the top of the path
+-- the model's answer, from the top of the path
 unfoldable pub probeOf : List ℕ → List Float → List ℕ → Region → Paper Float
-probeOf table reals counts p =
-    onState (stateFault table reals counts)
-    (cond (tooLong p) (refuses 4) (probeGrid (rootOf table reals counts) (pathFrom p 0) (coordinatesOf (p .coordinates))))
+probeOf table reals counts p = onState (stateFault table reals counts) (probeGrid (rootOf table reals counts) (pathFrom p 0) (coordinatesOf (p .coordinates)))

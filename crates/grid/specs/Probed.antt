@@ -39,7 +39,3 @@ pathFrom p d = entries 0 (p .path) d (p .levels - d)
 -- a path that ends here with no coordinates given
 unfoldable pub endsAt : Region → ℕ → Bool
 endsAt p d = leb (p .levels) d && eqb (p .coordinates .many) 0
-
--- more than the struct holds, and than any grid has: four levels, eight axes
-unfoldable pub tooLong : Region → Bool
-tooLong p = ltb 4 (p .levels) || ltb 8 (p .coordinates .many)

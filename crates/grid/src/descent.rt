@@ -10,22 +10,11 @@ ghost use Rattle.model.specs.Sound.{sound};
 ghost use Rattle.model.specs.Probe.{through, probeGrid, probeChild};
 ghost use Rattle.grid.specs.Tree.{axesGridAt, headAt, childIn, binsIn, gridAt, AxesLaid, BinsLaid, Laid};
 ghost use Rattle.grid.specs.Sampled.{ChildLaid, soundChild};
-ghost use Rattle.grid.specs.Probed.{coordinatesOf, pathFrom, endsAt, tooLong};
+ghost use Rattle.grid.specs.Probed.{coordinatesOf, pathFrom, endsAt};
 use crate::Region;
 use crate::layout;
 use crate::probing;
 use axis::Probed;
-
-// Whether a probe says that it has more than its arrays hold.
-pub fn is_too_long(p: Region) -> bool
-    ensures { λ r. ⌜ r ≡ tooLong p ⌝ }
-{
-    if 4 < p.levels {
-        return true;
-    }
-    let coordinates = p.coordinates;
-    8 < coordinates.many
-}
 
 // Whether the path ends here and no coordinates are given.
 fn ends_at(p: Region, depth: usize) -> bool

@@ -155,8 +155,5 @@ pub fn probe(table: &[u64], reals: &[f64], counts: &[u64], p: Region) -> axis::P
     if refused != 0 {
         return axis::Probed::Refused(refused);
     }
-    if descent::is_too_long(p) {
-        return axis::Probed::Refused(4);
-    }
     descent::probe_grid(table, reals, counts, 4, 0, p, 0)
 }
