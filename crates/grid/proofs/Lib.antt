@@ -30,5 +30,7 @@ pub mod Fitting
 pub mod Plans
 pub mod Unique
 pub mod Founds
+pub mod Trees
+pub mod Alike
 pub mod FoundedOwn
 pub mod FoundedTree
