@@ -34,3 +34,4 @@ pub mod Trees
 pub mod Alike
 pub mod FoundedOwn
 pub mod FoundedTree
+pub mod Turns

@@ -40,4 +40,3 @@ taken-counts b y = refl
 pub below : (b : BinsPlan) (ts : Trees) (y : Tally) → Upto (binsTaken b y) (after (bins b ts) y)
 unfolding after
 below b ts y = upto-all ts (binsTaken b y)
-
