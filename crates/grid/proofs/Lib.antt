@@ -35,3 +35,4 @@ pub mod Alike
 pub mod FoundedOwn
 pub mod FoundedTree
 pub mod Turns
+pub mod Adapts

@@ -1,5 +1,6 @@
 // Grids in lent memory.
 mod accounts;
+mod adapting;
 mod axes;
 mod clearing;
 mod copying;
