@@ -32,3 +32,4 @@ pub mod Unique
 pub mod Founds
 pub mod FoundedOwn
 pub mod FoundedTree
+pub mod Named

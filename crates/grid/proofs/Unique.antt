@@ -19,6 +19,8 @@ use Rattle.grid.proofs.fresh.Kinds as fresh-kinds
 use Rattle.grid.proofs.fresh.Reads as fresh-reads
 use Rattle.grid.proofs.live_estimate.Kinds as live-kinds
 use Rattle.grid.proofs.live_estimate.Reads as live-reads
+use Rattle.grid.proofs.live_estimate_of_bin.Kinds as live-of-bin-kinds
+use Rattle.grid.proofs.live_estimate_of_bin.Reads as live-of-bin-reads
 use Rattle.grid.proofs.summary.Kinds as summary-kinds
 use Rattle.grid.proofs.summary.Reads as summary-reads
 use Rattle.grid.proofs.probe.Kinds as probe-kinds
@@ -44,6 +46,13 @@ live-estimate-total κs a = tt
 pub live-estimate-unique : (κs : Lfts 3) (a : Dens κs live-kinds.ps) (r r′ : Estimated) (s s′ : AtExit (endedOf 3 live-kinds.ps live-kinds.r) κs)
     → live-reads.Post κs a r s → live-reads.Post κs a r′ s′ → r ≡ r′
 live-estimate-unique κs a r r′ s s′ p q = estimated-one r r′ (p ∙ sym q)
+
+pub live-estimate-of-bin-total : (κs : Lfts 3) (a : Dens κs live-of-bin-kinds.ps) → live-of-bin-reads.Pre κs a
+live-estimate-of-bin-total κs a = tt
+
+pub live-estimate-of-bin-unique : (κs : Lfts 3) (a : Dens κs live-of-bin-kinds.ps) (r r′ : Estimated) (s s′ : AtExit (endedOf 3 live-of-bin-kinds.ps live-of-bin-kinds.r) κs)
+    → live-of-bin-reads.Post κs a r s → live-of-bin-reads.Post κs a r′ s′ → r ≡ r′
+live-estimate-of-bin-unique κs a r r′ s s′ p q = estimated-one r r′ (p ∙ sym q)
 
 pub fresh-total : (κs : Lfts 4) (a : Dens κs fresh-kinds.ps) → fresh-reads.Pre κs a
 fresh-total κs a = tt

@@ -18,7 +18,8 @@ use Rattle.plan.specs.Calls.{measureOf, readPlanOf}
 use Rattle.grid.specs.Memory.{Memory, memory}
 use Rattle.grid.specs.Founded.{laidGrid}
 use Rattle.grid.specs.declared.Region.{Region}
-use Rattle.grid.specs.Sampled.{laidDrawing}
+use Rattle.grid.specs.Sampled.{entries, laidDrawing}
+use Rattle.grid.specs.Bins.{estimateAlong}
 use Rattle.grid.specs.Probed.{coordinatesOf, pathFrom}
 use Rattle.grid.specs.State.{rootOf, ownOf, stateFault}
 
@@ -43,6 +44,10 @@ summaryOf table reals counts = onState (stateFault table reals counts) (summariz
 
 unfoldable pub liveOf : List ℕ → List Float → List ℕ → Paper Estimate
 liveOf table reals counts = onState (stateFault table reals counts) (liveEstimateOf (ownOf (rootOf table reals counts)))
+
+-- that of the bin at the end of a path; past the fourth index, which no grid asks for, the path has zeros
+unfoldable pub liveOfBin : List ℕ → List Float → List ℕ → List ℕ → ℕ → Paper Estimate
+liveOfBin table reals counts path levels = onState (stateFault table reals counts) (estimateAlong (rootOf table reals counts) (entries 0 path 0 levels))
 
 -- ---- fresh
 

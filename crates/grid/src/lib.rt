@@ -1,5 +1,6 @@
 // Grids in lent memory.
 mod accounts;
+mod along;
 mod axes;
 mod clearing;
 mod copying;
@@ -25,7 +26,7 @@ ghost use Rattle.plan.specs.Paper.{gives, planRead, paperRead};
 ghost use Rattle.plan.specs.Calls.{measureOf};
 ghost use Rattle.grid.specs.Memory.{memory};
 ghost use Rattle.axis.specs.Calls.{paperProbed};
-ghost use Rattle.grid.specs.Calls.{drawnAs, drawOf, probeOf, summaryOf, liveOf, freshEnd, foundedOf, freshOf};
+ghost use Rattle.grid.specs.Calls.{drawnAs, drawOf, probeOf, summaryOf, liveOf, liveOfBin, freshEnd, foundedOf, freshOf};
 use accumulator::Estimated;
 use accumulator::Summed;
 use plan::Needs;
@@ -101,6 +102,23 @@ pub fn live_estimate(table: &[u64], reals: &[f64], counts: &[u64]) -> Estimated
         return Estimated::Refused(refused);
     }
     state::own(table, reals, counts).get_live_estimate()
+}
+
+// The same of the bin at the end of a path. Refused: 10, 12; along the path 4, 6; then 8.
+pub fn live_estimate_of_bin(
+    table: &[u64],
+    reals: &[f64],
+    counts: &[u64],
+    path: [usize; 4],
+    levels: usize,
+) -> Estimated
+    ensures { λ r. ⌜ paperEstimated r ≡ liveOfBin (now (table .entry)) (now (reals .entry)) (now (counts .entry)) path levels ⌝ }
+{
+    let refused = state::fault(table, reals, counts);
+    if refused != 0 {
+        return Estimated::Refused(refused);
+    }
+    along::estimate_along(table, reals, counts, 4, 0, path, levels, 0)
 }
 
 // Lays a plan's table and its fresh grid, where there is room for all of it. The answer is the plan's: its end and its needs, or a
