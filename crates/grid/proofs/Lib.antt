@@ -30,6 +30,9 @@ pub mod Fitting
 pub mod Plans
 pub mod Unique
 pub mod Founds
+pub mod Trees
+pub mod Alike
 pub mod FoundedOwn
 pub mod FoundedTree
 pub mod Named
+pub mod Turns

@@ -15,4 +15,5 @@ pub mod Probed
 pub mod State
 pub mod Founded
 pub mod Bins
+pub mod Turns
 pub mod Calls
