@@ -35,4 +35,5 @@ pub mod Alike
 pub mod FoundedOwn
 pub mod FoundedTree
 pub mod Named
+pub mod Clones
 pub mod Turns

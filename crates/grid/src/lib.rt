@@ -26,11 +26,12 @@ ghost use Rattle.plan.specs.Paper.{gives, planRead, paperRead};
 ghost use Rattle.plan.specs.Calls.{measureOf};
 ghost use Rattle.grid.specs.Memory.{memory};
 ghost use Rattle.axis.specs.Calls.{paperProbed};
-ghost use Rattle.grid.specs.Calls.{drawnAs, drawOf, probeOf, summaryOf, liveOf, liveOfBin, freshEnd, foundedOf, freshOf};
+ghost use Rattle.grid.specs.Calls.{drawnAs, drawOf, probeOf, summaryOf, liveOf, liveOfBin, freshEnd, foundedOf, freshOf, cloneEnd, cloneOf};
 use accumulator::Estimated;
 use accumulator::Summed;
 use plan::Needs;
 use plan::Read;
+use plan::Sized;
 
 // A sample: a bin for each bins grid on its path, a weight for each of them and for the axes grid at its end, and that grid's
 // coordinates. Of each as many are there as its number says.
@@ -162,6 +163,24 @@ fn found(
     let read = plan::read_plan(bytes, table);
     founding::lay_grid(table, reals, counts, 4, 0);
     read
+}
+
+// A copy without the samples that wait in the root, laid in other lent memory; the plan's table serves both. 0, or refused: 12, 10, 12,
+// the destination's room behind the source's. It stays then, and so does its room past the copy.
+pub fn clone_without_samples(
+    table: &[u64],
+    reals: &[f64],
+    counts: &[u64],
+    to_reals: &mut [f64],
+    to_counts: &mut [u64],
+) -> u64
+    ensures { λ n. ⌜ cloneEnd n (memory (now («to_reals» .exit)) (now («to_counts» .exit))) ≡
+        cloneOf (now (table .entry)) (memory (now (reals .entry)) (now (counts .entry))) (memory (now («to_reals» .entry)) (now («to_counts» .entry))) ⌝ }
+{
+    match plan::sizes(table) {
+        Sized::Plan(needs) => copying::copy_grid(table, reals, counts, to_reals, to_counts, needs),
+        Sized::Refused(_) => 12,
+    }
 }
 
 // The weight at a point, or over the region that open coordinates leave; where the path ends at a bin and no coordinates are given,
