@@ -1,3 +1,8 @@
+use mathlib.Core.Path.{sym}
+use Rattle.grid.specs.Memory.{memory}
+use Rattle.grid.specs.Calls.{cloneEnd}
+use Rattle.grid.proofs.States.{sizes-planned}
+use Rattle.grid.proofs.Clones.{clone-planned, clone-strayed}
 use borrow.Author.Needs.{needs}
 use Rattle.grid.proofs.clone_without_samples.Statement.{statement}
 use Rattle.grid.proofs.clone_without_samples.Tie as tie
@@ -16,7 +21,7 @@ enum-known-needs c = search needs
 
 -- src/lib.rt:181:31
 copy-grid-requires : tie.Need-copy-grid-requires
-copy-grid-requires c κs = ?
+copy-grid-requires c κs = sizes-planned (c .before .before .before .before .before .before .before .before .before .before .before .args .table .now) (c .before .before .before .before .before .sizes .result) (c .before .before .before .needs .given .0 .0) (c .before .before .before .before .before .sizes .ensures) (sym (c .before .before .before .needs .given .1))
 
 -- src/lib.rt:182:30
 enum-told : tie.Need-enum-told
@@ -32,11 +37,11 @@ same-length-2 c = search needs
 
 -- src/lib.rt:170:1
 returns : tie.Need-returns
-returns c = ?
+returns c = clone-planned (c .before .before .before .before .before .before .before .before .before .before .before .before .before .before .before .before .args .table .now) (memory (c .before .before .before .before .before .before .before .before .before .before .before .before .before .before .before .before .args .reals .now) (c .before .before .before .before .before .before .before .before .before .before .before .before .before .before .before .before .args .counts .now)) (memory (c .before .before .before .before .before .before .before .before .before .before .before .before .before .before .before .before .args .to-reals .now) (c .before .before .before .before .before .before .before .before .before .before .before .before .before .before .before .before .args .to-counts .now)) (c .before .before .before .before .before .before .before .before .before .before .sizes .result) (c .before .before .before .before .before .before .before .before .needs .given .0 .0) (cloneEnd (c .before .before .before .before .copy-grid .result) (memory (c .before .before .before .before .copy-grid .last .1 .1 .1 .0) (c .before .before .before .before .copy-grid .last .1 .1 .1 .1 .0))) (c .before .before .before .before .before .before .before .before .before .before .sizes .ensures) (sym (c .before .before .before .before .before .before .before .before .needs .given .1)) (c .before .before .before .before .copy-grid .ensures)
 
 -- src/lib.rt:170:1
 returns-2 : tie.Need-returns-2
-returns-2 c = ?
+returns-2 c = clone-strayed (c .before .before .before .before .before .before .before .before .args .table .now) (memory (c .before .before .before .before .before .before .before .before .args .reals .now) (c .before .before .before .before .before .before .before .before .args .counts .now)) (memory (c .before .before .before .before .before .before .before .before .args .to-reals .now) (c .before .before .before .before .before .before .before .before .args .to-counts .now)) (c .before .before .sizes .result) (c .enum-told .given .0 .0) (c .before .before .sizes .ensures) (sym (c .enum-told .given .1))
 
 pub clone-without-samples-spec : {M : Type 1} → statement M
 clone-without-samples-spec =
