@@ -36,4 +36,5 @@ pub mod FoundedOwn
 pub mod FoundedTree
 pub mod Named
 pub mod Clones
+pub mod Cloned
 pub mod Turns
