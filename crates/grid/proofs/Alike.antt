@@ -83,8 +83,7 @@ module _ (xs : List ℕ) (reals reals′ : List Float) (counts counts′ : List 
       node-axes l xs reals counts w (m .kind) ∙ ap model.axes there ∙ sym (node-axes l xs reals′ counts′ w (m .kind))
 
   module _ (l : ℕ) (deeper : Reads l) (b : BinsPlan) (ts : Trees) (y : Tally) (st : Stands xs (suc l) (bins b ts) y)
-      (h : after (bins b ts) y .reals ≤ length reals) (k : after (bins b ts) y .counts ≤ length counts)
-      (s : Alike nan (y .reals) (after (bins b ts) y .reals) reals reals′) (t : Alike 0 (y .counts) (after (bins b ts) y .counts) counts counts′) where
+      (h : after (bins b ts) y .reals ≤ length reals) (k : after (bins b ts) y .counts ≤ length counts) where
     abbrev own : Tally
     own = binsTaken b y
 
@@ -95,77 +94,86 @@ module _ (xs : List ℕ) (reals reals′ : List Float) (counts counts′ : List 
     unfolding childIn formedChild
     shown at z f = subst (λ (o : Bool). formedChild (cond o model.nothing (model.grid (gridAt l xs reals counts at))) ≡ true) (ne-eqb at 0 z) f
 
-    hung : (q : Tree) (u : Tally) (at : ℕ) → (q ≡ nothing → ⊥) → at ≡ u .words → 1 ≤ u .words → Stands xs l q u → formedChild (childIn (gridAt l xs reals counts) at) ≡ true
-        → y .reals ≤ u .reals → y .counts ≤ u .counts → after q u .reals ≤ end .reals → after q u .counts ≤ end .counts
-        → childIn (gridAt l xs reals counts) at ≡ childIn (gridAt l xs reals′ counts′) at
-    unfolding childIn
-    hung q u at there e n g f i j m o =
-        let z : at ≡ 0 → ⊥ = λ p. absurd (omega arith) in
-        let form : formedGrid (gridAt l xs reals counts (u .words)) ≡ true = sym (ap (λ (n : ℕ). formedGrid (gridAt l xs reals counts n)) e) ∙ shown at z f in
-        rw (ne-eqb at 0 z, e) (ap model.grid (deeper q u there g (omega (arith, h)) (omega (arith, k)) form
-        (alike-within nan (y .reals) (end .reals) (u .reals) (after q u .reals) reals reals′ i m s) (alike-within 0 (y .counts) (end .counts) (u .counts) (after q u .counts) counts counts′ j o t)))
+    -- what hangs there, out of memory that is alike past the grid's own
+    module _ (s : Alike nan (own .reals) (end .reals) reals reals′) (t : Alike 0 (own .counts) (end .counts) counts counts′) where
+      hung : (q : Tree) (u : Tally) (at : ℕ) → (q ≡ nothing → ⊥) → at ≡ u .words → 1 ≤ u .words → Stands xs l q u → formedChild (childIn (gridAt l xs reals counts) at) ≡ true
+          → own .reals ≤ u .reals → own .counts ≤ u .counts → after q u .reals ≤ end .reals → after q u .counts ≤ end .counts
+          → childIn (gridAt l xs reals counts) at ≡ childIn (gridAt l xs reals′ counts′) at
+      unfolding childIn
+      hung q u at there e n g f i j m o =
+          let z : at ≡ 0 → ⊥ = λ p. absurd (omega arith) in
+          let form : formedGrid (gridAt l xs reals counts (u .words)) ≡ true = sym (ap (λ (n : ℕ). formedGrid (gridAt l xs reals counts n)) e) ∙ shown at z f in
+          rw (ne-eqb at 0 z, e) (ap model.grid (deeper q u there g (omega (arith, h)) (omega (arith, k)) form
+          (alike-within nan (own .reals) (end .reals) (u .reals) (after q u .reals) reals reals′ i m s) (alike-within 0 (own .counts) (end .counts) (u .counts) (after q u .counts) counts counts′ j o t)))
 
-    pick : (q : Tree) (u : Tally) (at : ℕ) → at ≡ link q u → Stands xs l q u → Upto own u → Upto (after q u) end → formedChild (childIn (gridAt l xs reals counts) at) ≡ true
-        → childIn (gridAt l xs reals counts) at ≡ childIn (gridAt l xs reals′ counts′) at
-    unfolding link childIn
-    pick nothing u at e g v o f = rw e
-    pick (axes p es) u at e g v o f =
-        hung (axes p es) u at (axes-differ p es) e (omega (arith, v .words, taken-words b y)) g f (omega (arith, v .reals, taken-reals b y)) (omega (arith, v .counts, taken-counts b y)) (o .reals) (o .counts)
-    pick (bins p es) u at e g v o f =
-        hung (bins p es) u at (bins-differ p es) e (omega (arith, v .words, taken-words b y)) g f (omega (arith, v .reals, taken-reals b y)) (omega (arith, v .counts, taken-counts b y)) (o .reals) (o .counts)
+      pick : (q : Tree) (u : Tally) (at : ℕ) → at ≡ link q u → Stands xs l q u → Upto own u → Upto (after q u) end → formedChild (childIn (gridAt l xs reals counts) at) ≡ true
+          → childIn (gridAt l xs reals counts) at ≡ childIn (gridAt l xs reals′ counts′) at
+      unfolding link childIn
+      pick nothing u at e g v o f = rw e
+      pick (axes p es) u at e g v o f =
+          hung (axes p es) u at (axes-differ p es) e (omega (arith, v .words, taken-words b y)) g f (v .reals) (v .counts) (o .reals) (o .counts)
+      pick (bins p es) u at e g v o f =
+          hung (bins p es) u at (bins-differ p es) e (omega (arith, v .words, taken-words b y)) g f (v .reals) (v .counts) (o .reals) (o .counts)
 
-    -- what hangs at bin i
-    child-read : (i : ℕ) → i < b .bins → formedChild (childIn (gridAt l xs reals counts) (getD xs (y .words + 7 + i) 0)) ≡ true
-        → childIn (gridAt l xs reals counts) (getD xs (y .words + 7 + i) 0) ≡ childIn (gridAt l xs reals′ counts′) (getD xs (y .words + 7 + i) 0)
-    child-read i j f =
-        let c = child-record xs (suc l) b ts y i st j in
-        let level : suc l - 1 ≡ l = omega arith in
-        pick (childAt ts i) (before ts i own) (getD xs (y .words + 7 + i) 0) (c .linked) (subst (λ (n : ℕ). Stands xs n (childAt ts i) (before ts i own)) level (c .stands)) (c .behind) (c .inside) f
+      -- what hangs at bin i
+      pub child-read : (i : ℕ) → i < b .bins → formedChild (childIn (gridAt l xs reals counts) (getD xs (y .words + 7 + i) 0)) ≡ true
+          → childIn (gridAt l xs reals counts) (getD xs (y .words + 7 + i) 0) ≡ childIn (gridAt l xs reals′ counts′) (getD xs (y .words + 7 + i) 0)
+      child-read i j f =
+          let c = child-record xs (suc l) b ts y i st j in
+          let level : suc l - 1 ≡ l = omega arith in
+          pick (childAt ts i) (before ts i own) (getD xs (y .words + 7 + i) 0) (c .linked) (subst (λ (n : ℕ). Stands xs n (childAt ts i) (before ts i own)) level (c .stands)) (c .behind) (c .inside) f
 
-    -- the last n bins, from bin i on
-    bins-read : (n i : ℕ) → i + n ≡ b .bins → formedBins (binsIn (gridAt l xs reals counts) xs reals counts (y .words) i n) ≡ true
-        → binsIn (gridAt l xs reals counts) xs reals counts (y .words) i n ≡ binsIn (gridAt l xs reals′ counts′) xs reals′ counts′ (y .words) i n
-    unfolding binsIn binIn formedBins binsRow
-    bins-read zero i e f = refl
-    bins-read (suc n) i e f =
-        let w = y .words in
-        let m = bins-record xs (suc l) b ts y st in
-        let bns : getD xs (w + 2) 0 ≡ b .bins = ap (λ (a : BinsPlan). a .bins) (m .numbers) in
-        let rr : getD xs (w + 5) 0 ≡ y .reals = m .reals in
-        let cc : getD xs (w + 6) 0 ≡ y .counts = m .counts in
-        let up = below b ts y in
-        let er = taken-reals b y in
-        let ec = taken-counts b y in
-        let form = both (chance (binIn xs reals counts w i .probability)) _ f .1 in
-        let parts = both (formedChild (childIn (gridAt l xs reals counts) (getD xs (w + 7 + i) 0))) (formedBins (binsIn (gridAt l xs reals counts) xs reals counts w (i + 1) n)) form in
-        let R = getD xs (w + 5) 0 + 14 + getD xs (w + 2) 0 + 14 * i in
-        let C = getD xs (w + 6) 0 + 7 + 7 * i in
-        let p : getD reals (getD xs (w + 5) 0 + 14 + i) nan ≡ getD reals′ (getD xs (w + 5) 0 + 14 + i) nan = s .cells (getD xs (w + 5) 0 + 14 + i) (omega arith) (omega (arith, up .reals)) in
-        let a : recordAt reals counts R C ≡ recordAt reals′ counts′ R C =
-        record-alike R C reals reals′ counts counts′ (alike-within nan (y .reals) (end .reals) R (R + 14) reals reals′ (omega arith) (omega (arith, up .reals)) s)
-        (alike-within 0 (y .counts) (end .counts) C (C + 7) counts counts′ (omega arith) (omega (arith, up .counts)) t) in
-        rw (p, a, child-read i (omega arith) (parts .0), bins-read n (i + 1) (omega arith) (parts .1))
+    module _ (s : Alike nan (y .reals) (end .reals) reals reals′) (t : Alike 0 (y .counts) (end .counts) counts counts′) where
+      abbrev past-reals : Alike nan (own .reals) (end .reals) reals reals′
+      past-reals = alike-within nan (y .reals) (end .reals) (own .reals) (end .reals) reals reals′ (omega (arith, taken-reals b y)) (omega arith) s
 
-    node-read : formedGrid (gridAt (suc l) xs reals counts (y .words)) ≡ true → gridAt (suc l) xs reals counts (y .words) ≡ gridAt (suc l) xs reals′ counts′ (y .words)
-    unfolding gridAt nodeAt headAt formedGrid binsRow
-    node-read f =
-        let w = y .words in
-        let m = bins-record xs (suc l) b ts y st in
-        let bns : getD xs (w + 2) 0 ≡ b .bins = ap (λ (a : BinsPlan). a .bins) (m .numbers) in
-        let rr : getD xs (w + 5) 0 ≡ y .reals = m .reals in
-        let cc : getD xs (w + 6) 0 ≡ y .counts = m .counts in
-        let up = below b ts y in
-        let er = taken-reals b y in
-        let ec = taken-counts b y in
-        let z : getD xs w 0 ≡ 1 → ⊥ = λ e. absurd (omega (arith, m .kind)) in
-        let R = getD xs (w + 5) 0 in
-        let C = getD xs (w + 6) 0 in
-        let a : recordAt reals counts R C ≡ recordAt reals′ counts′ R C =
-        record-alike R C reals reals′ counts counts′ (alike-within nan (y .reals) (end .reals) R (R + 14) reals reals′ (omega arith) (omega (arith, up .reals)) s)
-        (alike-within 0 (y .counts) (end .counts) C (C + 7) counts counts′ (omega arith) (omega (arith, up .counts)) t) in
-        let form : formedBins (binsIn (gridAt l xs reals counts) xs reals counts w 0 (getD xs (w + 2) 0)) ≡ true =
-        subst (λ (o : Bool). formedGrid (cond o (model.axes (axesGridAt xs reals counts w)) (model.bins (headAt xs reals counts w) (binsIn (gridAt l xs reals counts) xs reals counts w 0 (getD xs (w + 2) 0)))) ≡ true) (ne-eqb (getD xs w 0) 1 z) f in
-        rw (ne-eqb (getD xs w 0) 1 z, a, bins-read (getD xs (w + 2) 0) 0 (omega arith) form)
+      abbrev past-counts : Alike 0 (own .counts) (end .counts) counts counts′
+      past-counts = alike-within 0 (y .counts) (end .counts) (own .counts) (end .counts) counts counts′ (omega (arith, taken-counts b y)) (omega arith) t
+
+      -- the last n bins, from bin i on
+      bins-read : (n i : ℕ) → i + n ≡ b .bins → formedBins (binsIn (gridAt l xs reals counts) xs reals counts (y .words) i n) ≡ true
+          → binsIn (gridAt l xs reals counts) xs reals counts (y .words) i n ≡ binsIn (gridAt l xs reals′ counts′) xs reals′ counts′ (y .words) i n
+      unfolding binsIn binIn formedBins binsRow
+      bins-read zero i e f = refl
+      bins-read (suc n) i e f =
+          let w = y .words in
+          let m = bins-record xs (suc l) b ts y st in
+          let bns : getD xs (w + 2) 0 ≡ b .bins = ap (λ (a : BinsPlan). a .bins) (m .numbers) in
+          let rr : getD xs (w + 5) 0 ≡ y .reals = m .reals in
+          let cc : getD xs (w + 6) 0 ≡ y .counts = m .counts in
+          let up = below b ts y in
+          let er = taken-reals b y in
+          let ec = taken-counts b y in
+          let form = both (chance (binIn xs reals counts w i .probability)) _ f .1 in
+          let parts = both (formedChild (childIn (gridAt l xs reals counts) (getD xs (w + 7 + i) 0))) (formedBins (binsIn (gridAt l xs reals counts) xs reals counts w (i + 1) n)) form in
+          let R = getD xs (w + 5) 0 + 14 + getD xs (w + 2) 0 + 14 * i in
+          let C = getD xs (w + 6) 0 + 7 + 7 * i in
+          let p : getD reals (getD xs (w + 5) 0 + 14 + i) nan ≡ getD reals′ (getD xs (w + 5) 0 + 14 + i) nan = s .cells (getD xs (w + 5) 0 + 14 + i) (omega arith) (omega (arith, up .reals)) in
+          let a : recordAt reals counts R C ≡ recordAt reals′ counts′ R C =
+          record-alike R C reals reals′ counts counts′ (alike-within nan (y .reals) (end .reals) R (R + 14) reals reals′ (omega arith) (omega (arith, up .reals)) s)
+          (alike-within 0 (y .counts) (end .counts) C (C + 7) counts counts′ (omega arith) (omega (arith, up .counts)) t) in
+          rw (p, a, child-read past-reals past-counts i (omega arith) (parts .0), bins-read n (i + 1) (omega arith) (parts .1))
+
+      node-read : formedGrid (gridAt (suc l) xs reals counts (y .words)) ≡ true → gridAt (suc l) xs reals counts (y .words) ≡ gridAt (suc l) xs reals′ counts′ (y .words)
+      unfolding gridAt nodeAt headAt formedGrid binsRow
+      node-read f =
+          let w = y .words in
+          let m = bins-record xs (suc l) b ts y st in
+          let bns : getD xs (w + 2) 0 ≡ b .bins = ap (λ (a : BinsPlan). a .bins) (m .numbers) in
+          let rr : getD xs (w + 5) 0 ≡ y .reals = m .reals in
+          let cc : getD xs (w + 6) 0 ≡ y .counts = m .counts in
+          let up = below b ts y in
+          let er = taken-reals b y in
+          let ec = taken-counts b y in
+          let z : getD xs w 0 ≡ 1 → ⊥ = λ e. absurd (omega (arith, m .kind)) in
+          let R = getD xs (w + 5) 0 in
+          let C = getD xs (w + 6) 0 in
+          let a : recordAt reals counts R C ≡ recordAt reals′ counts′ R C =
+          record-alike R C reals reals′ counts counts′ (alike-within nan (y .reals) (end .reals) R (R + 14) reals reals′ (omega arith) (omega (arith, up .reals)) s)
+          (alike-within 0 (y .counts) (end .counts) C (C + 7) counts counts′ (omega arith) (omega (arith, up .counts)) t) in
+          let form : formedBins (binsIn (gridAt l xs reals counts) xs reals counts w 0 (getD xs (w + 2) 0)) ≡ true =
+          subst (λ (o : Bool). formedGrid (cond o (model.axes (axesGridAt xs reals counts w)) (model.bins (headAt xs reals counts w) (binsIn (gridAt l xs reals counts) xs reals counts w 0 (getD xs (w + 2) 0)))) ≡ true) (ne-eqb (getD xs w 0) 1 z) f in
+          rw (ne-eqb (getD xs w 0) 1 z, a, bins-read (getD xs (w + 2) 0) 0 (omega arith) form)
 
   pub grid-alike : (l : ℕ) → Reads l
   grid-alike zero nothing y g st h k f s t = absurd (g refl)

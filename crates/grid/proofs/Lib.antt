@@ -34,5 +34,8 @@ pub mod Trees
 pub mod Alike
 pub mod FoundedOwn
 pub mod FoundedTree
+pub mod Named
+pub mod Clones
+pub mod Cloned
 pub mod Turns
 pub mod Adapts
