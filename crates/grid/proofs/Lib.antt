@@ -39,3 +39,4 @@ pub mod Clones
 pub mod Cloned
 pub mod Turns
 pub mod Adapts
+pub mod Spares

@@ -27,6 +27,9 @@ use Rattle.grid.proofs.live_estimate_of_bin.Reads as live-of-bin-reads
 use Rattle.grid.proofs.summary.Kinds as summary-kinds
 use Rattle.grid.proofs.summary.Reads as summary-reads
 use Rattle.grid.proofs.probe.Kinds as probe-kinds
+use Rattle.grid.proofs.update.Kinds as update-kinds
+use Rattle.grid.proofs.update.Reads as update-reads
+use Rattle.grid.specs.Calls.{UpdateEnd}
 use Rattle.grid.proofs.probe.Reads as probe-reads
 
 pub draw-total : (κs : Lfts 3) (a : Dens κs draw-kinds.ps) → draw-reads.Pre κs a
@@ -85,3 +88,13 @@ probe-total κs a = tt
 pub probe-unique : (κs : Lfts 3) (a : Dens κs probe-kinds.ps) (r r′ : Probed) (s s′ : AtExit (endedOf 3 probe-kinds.ps probe-kinds.r) κs)
     → probe-reads.Post κs a r s → probe-reads.Post κs a r′ s′ → r ≡ r′
 probe-unique κs a r r′ s s′ p q = probed-one r r′ (p ∙ sym q)
+
+pub update-total : (κs : Lfts 5) (a : Dens κs update-kinds.ps) → update-reads.Pre κs a
+update-total κs a = tt
+
+-- the answer, and every entry of the state; the spare is left open
+pub update-unique : (κs : Lfts 5) (a : Dens κs update-kinds.ps) (r r′ : ℕ) (s s′ : AtExit (endedOf 5 update-kinds.ps update-kinds.r) κs)
+    → update-reads.Post κs a r s → update-reads.Post κs a r′ s′ → (r ≡ r′) × (now (s .1 .0) ≡ now (s′ .1 .0)) × (now (s .1 .1 .0) ≡ now (s′ .1 .1 .0))
+update-unique κs a r r′ s s′ p q =
+    let e = p ∙ sym q in
+    (ap (λ (x : UpdateEnd). x .answer) e, ap (λ (x : UpdateEnd). x .state .reals) e, ap (λ (x : UpdateEnd). x .state .counts) e)
