@@ -40,3 +40,4 @@ pub mod Cloned
 pub mod Turns
 pub mod Adapts
 pub mod Spares
+pub mod AdaptedTree
