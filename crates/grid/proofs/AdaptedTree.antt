@@ -3,13 +3,13 @@
 use mathlib.Core.Path.{_≡_, refl, sym, ap, ap₂, _∙_, subst}
 use mathlib.Core.Logic.{_≢_}
 use mathlib.Core.Bool.{Bool, true, false, not, _&&_, _||_, cond, true≢false, or-false}
-use mathlib.Core.List.{List, [], _∷_}
+use mathlib.Core.List.{List, [], _∷_, map}
 use Prim.Native.Nat.{ℕ, zero, suc, _+_, _-_, _*_, _≤_, _<_}
 use native.Mathlib.Omega.{arith}
 use borrow.Author.Tests.{ne-eqb, eqb-true, eqb-false}
 use lib.Dec.{eqb}
-use lib.ListN.{length, getD}
-use lib.Ieee.{Float, nan, binary64, ofBits, eq}
+use lib.ListN.{length, getD, length-map}
+use lib.Ieee.{Float, nan, binary64, ofBits, div, eq}
 use Rattle.real.specs.Numbers.{zero64}
 use Rattle.real.proofs.Truth.{both}
 use Rattle.accumulator.specs.declared.StatisticsAccumulator.{StatisticsAccumulator}
@@ -20,21 +20,41 @@ use Rattle.plan.specs.Numbers.{wordsAt}
 use Rattle.model.specs.Axes.{Axis, AxesGrid}
 use Rattle.model.specs.Grid as model
 use Rattle.model.specs.Sound.{sound}
-use Rattle.model.specs.Update.{Outcome, updateAll, updateAxes}
+use Rattle.real.specs.Total.{totalOf}
+use Rattle.recut.specs.Chances.{allChances, highest, raisedTo, shareOf, adaptedTo}
+use Rattle.model.specs.Update.{Outcome, updateAll, updateAxes, allIdle, raws, withProbabilities, nested, updateGrid, updateBins, updateChild}
 use Rattle.grid.specs.Layout.{axesFrom}
-use Rattle.grid.specs.Memory.{Memory, memory, recordAt, stored}
+use Rattle.grid.specs.Memory.{Memory, memory, put, recordAt, stored}
 use Rattle.grid.specs.Judged.{axesFit, AllUpto}
-use Rattle.grid.specs.Tree.{axesPlanAt, axesPlace, axesGridAt, AxesLaid}
+use Rattle.grid.specs.Tree.{axesPlanAt, axesPlace, axesGridAt, headAt, binIn, childIn, binsIn, AxesLaid}
+use Rattle.grid.specs.Founded.{freshChildren}
 use Rattle.grid.specs.Renewed.{planOf, finding, updateAllAt}
-use Rattle.grid.specs.Adapted.{followed, accountStepped, accountUpdated, accountsUpdated, ruleAt, axesUpdated}
-use Rattle.grid.proofs.Same.{Same, same-refl, same-on, same-sym, same-within}
+use Rattle.grid.specs.Adapted.{followed, accountStepped, accountUpdated, accountsUpdated, ruleAt, axesUpdated, averagesAt, idleIn, rawsIn, chancesLaid, chancesAdapted}
+use Rattle.grid.proofs.Same.{Same, same-refl, same-on, same-sym, same-within, length-put, getD-put-in, same-put-below, same-put-above}
 use Rattle.grid.proofs.Reading.{record-same, record-stored, axes-same}
 use Rattle.grid.proofs.Judges.{fit-stands}
 use Rattle.grid.proofs.Sounds.{numbers-upto, sound-axes}
 use Rattle.grid.proofs.Renewals.{within-all}
 use Rattle.grid.proofs.Updates.{standing-ready, readAxes, updates-below, updates-above, updated-axes, updates-holding}
 use Rattle.grid.proofs.FoundedOwn.{Within, within-same, within-on, stored-within}
-use Rattle.grid.proofs.Turns.{Turned, no-either}
+use Rattle.grid.proofs.Turns.{Turned, no-either, childAfter, childrenAfter}
+use Rattle.plan.specs.declared.Tally.{Tally}
+use Rattle.plan.specs.declared.BinsPlan.{BinsPlan}
+use Rattle.plan.specs.declared.AxesPlan as planned
+use Rattle.plan.specs.Plan.{Tree, Trees, nothing, axes, bins}
+use Rattle.plan.specs.Needs.{axesReals, axesCounts, axesTaken, binsTaken, after, untaken, needsOf}
+use Rattle.plan.specs.Walk.{axesRow, binsRow}
+use Rattle.plan.proofs.Records.{Stands, axes-record, bins-record}
+use Rattle.model.specs.Sound.{chance, formedGrid, keptGrid}
+use Rattle.grid.specs.Judged.{soundBin, soundBins}
+use Rattle.grid.specs.Tree.{gridAt, nodeAt}
+use Rattle.grid.specs.Turns.{childrenTurned}
+use Rattle.grid.specs.Adapted.{binsAdapted, nodeUpdated, updatedIn}
+use Rattle.grid.proofs.Sounds.{sound-more, sound-bins, child-grid, node-axes}
+use Rattle.grid.proofs.Laid.{stands-laid, laid-axes}
+use Rattle.grid.proofs.Trees.{axes-differ, before-none, taken-reals, taken-counts, below}
+use Rattle.grid.proofs.Turns.{children-turned}
+use Rattle.grid.proofs.Adapts.{grid-updated-axes}
 
 -- ---- an accumulator
 
@@ -209,3 +229,240 @@ module _ (table : List ℕ) (w : ℕ) where
             (same-within 0 (place i) (BC + 7 + 7 * BN) (place (i + 1)) (BC + 7 + 7 * BN) (last .counts) v (omega arith) (omega arith) z) in
             from-first (λ (m : ℕ). recordAt u v (spot m) (place m) ≡ updatedOf false (B m)) i j x first others;
       }
+
+  -- ---- its own: probabilities and accumulator
+
+  abbrev ratio : Float
+  ratio = ofBits binary64 (getD table (w + 3) 0)
+
+  abbrev chances : Memory → List Float
+  chances s = adaptedTo ratio (rawsIn table s w 0 BN)
+
+  raws-length : (s : Memory) (i k : ℕ) → length (rawsIn table s w i k) ≡ k
+  unfolding rawsIn
+  raws-length s i zero = refl
+  raws-length s i (suc k) = ap suc (raws-length s (i + 1) k)
+
+  chances-length : (s : Memory) → length (chances s) ≡ BN
+  unfolding adaptedTo
+  chances-length s =
+      let rs = rawsIn table s w 0 BN in
+      let qs = map (raisedTo (div binary64 (highest zero64 rs) ratio)) rs in
+      length-map qs (shareOf (totalOf zero64 qs)) ∙ length-map rs (raisedTo (div binary64 (highest zero64 rs) ratio)) ∙ raws-length s 0 BN
+
+  record Own (own : StatisticsAccumulator) (ps : List Float) (s : Memory) (o : Outcome Memory) : Type 0 where
+    within : Within BR (BR + 14 + BN) BC (BC + 7) s (o .after)
+    eight : o .eight ≡ not (wellFormed (updatedOf false own))
+    nine : not (wellFormed (updatedOf false own)) ≡ false → o .nine ≡ not (allChances ps)
+    reads : not (wellFormed (updatedOf false own)) ≡ false → (a : List Float) (b : List ℕ) → Same nan BR (BR + 14 + BN) (o .after .reals) a → Same 0 BC (BC + 7) (o .after .counts) b
+        → recordAt a b BR BC ≡ updatedOf false own
+    shares : (a : List Float) → Same nan BR (BR + 14 + BN) (o .after .reals) a → (q : ℕ) → q < BN → getD a (BR + 14 + q) nan ≡ getD ps q nan
+
+  own-turned : (own : StatisticsAccumulator) (s : Memory) → BR + 14 + 15 * BN ≤ length (s .reals) → BC + 7 + 7 * BN ≤ length (s .counts) → recordAt (s .reals) (s .counts) BR BC ≡ own → wellFormed own ≡ true
+      → Own own (chances s) s (followed (chancesAdapted table w s) (accountUpdated BR BC))
+  unfolding followed chancesAdapted chancesLaid accountAfter
+  own-turned own s h k e well =
+      let ps = chances s in
+      let n = chances-length s in
+      let s₁ = memory (put (BR + 14) (length ps) ps (s .reals)) (s .counts) in
+      let size : length (s₁ .reals) ≡ length (s .reals) = length-put (BR + 14) (length ps) ps (s .reals) (omega arith) refl in
+      let laid : Within (BR + 14) (BR + 14 + BN) BC (BC + 7) s s₁ =
+      record {
+        low = λ lo hi x. same-put-above nan lo hi (BR + 14) (length ps) ps (s .reals) (omega arith) refl x;
+        high = λ lo hi x. same-put-below nan lo hi (BR + 14) (length ps) ps (s .reals) (omega arith) refl (omega arith);
+        few = λ lo hi x. same-refl 0 lo hi (s .counts);
+        many = λ lo hi x. same-refl 0 lo hi (s .counts);
+      } in
+      let mine : recordAt (s₁ .reals) (s₁ .counts) BR BC ≡ own = record-same BR BC (s₁ .reals) (s .reals) (s₁ .counts) (s .counts) (laid .low BR (BR + 14) (omega arith)) (same-refl 0 BC (BC + 7) (s .counts)) ∙ e in
+      let a = account-turned BR BC s₁ (omega arith) (omega arith) (ap wellFormed mine ∙ well) in
+      let s₂ = accountUpdated BR BC s₁ .after in
+      let keeps : not (wellFormed (updatedOf false own)) ≡ false → not (wellFormed (updatedOf false (recordAt (s₁ .reals) (s₁ .counts) BR BC))) ≡ false = λ x. ap (λ (z : StatisticsAccumulator). not (wellFormed (updatedOf false z))) mine ∙ x in
+      record {
+        within = within-on BR (BR + 14 + BN) BC (BC + 7) (BR + 14) (BR + 14 + BN) BC (BC + 7) BR (BR + 14) BC (BC + 7) s s₁ s₂ (omega arith) (omega arith) (omega arith) (omega arith) (omega arith) (omega arith) (omega arith) (omega arith) laid (a .within);
+        eight = a .eight ∙ ap (λ (z : StatisticsAccumulator). not (wellFormed (updatedOf false z))) mine;
+        nine = λ x. ap (λ (z : Bool). not (allChances ps) || z) (a .nine (keeps x)) ∙ or-false (not (allChances ps));
+        reads = λ x u v p q. a .reads (keeps x) u v (same-within nan BR (BR + 14 + BN) BR (BR + 14) (s₂ .reals) u (omega arith) (omega arith) p) q ∙ ap (updatedOf false) mine;
+        shares = λ u p q l.
+            sym (p .cells (BR + 14 + q) (omega arith) (omega arith)) ∙ a .within .high (BR + 14) (BR + 14 + BN) (omega arith) .cells (BR + 14 + q) (omega arith) (omega arith)
+            ∙ getD-put-in nan (BR + 14) (length ps) q ps (s .reals) (omega arith) (omega arith);
+      }
+
+-- ---- bins over what hangs there
+
+unfoldable overlaid : (ℕ → model.Bin) → ℕ → List model.Child → model.Bins
+overlaid bin i [] = model.none
+overlaid bin i (c ∷ cs) = model.more (bin i) c (overlaid bin (i + 1) cs)
+
+overlaid-same : (bin bin′ : ℕ → model.Bin) (i n : ℕ) (cs : List model.Child) → i + length cs ≡ n → ((j : ℕ) → i ≤ j → j < n → bin j ≡ bin′ j) → overlaid bin i cs ≡ overlaid bin′ i cs
+unfolding overlaid
+overlaid-same bin bin′ i n [] e h = refl
+overlaid-same bin bin′ i n (c ∷ cs) e h = rw (h i (omega arith) (omega arith), overlaid-same bin bin′ (i + 1) n cs (omega arith) (λ j x. h j (omega arith)))
+
+overlaid-chances : (bin bin′ : ℕ → model.Bin) (i : ℕ) (cs : List model.Child) (ps : List Float) → length ps ≡ length cs
+    → ((q : ℕ) → q < length cs → bin′ (i + q) ≡ record { probability = getD ps q nan; own = bin (i + q) .own }) → withProbabilities (overlaid bin i cs) ps ≡ overlaid bin′ i cs
+unfolding overlaid withProbabilities
+overlaid-chances bin bin′ i [] ps e h = refl
+overlaid-chances bin bin′ i (c ∷ cs) [] e h = absurd (omega arith)
+overlaid-chances bin bin′ i (c ∷ cs) (p ∷ ps) e h =
+    let z : i + 0 ≡ i = omega arith in
+    let first : bin′ i ≡ record { probability = p; own = bin i .own } = subst (λ (j : ℕ). bin′ j ≡ record { probability = p; own = bin j .own }) z (h 0 (omega arith)) in
+    let rest = overlaid-chances bin bin′ (i + 1) cs ps (omega arith) (λ q x.
+    let y : i + suc q ≡ i + 1 + q = omega arith in
+    subst (λ (j : ℕ). bin′ j ≡ record { probability = getD ps q nan; own = bin j .own }) y (h (suc q) (omega arith))) in
+    rw (first, rest)
+
+or-shuffle : (a x b y : Bool) → ((a || x) || (b || y)) ≡ ((a || b) || (x || y))
+or-shuffle true x b y = refl
+or-shuffle false true true y = refl
+or-shuffle false true false y = refl
+or-shuffle false false b y = refl
+
+module _ (f : ℕ → model.Grid) (table : List ℕ) (reals : List Float) (counts : List ℕ) (w : ℕ) where
+  bins-overlaid : (i n : ℕ) → binsIn f table reals counts w i n ≡ overlaid (binIn table reals counts w) i (freshChildren f table w i n)
+  unfolding overlaid binsIn freshChildren
+  bins-overlaid i zero = refl
+  bins-overlaid i (suc n) = rw (bins-overlaid (i + 1) n)
+
+  idle-read : (i n : ℕ) → idleIn table (memory reals counts) w i n ≡ allIdle (averagesAt table w) (binsIn f table reals counts w i n)
+  unfolding idleIn binsIn allIdle
+  idle-read i zero = refl
+  idle-read i (suc n) = rw (idle-read (i + 1) n)
+
+  raws-read : (i n : ℕ) → rawsIn table (memory reals counts) w i n ≡ raws (averagesAt table w) (binsIn f table reals counts w i n)
+  unfolding rawsIn binsIn raws
+  raws-read i zero = refl
+  raws-read i (suc n) = rw (raws-read (i + 1) n)
+
+  module _ (binsRate axesRate : Float) where
+    abbrev step : ℕ → Outcome model.Grid
+    step at = updateGrid binsRate axesRate (f at)
+
+    abbrev after-bin : ℕ → model.Bin
+    after-bin j = model.withBin (binIn table reals counts w j) (updatedOf false (binIn table reals counts w j .own))
+
+    child-updated : (at : ℕ) → updateChild binsRate axesRate (childIn f at) ≡ childAfter step at
+    unfolding childIn childAfter updateChild
+    child-updated at = pick (eqb at 0)
+      where
+        pick : (b : Bool) → updateChild binsRate axesRate (cond b model.nothing (model.grid (f at))) ≡ cond b (record { eight = false; nine = false; after = model.nothing }) (nested (step at))
+        pick true = refl
+        pick false = refl
+
+    -- the bins' update is the children's and the accumulators'
+    bins-updated : (i n : ℕ) → updateBins binsRate axesRate (binsIn f table reals counts w i n) ≡ record {
+      eight = childrenAfter step table w i n .eight || badOf (λ (j : ℕ). binIn table reals counts w j .own) i n;
+      nine = childrenAfter step table w i n .nine;
+      after = overlaid after-bin i (childrenAfter step table w i n .after);
+    }
+    unfolding binsIn updateBins childrenAfter badOf overlaid
+    bins-updated i zero = refl
+    bins-updated i (suc n) =
+        rw (child-updated (getD table (w + 7 + i) 0), bins-updated (i + 1) n,
+        or-shuffle (childAfter step (getD table (w + 7 + i) 0) .eight) (not (wellFormed (updatedOf false (binIn table reals counts w i .own)))) (childrenAfter step table w (i + 1) n .eight) (badOf (λ (j : ℕ). binIn table reals counts w j .own) (i + 1) n))
+
+    after-length : (i n : ℕ) → length (childrenAfter step table w i n .after) ≡ n
+    unfolding childrenAfter
+    after-length i zero = refl
+    after-length i (suc n) = ap suc (after-length (i + 1) n)
+
+-- ---- a sound bins grid: its own, its bins and what hangs there
+
+module _ (f : ℕ → model.Grid) (table : List ℕ) (reals : List Float) (counts : List ℕ) (w : ℕ) where
+  sound-each : (n i : ℕ) → soundBins (binsIn f table reals counts w i n) ≡ true → (j : ℕ) → i ≤ j → j < i + n → soundBin (binIn table reals counts w j) (childIn f (getD table (w + 7 + j) 0)) ≡ true
+  unfolding binsIn
+  sound-each zero i e j h k = absurd (omega arith)
+  sound-each (suc n) i e j h k =
+      let p = both (soundBin (binIn table reals counts w i) (childIn f (getD table (w + 7 + i) 0))) (soundBins (binsIn f table reals counts w (i + 1) n))
+      (sym (sound-more (binIn table reals counts w i) (childIn f (getD table (w + 7 + i) 0)) (binsIn f table reals counts w (i + 1) n)) ∙ e) in
+      from-first (λ (m : ℕ). soundBin (binIn table reals counts w m) (childIn f (getD table (w + 7 + m) 0)) ≡ true) i j h (p .0) (λ g. sound-each n (i + 1) (p .1) j g (omega arith))
+
+  sound-own : (b : model.Bin) (c : model.Child) → soundBin b c ≡ true → wellFormed (b .own) ≡ true
+  unfolding soundBin
+  sound-own b c e = both (chance (b .probability)) (wellFormed (b .own)) (both (chance (b .probability) && wellFormed (b .own)) _ e .0) .1
+
+  sound-hung : (b : model.Bin) (link : ℕ) → link ≢ 0 → soundBin b (childIn f link) ≡ true → sound (f link) ≡ true
+  sound-hung b link z e = both (chance (b .probability) && wellFormed (b .own)) (sound (f link)) (sym (child-grid f b link z) ∙ e) .1
+
+-- ---- the tree
+
+module _ (xs : List ℕ) (binsRate axesRate : Float) where
+  abbrev Deep : ℕ → Type 0
+  Deep l = (t : Tree) (u : Tally) (s : Memory) → (t ≡ nothing → ⊥) → Stands xs l t u → after t u .reals ≤ length (s .reals) → after t u .counts ≤ length (s .counts)
+      → sound (gridAt l xs (s .reals) (s .counts) (u .words)) ≡ true
+      → Turned (u .reals) (after t u .reals) (u .counts) (after t u .counts) s (updatedIn l xs binsRate axesRate (u .words) s) (λ (a : List Float) (b : List ℕ). gridAt l xs a b (u .words))
+      (updateGrid binsRate axesRate (gridAt l xs (s .reals) (s .counts) (u .words)))
+
+  module _ (l : ℕ) (deeper : Deep l) (b : BinsPlan) (ts : Trees) (y : Tally) (st : Stands xs (suc l) (bins b ts) y) (s : Memory)
+      (room : after (bins b ts) y .reals ≤ length (s .reals)) (places : after (bins b ts) y .counts ≤ length (s .counts)) where
+    abbrev w : ℕ
+    w = y .words
+
+    abbrev own : Tally
+    own = binsTaken b y
+
+    abbrev end : Tally
+    end = after (bins b ts) y
+
+    abbrev N : ℕ
+    N = BN xs w
+
+    abbrev G : ℕ → model.Grid
+    G = gridAt l xs (s .reals) (s .counts)
+
+    abbrev held : model.Bins
+    held = binsIn G xs (s .reals) (s .counts) w 0 N
+
+    abbrev head : model.Head
+    head = headAt xs (s .reals) (s .counts) w
+
+    abbrev B : ℕ → StatisticsAccumulator
+    B j = binIn xs (s .reals) (s .counts) w j .own
+
+    module _ (well : sound (model.bins head held) ≡ true) where
+      parts : (wellFormed (head .own) ≡ true) × (soundBins held ≡ true)
+      parts = both (wellFormed (head .own)) (soundBins held) (sound-bins head held ∙ well)
+
+      each : (j : ℕ) → j < N → soundBin (binIn xs (s .reals) (s .counts) w j) (childIn G (getD xs (w + 7 + j) 0)) ≡ true
+      each j h = sound-each G xs (s .reals) (s .counts) w N 0 (parts .1) j (omega arith) (omega arith)
+
+      abbrev children : Outcome Memory
+      children = childrenTurned (updatedIn l xs binsRate axesRate) xs w 0 N s
+
+      abbrev s₁ : Memory
+      s₁ = children .after
+
+      abbrev accounts : Outcome Memory
+      accounts = accountsUpdated xs w 0 N s₁
+
+      abbrev s₂ : Memory
+      s₂ = accounts .after
+
+      abbrev hung : Outcome (List model.Child)
+      hung = childrenAfter (λ (at : ℕ). updateGrid binsRate axesRate (G at)) xs w 0 N
+
+      record Places : Type 0 where
+        number : N ≡ b .bins
+        reals : BR xs w ≡ y .reals
+        counts : BC xs w ≡ y .counts
+        ends : own .reals ≡ BR xs w + 14 + 15 * N
+        stops : own .counts ≡ BC xs w + 7 + 7 * N
+        up : own .reals ≤ end .reals
+        on : own .counts ≤ end .counts
+
+      laid : Places
+      unfolding binsRow
+      laid =
+          let m = bins-record xs (suc l) b ts y st in
+          let n : N ≡ b .bins = ap (λ (a : BinsPlan). a .bins) (m .numbers) in
+          let r = taken-reals b y in
+          let c = taken-counts b y in
+          record { number = n; reals = m .reals; counts = m .counts; ends = omega (arith, r, m .reals, n); stops = omega (arith, c, m .counts, n); up = below b ts y .reals; on = below b ts y .counts }
+
+      turned-children : Turned (own .reals) (end .reals) (own .counts) (end .counts) s children (λ (a : List Float) (z : List ℕ). freshChildren (gridAt l xs a z) xs w 0 N) hung
+      unfolding sound
+      turned-children =
+          let p = laid in
+          let formed : (at : ℕ) (g : model.Grid) → sound g ≡ true → formedGrid g ≡ true = λ at g e. both (formedGrid g) (keptGrid g) e .0 in
+          children-turned xs l (updatedIn l xs binsRate axesRate) (λ (at : ℕ) (g : model.Grid). updateGrid binsRate axesRate g) (λ (at : ℕ) (g : model.Grid). sound g ≡ true) formed deeper
+          b ts y st G N 0 own s (omega (arith, p .number)) (before-none ts own) (p .up) (p .on) room places
+          (λ j h k z. sound-hung G xs (s .reals) (s .counts) w (binIn xs (s .reals) (s .counts) w j) (getD xs (w + 7 + j) 0) z (each j (omega (arith, k, p .number)))) (λ j h k z. refl)
