@@ -26,6 +26,8 @@ pub mod Paths
 pub mod States
 pub mod Trains
 pub mod Trained
+pub mod Adds
+pub mod Accepts
 pub mod Fitting
 pub mod Plans
 pub mod Unique

@@ -1,5 +1,7 @@
 // Grids in lent memory.
+mod acceptance;
 mod accounts;
+mod adding;
 mod axes;
 mod clearing;
 mod copying;

@@ -1,0 +1,500 @@
+use Prim.Native.Nat.{ℕ, _<_}
+use borrow.Fn.Kinds.{In}
+use borrow.Fn.PlainCycle.{Measures, is, falls, and}
+use Rattle.grid.proofs.acceptance.bins_accept.Reads as bins-accept
+use Rattle.grid.proofs.acceptance.bins_accept.Kinds as bins-accept-kinds
+use Rattle.grid.proofs.acceptance.+bins_accept+child_accepts+grid_accepts.Lts-bins_accept as bins-accept-lts
+use Rattle.grid.proofs.acceptance.child_accepts.Reads as child-accepts
+use Rattle.grid.proofs.acceptance.child_accepts.Kinds as child-accepts-kinds
+use Rattle.grid.proofs.acceptance.+bins_accept+child_accepts+grid_accepts.Lts-child_accepts as child-accepts-lts
+use Rattle.grid.proofs.acceptance.grid_accepts.Reads as grid-accepts
+use Rattle.grid.proofs.acceptance.grid_accepts.Kinds as grid-accepts-kinds
+use Rattle.grid.proofs.acceptance.+bins_accept+child_accepts+grid_accepts.Lts-grid_accepts as grid-accepts-lts
+use Rattle.grid.proofs.acceptance.axes_accept.Reads as axes-accept-reads
+use Rattle.grid.proofs.adding.fits_with.Reads as fits-with-reads
+use Rattle.grid.proofs.acceptance.+bins_accept+child_accepts+grid_accepts.{statement}
+use Rattle.grid.proofs.acceptance.+bins_accept+child_accepts+grid_accepts.Tie.{close}
+
+abbrev μ-bins-accept : Measures 3 bins-accept-kinds.ps ℕ
+μ-bins-accept κs a = ?
+
+abbrev μ-child-accepts : Measures 3 child-accepts-kinds.ps ℕ
+μ-child-accepts κs a = ?
+
+abbrev μ-grid-accepts : Measures 3 grid-accepts-kinds.ps ℕ
+μ-grid-accepts κs a = ?
+
+abbrev bins-accept-at : ℕ → In 3 bins-accept-kinds.ps
+bins-accept-at t =
+    and 3 bins-accept-kinds.ps (is 3 bins-accept-kinds.ps μ-bins-accept t) bins-accept.Pre
+
+abbrev bins-accept-below : ℕ → In 3 bins-accept-kinds.ps
+bins-accept-below t =
+    and 3 bins-accept-kinds.ps (falls 3 bins-accept-kinds.ps _<_ μ-bins-accept t) bins-accept.Pre
+
+abbrev child-accepts-at : ℕ → In 3 child-accepts-kinds.ps
+child-accepts-at t =
+    and 3 child-accepts-kinds.ps (is 3 child-accepts-kinds.ps μ-child-accepts t) child-accepts.Pre
+
+abbrev child-accepts-below : ℕ → In 3 child-accepts-kinds.ps
+child-accepts-below t =
+    and
+    3
+    child-accepts-kinds.ps
+    (falls 3 child-accepts-kinds.ps _<_ μ-child-accepts t)
+    child-accepts.Pre
+
+abbrev grid-accepts-at : ℕ → In 3 grid-accepts-kinds.ps
+grid-accepts-at t =
+    and 3 grid-accepts-kinds.ps (is 3 grid-accepts-kinds.ps μ-grid-accepts t) grid-accepts.Pre
+
+abbrev grid-accepts-below : ℕ → In 3 grid-accepts-kinds.ps
+grid-accepts-below t =
+    and
+    3
+    grid-accepts-kinds.ps
+    (falls 3 grid-accepts-kinds.ps _<_ μ-grid-accepts t)
+    grid-accepts.Pre
+
+-- src/acceptance.rt:82:15
+bins-accept-mul-bin : (t : ℕ) → bins-accept-lts.Need-mul-bin (
+  fits-with-reads.Asked,
+  fits-with-reads.Learnt,
+  child-accepts-below t,
+  child-accepts.Post,
+) (bins-accept-at t) bins-accept.Post
+bins-accept-mul-bin t c = ?
+
+-- src/acceptance.rt:82:15
+bins-accept-array-read-bin : (t : ℕ) → bins-accept-lts.Need-array-read-bin (
+  fits-with-reads.Asked,
+  fits-with-reads.Learnt,
+  child-accepts-below t,
+  child-accepts.Post,
+) (bins-accept-at t) bins-accept.Post
+bins-accept-array-read-bin t c = ?
+
+-- src/acceptance.rt:84:18
+bins-accept-mul-weight : (t : ℕ) → bins-accept-lts.Need-mul-weight (
+  fits-with-reads.Asked,
+  fits-with-reads.Learnt,
+  child-accepts-below t,
+  child-accepts.Post,
+) (bins-accept-at t) bins-accept.Post
+bins-accept-mul-weight t c = ?
+
+-- src/acceptance.rt:84:18
+bins-accept-array-read-weight : (t : ℕ) → bins-accept-lts.Need-array-read-weight (
+  fits-with-reads.Asked,
+  fits-with-reads.Learnt,
+  child-accepts-below t,
+  child-accepts.Post,
+) (bins-accept-at t) bins-accept.Post
+bins-accept-array-read-weight t c = ?
+
+-- src/acceptance.rt:85:19
+bins-accept-add-n : (t : ℕ) → bins-accept-lts.Need-add-n (
+  fits-with-reads.Asked,
+  fits-with-reads.Learnt,
+  child-accepts-below t,
+  child-accepts.Post,
+) (bins-accept-at t) bins-accept.Post
+bins-accept-add-n t c = ?
+
+-- src/acceptance.rt:85:13
+bins-accept-mul-n : (t : ℕ) → bins-accept-lts.Need-mul-n (
+  fits-with-reads.Asked,
+  fits-with-reads.Learnt,
+  child-accepts-below t,
+  child-accepts.Post,
+) (bins-accept-at t) bins-accept.Post
+bins-accept-mul-n t c = ?
+
+-- src/acceptance.rt:85:13
+bins-accept-shared-slice-read-n : (t : ℕ) → bins-accept-lts.Need-shared-slice-read-n (
+  fits-with-reads.Asked,
+  fits-with-reads.Learnt,
+  child-accepts-below t,
+  child-accepts.Post,
+) (bins-accept-at t) bins-accept.Post
+bins-accept-shared-slice-read-n t c = ?
+
+-- src/acceptance.rt:86:19
+bins-accept-add-r : (t : ℕ) → bins-accept-lts.Need-add-r (
+  fits-with-reads.Asked,
+  fits-with-reads.Learnt,
+  child-accepts-below t,
+  child-accepts.Post,
+) (bins-accept-at t) bins-accept.Post
+bins-accept-add-r t c = ?
+
+-- src/acceptance.rt:86:13
+bins-accept-mul-r : (t : ℕ) → bins-accept-lts.Need-mul-r (
+  fits-with-reads.Asked,
+  fits-with-reads.Learnt,
+  child-accepts-below t,
+  child-accepts.Post,
+) (bins-accept-at t) bins-accept.Post
+bins-accept-mul-r t c = ?
+
+-- src/acceptance.rt:86:13
+bins-accept-shared-slice-read-r : (t : ℕ) → bins-accept-lts.Need-shared-slice-read-r (
+  fits-with-reads.Asked,
+  fits-with-reads.Learnt,
+  child-accepts-below t,
+  child-accepts.Post,
+) (bins-accept-at t) bins-accept.Post
+bins-accept-shared-slice-read-r t c = ?
+
+-- src/acceptance.rt:87:19
+bins-accept-add-c : (t : ℕ) → bins-accept-lts.Need-add-c (
+  fits-with-reads.Asked,
+  fits-with-reads.Learnt,
+  child-accepts-below t,
+  child-accepts.Post,
+) (bins-accept-at t) bins-accept.Post
+bins-accept-add-c t c = ?
+
+-- src/acceptance.rt:87:13
+bins-accept-mul-c : (t : ℕ) → bins-accept-lts.Need-mul-c (
+  fits-with-reads.Asked,
+  fits-with-reads.Learnt,
+  child-accepts-below t,
+  child-accepts.Post,
+) (bins-accept-at t) bins-accept.Post
+bins-accept-mul-c t c = ?
+
+-- src/acceptance.rt:87:13
+bins-accept-shared-slice-read-c : (t : ℕ) → bins-accept-lts.Need-shared-slice-read-c (
+  fits-with-reads.Asked,
+  fits-with-reads.Learnt,
+  child-accepts-below t,
+  child-accepts.Post,
+) (bins-accept-at t) bins-accept.Post
+bins-accept-shared-slice-read-c t c = ?
+
+-- src/acceptance.rt:88:33
+bins-accept-add-value : (t : ℕ) → bins-accept-lts.Need-add-value (
+  fits-with-reads.Asked,
+  fits-with-reads.Learnt,
+  child-accepts-below t,
+  child-accepts.Post,
+) (bins-accept-at t) bins-accept.Post
+bins-accept-add-value t c = ?
+
+-- src/acceptance.rt:88:33
+bins-accept-add-value-2 : (t : ℕ) → bins-accept-lts.Need-add-value-2 (
+  fits-with-reads.Asked,
+  fits-with-reads.Learnt,
+  child-accepts-below t,
+  child-accepts.Post,
+) (bins-accept-at t) bins-accept.Post
+bins-accept-add-value-2 t c = ?
+
+-- src/acceptance.rt:88:27
+bins-accept-mul-value : (t : ℕ) → bins-accept-lts.Need-mul-value (
+  fits-with-reads.Asked,
+  fits-with-reads.Learnt,
+  child-accepts-below t,
+  child-accepts.Post,
+) (bins-accept-at t) bins-accept.Post
+bins-accept-mul-value t c = ?
+
+-- src/acceptance.rt:88:27
+bins-accept-shared-slice-read-value : (t : ℕ) → bins-accept-lts.Need-shared-slice-read-value (
+  fits-with-reads.Asked,
+  fits-with-reads.Learnt,
+  child-accepts-below t,
+  child-accepts.Post,
+) (bins-accept-at t) bins-accept.Post
+bins-accept-shared-slice-read-value t c = ?
+
+-- src/acceptance.rt:89:9
+bins-accept-fits-with-requires : (t : ℕ) → bins-accept-lts.Need-fits-with-requires (
+  fits-with-reads.Asked,
+  fits-with-reads.Learnt,
+  child-accepts-below t,
+  child-accepts.Post,
+) (bins-accept-at t) bins-accept.Post
+bins-accept-fits-with-requires t c κs = ?
+
+-- src/acceptance.rt:90:50
+bins-accept-add-fits-with : (t : ℕ) → bins-accept-lts.Need-add-fits-with (
+  fits-with-reads.Asked,
+  fits-with-reads.Learnt,
+  child-accepts-below t,
+  child-accepts.Post,
+) (bins-accept-at t) bins-accept.Post
+bins-accept-add-fits-with t c = ?
+
+-- src/acceptance.rt:90:50
+bins-accept-add-fits-with-2 : (t : ℕ) → bins-accept-lts.Need-add-fits-with-2 (
+  fits-with-reads.Asked,
+  fits-with-reads.Learnt,
+  child-accepts-below t,
+  child-accepts.Post,
+) (bins-accept-at t) bins-accept.Post
+bins-accept-add-fits-with-2 t c = ?
+
+-- src/acceptance.rt:90:63
+bins-accept-mul-fits-with : (t : ℕ) → bins-accept-lts.Need-mul-fits-with (
+  fits-with-reads.Asked,
+  fits-with-reads.Learnt,
+  child-accepts-below t,
+  child-accepts.Post,
+) (bins-accept-at t) bins-accept.Post
+bins-accept-mul-fits-with t c = ?
+
+-- src/acceptance.rt:90:50
+bins-accept-add-fits-with-3 : (t : ℕ) → bins-accept-lts.Need-add-fits-with-3 (
+  fits-with-reads.Asked,
+  fits-with-reads.Learnt,
+  child-accepts-below t,
+  child-accepts.Post,
+) (bins-accept-at t) bins-accept.Post
+bins-accept-add-fits-with-3 t c = ?
+
+-- src/acceptance.rt:90:73
+bins-accept-add-fits-with-4 : (t : ℕ) → bins-accept-lts.Need-add-fits-with-4 (
+  fits-with-reads.Asked,
+  fits-with-reads.Learnt,
+  child-accepts-below t,
+  child-accepts.Post,
+) (bins-accept-at t) bins-accept.Post
+bins-accept-add-fits-with-4 t c = ?
+
+-- src/acceptance.rt:90:81
+bins-accept-mul-fits-with-2 : (t : ℕ) → bins-accept-lts.Need-mul-fits-with-2 (
+  fits-with-reads.Asked,
+  fits-with-reads.Learnt,
+  child-accepts-below t,
+  child-accepts.Post,
+) (bins-accept-at t) bins-accept.Post
+bins-accept-mul-fits-with-2 t c = ?
+
+-- src/acceptance.rt:90:73
+bins-accept-add-fits-with-5 : (t : ℕ) → bins-accept-lts.Need-add-fits-with-5 (
+  fits-with-reads.Asked,
+  fits-with-reads.Learnt,
+  child-accepts-below t,
+  child-accepts.Post,
+) (bins-accept-at t) bins-accept.Post
+bins-accept-add-fits-with-5 t c = ?
+
+-- src/acceptance.rt:90:9
+bins-accept-fits-with-requires-2 : (t : ℕ) → bins-accept-lts.Need-fits-with-requires-2 (
+  fits-with-reads.Asked,
+  fits-with-reads.Learnt,
+  child-accepts-below t,
+  child-accepts.Post,
+) (bins-accept-at t) bins-accept.Post
+bins-accept-fits-with-requires-2 t c κs = ?
+
+-- src/acceptance.rt:91:22
+bins-accept-add-link : (t : ℕ) → bins-accept-lts.Need-add-link (
+  fits-with-reads.Asked,
+  fits-with-reads.Learnt,
+  child-accepts-below t,
+  child-accepts.Post,
+) (bins-accept-at t) bins-accept.Post
+bins-accept-add-link t c = ?
+
+-- src/acceptance.rt:91:22
+bins-accept-add-link-2 : (t : ℕ) → bins-accept-lts.Need-add-link-2 (
+  fits-with-reads.Asked,
+  fits-with-reads.Learnt,
+  child-accepts-below t,
+  child-accepts.Post,
+) (bins-accept-at t) bins-accept.Post
+bins-accept-add-link-2 t c = ?
+
+-- src/acceptance.rt:91:16
+bins-accept-mul-link : (t : ℕ) → bins-accept-lts.Need-mul-link (
+  fits-with-reads.Asked,
+  fits-with-reads.Learnt,
+  child-accepts-below t,
+  child-accepts.Post,
+) (bins-accept-at t) bins-accept.Post
+bins-accept-mul-link t c = ?
+
+-- src/acceptance.rt:91:16
+bins-accept-shared-slice-read-link : (t : ℕ) → bins-accept-lts.Need-shared-slice-read-link (
+  fits-with-reads.Asked,
+  fits-with-reads.Learnt,
+  child-accepts-below t,
+  child-accepts.Post,
+) (bins-accept-at t) bins-accept.Post
+bins-accept-shared-slice-read-link t c = ?
+
+-- src/acceptance.rt:92:69
+bins-accept-add-child-accepts : (t : ℕ) → bins-accept-lts.Need-add-child-accepts (
+  fits-with-reads.Asked,
+  fits-with-reads.Learnt,
+  child-accepts-below t,
+  child-accepts.Post,
+) (bins-accept-at t) bins-accept.Post
+bins-accept-add-child-accepts t c = ?
+
+-- src/acceptance.rt:92:9
+bins-accept-child-accepts-requires : (t : ℕ) → bins-accept-lts.Need-child-accepts-requires (
+  fits-with-reads.Asked,
+  fits-with-reads.Learnt,
+  child-accepts-below t,
+  child-accepts.Post,
+) (bins-accept-at t) bins-accept.Post
+bins-accept-child-accepts-requires t c κs = ?
+
+-- src/acceptance.rt:64:1
+bins-accept-returns : (t : ℕ) → bins-accept-lts.Need-returns (
+  fits-with-reads.Asked,
+  fits-with-reads.Learnt,
+  child-accepts-below t,
+  child-accepts.Post,
+) (bins-accept-at t) bins-accept.Post
+bins-accept-returns t c = ?
+
+-- src/acceptance.rt:58:9
+child-accepts-returns : (t : ℕ) → child-accepts-lts.Need-returns (
+  grid-accepts-below t,
+  grid-accepts.Post,
+) (child-accepts-at t) child-accepts.Post
+child-accepts-returns t c = ?
+
+-- src/acceptance.rt:60:5
+child-accepts-grid-accepts-requires : (t : ℕ) → child-accepts-lts.Need-grid-accepts-requires (
+  grid-accepts-below t,
+  grid-accepts.Post,
+) (child-accepts-at t) child-accepts.Post
+child-accepts-grid-accepts-requires t c κs = ?
+
+-- src/acceptance.rt:43:1
+child-accepts-returns-2 : (t : ℕ) → child-accepts-lts.Need-returns-2 (
+  grid-accepts-below t,
+  grid-accepts.Post,
+) (child-accepts-at t) child-accepts.Post
+child-accepts-returns-2 t c = ?
+
+-- src/acceptance.rt:111:8
+grid-accepts-mul-if1 : (t : ℕ) → grid-accepts-lts.Need-mul-if1 (
+  axes-accept-reads.Asked,
+  axes-accept-reads.Learnt,
+  bins-accept-below t,
+  bins-accept.Post,
+) (grid-accepts-at t) grid-accepts.Post
+grid-accepts-mul-if1 t c = ?
+
+-- src/acceptance.rt:111:8
+grid-accepts-shared-slice-read-if1 : (t : ℕ) → grid-accepts-lts.Need-shared-slice-read-if1 (
+  axes-accept-reads.Asked,
+  axes-accept-reads.Learnt,
+  bins-accept-below t,
+  bins-accept.Post,
+) (grid-accepts-at t) grid-accepts.Post
+grid-accepts-shared-slice-read-if1 t c = ?
+
+-- src/acceptance.rt:112:9
+grid-accepts-axes-accept-requires : (t : ℕ) → grid-accepts-lts.Need-axes-accept-requires (
+  axes-accept-reads.Asked,
+  axes-accept-reads.Learnt,
+  bins-accept-below t,
+  bins-accept.Post,
+) (grid-accepts-at t) grid-accepts.Post
+grid-accepts-axes-accept-requires t c κs = ?
+
+-- src/acceptance.rt:112:9
+grid-accepts-returns : (t : ℕ) → grid-accepts-lts.Need-returns (
+  axes-accept-reads.Asked,
+  axes-accept-reads.Learnt,
+  bins-accept-below t,
+  bins-accept.Post,
+) (grid-accepts-at t) grid-accepts.Post
+grid-accepts-returns t c = ?
+
+-- src/acceptance.rt:114:39
+grid-accepts-sub-bins-accept : (t : ℕ) → grid-accepts-lts.Need-sub-bins-accept (
+  axes-accept-reads.Asked,
+  axes-accept-reads.Learnt,
+  bins-accept-below t,
+  bins-accept.Post,
+) (grid-accepts-at t) grid-accepts.Post
+grid-accepts-sub-bins-accept t c = ?
+
+-- src/acceptance.rt:114:5
+grid-accepts-bins-accept-requires : (t : ℕ) → grid-accepts-lts.Need-bins-accept-requires (
+  axes-accept-reads.Asked,
+  axes-accept-reads.Learnt,
+  bins-accept-below t,
+  bins-accept.Post,
+) (grid-accepts-at t) grid-accepts.Post
+grid-accepts-bins-accept-requires t c κs = ?
+
+-- src/acceptance.rt:97:1
+grid-accepts-returns-2 : (t : ℕ) → grid-accepts-lts.Need-returns-2 (
+  axes-accept-reads.Asked,
+  axes-accept-reads.Learnt,
+  bins-accept-below t,
+  bins-accept.Post,
+) (grid-accepts-at t) grid-accepts.Post
+grid-accepts-returns-2 t c = ?
+
+pub +bins-accept+child-accepts+grid-accepts-spec : {M : Type 1} → statement M
++bins-accept+child-accepts+grid-accepts-spec =
+    close μ-bins-accept μ-child-accepts μ-grid-accepts (λ t. bins-accept-lts.spec (
+      fits-with-reads.Asked,
+      fits-with-reads.Learnt,
+      child-accepts-below t,
+      child-accepts.Post,
+    )
+    (bins-accept-at t)
+    bins-accept.Post
+    (bins-accept-mul-bin t)
+    (bins-accept-array-read-bin t)
+    (bins-accept-mul-weight t)
+    (bins-accept-array-read-weight t)
+    (bins-accept-add-n t)
+    (bins-accept-mul-n t)
+    (bins-accept-shared-slice-read-n t)
+    (bins-accept-add-r t)
+    (bins-accept-mul-r t)
+    (bins-accept-shared-slice-read-r t)
+    (bins-accept-add-c t)
+    (bins-accept-mul-c t)
+    (bins-accept-shared-slice-read-c t)
+    (bins-accept-add-value t)
+    (bins-accept-add-value-2 t)
+    (bins-accept-mul-value t)
+    (bins-accept-shared-slice-read-value t)
+    (bins-accept-fits-with-requires t)
+    (bins-accept-add-fits-with t)
+    (bins-accept-add-fits-with-2 t)
+    (bins-accept-mul-fits-with t)
+    (bins-accept-add-fits-with-3 t)
+    (bins-accept-add-fits-with-4 t)
+    (bins-accept-mul-fits-with-2 t)
+    (bins-accept-add-fits-with-5 t)
+    (bins-accept-fits-with-requires-2 t)
+    (bins-accept-add-link t)
+    (bins-accept-add-link-2 t)
+    (bins-accept-mul-link t)
+    (bins-accept-shared-slice-read-link t)
+    (bins-accept-add-child-accepts t)
+    (bins-accept-child-accepts-requires t)
+    (bins-accept-returns t))
+    (λ t. child-accepts-lts.spec
+    (grid-accepts-below t, grid-accepts.Post)
+    (child-accepts-at t)
+    child-accepts.Post
+    (child-accepts-returns t)
+    (child-accepts-grid-accepts-requires t)
+    (child-accepts-returns-2 t))
+    λ t. grid-accepts-lts.spec
+    (axes-accept-reads.Asked, axes-accept-reads.Learnt, bins-accept-below t, bins-accept.Post)
+    (grid-accepts-at t)
+    grid-accepts.Post
+    (grid-accepts-mul-if1 t)
+    (grid-accepts-shared-slice-read-if1 t)
+    (grid-accepts-axes-accept-requires t)
+    (grid-accepts-returns t)
+    (grid-accepts-sub-bins-accept t)
+    (grid-accepts-bins-accept-requires t)
+    (grid-accepts-returns-2 t)
