@@ -85,3 +85,8 @@ absorbedNode f table s e number w d m = cond (eqb (getD table w 0) 1) (absorbedA
 unfoldable pub absorbed : ℕ → List ℕ → Sample → Float → ℕ → ℕ → ℕ → Memory → Memory
 absorbed zero table s e number w d m = absorbedAxes table s e number w d m
 absorbed (suc l) table s e number w d m = absorbedNode (absorbed l table s e number) table s e number w d m
+
+-- ---- what stands against a sample: 0 where nothing does
+unfoldable pub objectionOf : Paper Grid → ℕ
+objectionOf (gives g) = 0
+objectionOf (refuses n) = n

@@ -1,15 +1,18 @@
 // Whether what a sample would leave may be kept (8), judged on what it touches, before anything is written.
 ghost use mathlib.Core.Path.{_≡_};
+ghost use mathlib.Core.Bool.{true};
 ghost use Prim.Native.Nat.{_+_, _≤_};
 ghost use lib.ListN.{length, getD};
 ghost use Rattle.model.specs.Grid.{axes, bins};
-ghost use Rattle.model.specs.Sound.{keptGrid, keptChild};
-ghost use Rattle.model.specs.Train.{trainGrid, trainChild};
+ghost use Rattle.model.specs.Sound.{sound, keptGrid, keptChild};
+ghost use Rattle.model.specs.Train.{trainGrid, trainChild, trainOf};
 ghost use Rattle.grid.specs.Tree.{axesGridAt, headAt, childIn, binsIn, gridAt, AxesLaid, BinsLaid, Laid};
-ghost use Rattle.grid.specs.Sampled.{ChildLaid};
-ghost use Rattle.grid.specs.Absorbed.{pathLeft, weightsLeft, placesIn, Takes, TakesChild};
+ghost use Rattle.grid.specs.Sampled.{sampleOf, ChildLaid};
+ghost use Rattle.grid.specs.State.{rootOf};
+ghost use Rattle.grid.specs.Absorbed.{pathLeft, weightsLeft, placesIn, Takes, TakesChild, objectionOf};
 use crate::Sample;
 use crate::adding;
+use crate::forms;
 use crate::layout;
 use crate::training;
 
@@ -112,4 +115,39 @@ pub fn grid_accepts(
         return axes_accept(table, reals, counts, w, s, depth, evaluation, number);
     }
     bins_accept(table, reals, counts, level - 1, w, s, depth, evaluation, number)
+}
+
+// What stands against a sample on a well-formed state: 3; its form, 4, 5 or 6; 7; 8; else 0.
+pub fn objection(
+    table: &[u64],
+    reals: &[f64],
+    counts: &[u64],
+    s: Sample,
+    evaluation: f64,
+    number: u64,
+) -> u64
+    requires { ⌜ Laid 4 (now table) (length (now reals)) (length (now counts)) 0 × (sound (rootOf (now table) (now reals) (now counts)) ≡ true) ⌝ }
+    ensures { λ n. ⌜ n ≡ objectionOf (trainOf (rootOf (now (table .entry)) (now (reals .entry)) (now (counts .entry))) (sampleOf s) evaluation number) ⌝ }
+{
+    if number == 0 {
+        return 3;
+    }
+    if 9007199254740992 < number {
+        return 3;
+    }
+    let form = forms::grid_fault(table, reals, counts, 4, 0, s, 0);
+    if form != 0 {
+        return form;
+    }
+    if !real::finite(evaluation) {
+        return 7;
+    }
+    let weights = s.weights;
+    if !training::are_finite(weights, s.given) {
+        return 7;
+    }
+    if !grid_accepts(table, reals, counts, 4, 0, s, 0, evaluation, number) {
+        return 8;
+    }
+    0
 }
