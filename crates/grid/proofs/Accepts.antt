@@ -6,7 +6,7 @@ use Prim.Native.Nat.{ℕ, zero, suc, _+_, _-_, _*_, _^_, _≤_, _<_}
 use native.Mathlib.Omega.{arith}
 use borrow.Author.Tests.{ltb-true, ltb-false, leb-true, eqb-true, not-false, ne-eqb}
 use lib.Dec.{leb, ltb, eqb}
-use lib.ListN.{length, drop, getD, set, length-drop}
+use lib.ListN.{length, take, drop, getD, set, length-drop}
 use lib.Seq.{length-take-le}
 use lib.Ieee.{Float, nan, binary64, add, mul}
 use Rattle.real.specs.Finite.{finiteOf}
@@ -25,13 +25,14 @@ use Rattle.model.specs.Draw.{weightAt}
 use Rattle.model.specs.Sound.{chance, sound, formedGrid, allSound, keptAxis, keptAxisList, keptGrid, keptBins, keptChild}
 use Rattle.model.specs.Train.{faultOf, faultOfChild, trainAxis, trainAll, trainAxes, trainGrid, trainBin, trainChild}
 use Rattle.grid.specs.declared.Sample.{Sample}
+use Rattle.grid.specs.declared.axes.AxesAt.{AxesAt}
 use Rattle.grid.specs.Layout.{stretch, axisReals, axisCounts, binRecord, binAt, binsFrom, axisAt, axesFrom}
 use Rattle.grid.specs.Memory.{memory, Asked, recordAt}
-use Rattle.grid.specs.Drawn.{Standing, axesAt}
+use Rattle.grid.specs.Drawn.{Standing, axesAt, Stands}
 use Rattle.grid.specs.Tree.{axesPlace, axesGridAt, headAt, binIn, childIn, binsIn, gridAt, AxesLaid}
 use Rattle.grid.specs.Judged.{soundBin}
 use Rattle.grid.specs.Sampled.{entries, soundChild}
-use Rattle.grid.specs.Trained.{allInUnit, binsOn, Cell, cellFits, cellsFit, formFault}
+use Rattle.grid.specs.Trained.{allInUnit, binsOn, Cell, cellFits, cellsFit, formFault, CellsOf}
 use Rattle.grid.specs.Absorbed.{pathLeft, weightsLeft, placesIn, Takes, TakesChild}
 use Rattle.grid.proofs.Judges.{sound-bin}
 use Rattle.grid.proofs.Reading.{length-axes, length-bins, getD-all}
@@ -263,6 +264,14 @@ module _ (table : List ℕ) (reals : List Float) (counts : List ℕ) (w : ℕ) (
     spread : length (placesIn s) ≡ getD table (w + 2) 0
     spread = many-left nan (s .coordinates) 0 (s .axes) ∙ form .axes
 
+    -- as wide as the grid
+    as-wide : axesPlace table w .axes ≡ s .axes
+    unfolding axesPlace
+    as-wide = sym (form .axes)
+
+    as-many : allInUnit (entries nan (s .coordinates) 0 (axesPlace table w .axes)) ≡ true
+    as-many = ap (λ (k : ℕ). allInUnit (entries nan (s .coordinates) 0 k)) as-wide ∙ form .unit
+
     pub spots-asked : Asked (Cell (axesPlace table w .most)) (axesPlace table w .most) spots (axesPlace table w .reals) (axesPlace table w .counts) (memory reals counts)
     unfolding axesPlace
     spots-asked =
@@ -274,6 +283,22 @@ module _ (table : List ℕ) (reals : List Float) (counts : List ℕ) (w : ℕ) (
     spots-many =
         length-on (getD table (w + 2) 0) (axesAt reals counts (axesPlace table w)) (placesIn s)
         (length-axes (getD table (w + 7) 0) reals counts (getD table (w + 2) 0) (getD table (w + 9) 0 + 14) (getD table (w + 10) 0 + 7)) spread
+
+    -- the same for a place that the code has read, and the bins that it has found there
+    module _ (g : AxesAt) (p : g ≡ axesPlace table w) where
+      pub axes-placed : Stands reals counts g × (allInUnit (entries nan (s .coordinates) 0 (g .axes)) ≡ true)
+      axes-placed =
+          subst (λ (o : AxesAt). Stands reals counts o × (allInUnit (entries nan (s .coordinates) 0 (o .axes)) ≡ true)) (sym p)
+          (sound-stands table reals counts w a (t .well), as-many)
+
+      module _ (is : List ℕ) (q : take (g .axes) is ≡ binsOn (axesAt reals counts g) (entries nan (s .coordinates) 0 (g .axes))) where
+        pub spots-found : take (g .axes) is ≡ spots
+        spots-found = q ∙ ap (λ (o : AxesAt). binsOn (axesAt reals counts o) (entries nan (s .coordinates) 0 (o .axes))) p ∙ ap (λ (k : ℕ). binsOn (axesAt reals counts (axesPlace table w)) (entries nan (s .coordinates) 0 k)) as-wide
+
+        pub cells-of : (g .axes ≤ 8) × CellsOf g (take (g .axes) is) (memory reals counts)
+        cells-of =
+            rw spots-found (subst (λ (o : AxesAt). (o .axes ≤ 8) × CellsOf o spots (memory reals counts)) (sym p)
+            (sound-stands table reals counts w a (t .well) .0, (sound-stands table reals counts w a (t .well) .1, spots-many, spots-asked)))
 
     alone : weightsLeft s d ≡ weight ∷ []
     alone = one-left nan (s .weights) d (s .given) (omega (arith, form .weight)) ∙ ap (λ (ws : List Float). weight ∷ ws) (none-left nan (s .weights) (d + 1) (s .given) (omega (arith, form .weight)))

@@ -1,3 +1,17 @@
+use mathlib.Core.Path.{sym, ap, ap₂, _∙_, subst}
+use mathlib.Core.Bool.{_&&_}
+use native.Mathlib.Omega.{arith}
+use Prim.Native.Nat.{_+_, _-_, _*_}
+use lib.ListN.{length, getD}
+use Rattle.model.specs.Grid.{Grid}
+use Rattle.model.specs.Sound.{keptGrid}
+use Rattle.model.specs.Train.{trainGrid}
+use Rattle.grid.specs.Tree.{headAt, binIn, gridAt}
+use Rattle.grid.specs.Sampled.{ChildLaid}
+use Rattle.grid.specs.Absorbed.{pathLeft, weightsLeft, placesIn, Takes}
+use Rattle.grid.proofs.Laid.{laid-axes, laid-bins, laid-head}
+use Rattle.grid.proofs.Sounds.{node-axes, node-bins}
+use Rattle.grid.proofs.Accepts.{formed, head-sound, spot-sound, takes-below, bins-told, none-told, grid-told, takes-grid}
 use Prim.Native.Nat.{ℕ, _<_}
 use borrow.Fn.Kinds.{In}
 use borrow.Fn.PlainCycle.{Measures, is, falls, and}
@@ -16,13 +30,13 @@ use Rattle.grid.proofs.acceptance.+bins_accept+child_accepts+grid_accep
 use Rattle.grid.proofs.acceptance.+bins_accept+child_accepts+grid_accepts.Tie.{close}
 
 abbrev μ-bins-accept : Measures 3 bins-accept-kinds.ps ℕ
-μ-bins-accept κs a = ?
+μ-bins-accept κs a = 3 * a .1 .1 .1 .0 + 2
 
 abbrev μ-child-accepts : Measures 3 child-accepts-kinds.ps ℕ
-μ-child-accepts κs a = ?
+μ-child-accepts κs a = 3 * a .1 .1 .1 .0 + 1
 
 abbrev μ-grid-accepts : Measures 3 grid-accepts-kinds.ps ℕ
-μ-grid-accepts κs a = ?
+μ-grid-accepts κs a = 3 * a .1 .1 .1 .0
 
 abbrev bins-accept-at : ℕ → In 3 bins-accept-kinds.ps
 bins-accept-at t =
@@ -63,7 +77,7 @@ bins-accept-mul-bin : (t : ℕ) → bins-accept-lts.Need-mul-bin (
   child-accepts-below t,
   child-accepts.Post,
 ) (bins-accept-at t) bins-accept.Post
-bins-accept-mul-bin t c = ?
+bins-accept-mul-bin t c = omega (arith, c .before .before .before .before .pre .1 .1)
 
 -- src/acceptance.rt:82:15
 bins-accept-array-read-bin : (t : ℕ) → bins-accept-lts.Need-array-read-bin (
@@ -72,7 +86,7 @@ bins-accept-array-read-bin : (t : ℕ) → bins-accept-lts.Need-array-read-bin (
   child-accepts-below t,
   child-accepts.Post,
 ) (bins-accept-at t) bins-accept.Post
-bins-accept-array-read-bin t c = ?
+bins-accept-array-read-bin t c = omega (arith, c .before .before .before .before .pre .1 .1)
 
 -- src/acceptance.rt:84:18
 bins-accept-mul-weight : (t : ℕ) → bins-accept-lts.Need-mul-weight (
@@ -81,7 +95,7 @@ bins-accept-mul-weight : (t : ℕ) → bins-accept-lts.Need-mul-weight (
   child-accepts-below t,
   child-accepts.Post,
 ) (bins-accept-at t) bins-accept.Post
-bins-accept-mul-weight t c = ?
+bins-accept-mul-weight t c = omega (arith, c .before .before .before .before .before .pre .1 .1)
 
 -- src/acceptance.rt:84:18
 bins-accept-array-read-weight : (t : ℕ) → bins-accept-lts.Need-array-read-weight (
@@ -90,7 +104,7 @@ bins-accept-array-read-weight : (t : ℕ) → bins-accept-lts.Need-array-read-we
   child-accepts-below t,
   child-accepts.Post,
 ) (bins-accept-at t) bins-accept.Post
-bins-accept-array-read-weight t c = ?
+bins-accept-array-read-weight t c = omega (arith, c .before .before .before .before .before .pre .1 .1)
 
 -- src/acceptance.rt:85:19
 bins-accept-add-n : (t : ℕ) → bins-accept-lts.Need-add-n (
@@ -99,7 +113,7 @@ bins-accept-add-n : (t : ℕ) → bins-accept-lts.Need-add-n (
   child-accepts-below t,
   child-accepts.Post,
 ) (bins-accept-at t) bins-accept.Post
-bins-accept-add-n t c = ?
+bins-accept-add-n t c = omega (arith, (c .before .before .before .before .before .pre .1 .0))
 
 -- src/acceptance.rt:85:13
 bins-accept-mul-n : (t : ℕ) → bins-accept-lts.Need-mul-n (
@@ -108,7 +122,7 @@ bins-accept-mul-n : (t : ℕ) → bins-accept-lts.Need-mul-n (
   child-accepts-below t,
   child-accepts.Post,
 ) (bins-accept-at t) bins-accept.Post
-bins-accept-mul-n t c = ?
+bins-accept-mul-n t c = omega (arith, (c .before .before .before .before .before .pre .1 .0))
 
 -- src/acceptance.rt:85:13
 bins-accept-shared-slice-read-n : (t : ℕ) → bins-accept-lts.Need-shared-slice-read-n (
@@ -117,7 +131,7 @@ bins-accept-shared-slice-read-n : (t : ℕ) → bins-accept-lts.Need-shared-slic
   child-accepts-below t,
   child-accepts.Post,
 ) (bins-accept-at t) bins-accept.Post
-bins-accept-shared-slice-read-n t c = ?
+bins-accept-shared-slice-read-n t c = omega (arith, (c .before .before .before .before .before .before .pre .1 .0))
 
 -- src/acceptance.rt:86:19
 bins-accept-add-r : (t : ℕ) → bins-accept-lts.Need-add-r (
@@ -126,7 +140,7 @@ bins-accept-add-r : (t : ℕ) → bins-accept-lts.Need-add-r (
   child-accepts-below t,
   child-accepts.Post,
 ) (bins-accept-at t) bins-accept.Post
-bins-accept-add-r t c = ?
+bins-accept-add-r t c = omega (arith, (c .before .before .before .before .before .before .pre .1 .0))
 
 -- src/acceptance.rt:86:13
 bins-accept-mul-r : (t : ℕ) → bins-accept-lts.Need-mul-r (
@@ -135,7 +149,7 @@ bins-accept-mul-r : (t : ℕ) → bins-accept-lts.Need-mul-r (
   child-accepts-below t,
   child-accepts.Post,
 ) (bins-accept-at t) bins-accept.Post
-bins-accept-mul-r t c = ?
+bins-accept-mul-r t c = omega (arith, (c .before .before .before .before .before .before .pre .1 .0))
 
 -- src/acceptance.rt:86:13
 bins-accept-shared-slice-read-r : (t : ℕ) → bins-accept-lts.Need-shared-slice-read-r (
@@ -144,7 +158,7 @@ bins-accept-shared-slice-read-r : (t : ℕ) → bins-accept-lts.Need-shared-slic
   child-accepts-below t,
   child-accepts.Post,
 ) (bins-accept-at t) bins-accept.Post
-bins-accept-shared-slice-read-r t c = ?
+bins-accept-shared-slice-read-r t c = omega (arith, (c .before .before .before .before .before .before .before .pre .1 .0))
 
 -- src/acceptance.rt:87:19
 bins-accept-add-c : (t : ℕ) → bins-accept-lts.Need-add-c (
@@ -153,7 +167,7 @@ bins-accept-add-c : (t : ℕ) → bins-accept-lts.Need-add-c (
   child-accepts-below t,
   child-accepts.Post,
 ) (bins-accept-at t) bins-accept.Post
-bins-accept-add-c t c = ?
+bins-accept-add-c t c = omega (arith, (c .before .before .before .before .before .before .before .pre .1 .0))
 
 -- src/acceptance.rt:87:13
 bins-accept-mul-c : (t : ℕ) → bins-accept-lts.Need-mul-c (
@@ -162,7 +176,7 @@ bins-accept-mul-c : (t : ℕ) → bins-accept-lts.Need-mul-c (
   child-accepts-below t,
   child-accepts.Post,
 ) (bins-accept-at t) bins-accept.Post
-bins-accept-mul-c t c = ?
+bins-accept-mul-c t c = omega (arith, (c .before .before .before .before .before .before .before .pre .1 .0))
 
 -- src/acceptance.rt:87:13
 bins-accept-shared-slice-read-c : (t : ℕ) → bins-accept-lts.Need-shared-slice-read-c (
@@ -171,7 +185,7 @@ bins-accept-shared-slice-read-c : (t : ℕ) → bins-accept-lts.Need-shared-slic
   child-accepts-below t,
   child-accepts.Post,
 ) (bins-accept-at t) bins-accept.Post
-bins-accept-shared-slice-read-c t c = ?
+bins-accept-shared-slice-read-c t c = omega (arith, (c .before .before .before .before .before .before .before .before .pre .1 .0))
 
 -- src/acceptance.rt:88:33
 bins-accept-add-value : (t : ℕ) → bins-accept-lts.Need-add-value (
@@ -180,7 +194,7 @@ bins-accept-add-value : (t : ℕ) → bins-accept-lts.Need-add-value (
   child-accepts-below t,
   child-accepts.Post,
 ) (bins-accept-at t) bins-accept.Post
-bins-accept-add-value t c = ?
+bins-accept-add-value t c = omega (arith, (c .before .before .before .before .before .before .before .before .pre .1 .0), (formed (gridAt (c .before .before .before .before .before .before .before .before .args .level) (c .before .before .before .before .before .before .before .before .args .table .now) (c .before .before .before .before .before .before .before .before .args .reals .now) (c .before .before .before .before .before .before .before .before .args .counts .now)) (c .before .before .before .before .before .before .before .before .args .table .now) (c .before .before .before .before .before .before .before .before .args .reals .now) (c .before .before .before .before .before .before .before .before .args .counts .now) (c .before .before .before .before .before .before .before .before .args .w) (getD (c .before .before .before .before .before .before .before .before .args .table .now) ((c .before .before .before .before .before .before .before .before .args .w) + 2) 0) (headAt (c .before .before .before .before .before .before .before .before .args .table .now) (c .before .before .before .before .before .before .before .before .args .reals .now) (c .before .before .before .before .before .before .before .before .args .counts .now) (c .before .before .before .before .before .before .before .before .args .w)) (c .before .before .before .before .before .before .before .before .args .s) (c .before .before .before .before .before .before .before .before .args .depth) (c .before .before .before .before .before .before .before .before .args .number) (c .before .before .before .before .before .before .before .before .pre .1 .2)) .bin)
 
 -- src/acceptance.rt:88:33
 bins-accept-add-value-2 : (t : ℕ) → bins-accept-lts.Need-add-value-2 (
@@ -189,7 +203,7 @@ bins-accept-add-value-2 : (t : ℕ) → bins-accept-lts.Need-add-value-2 (
   child-accepts-below t,
   child-accepts.Post,
 ) (bins-accept-at t) bins-accept.Post
-bins-accept-add-value-2 t c = ?
+bins-accept-add-value-2 t c = omega (arith, (c .before .before .before .before .before .before .before .before .pre .1 .0), (formed (gridAt (c .before .before .before .before .before .before .before .before .args .level) (c .before .before .before .before .before .before .before .before .args .table .now) (c .before .before .before .before .before .before .before .before .args .reals .now) (c .before .before .before .before .before .before .before .before .args .counts .now)) (c .before .before .before .before .before .before .before .before .args .table .now) (c .before .before .before .before .before .before .before .before .args .reals .now) (c .before .before .before .before .before .before .before .before .args .counts .now) (c .before .before .before .before .before .before .before .before .args .w) (getD (c .before .before .before .before .before .before .before .before .args .table .now) ((c .before .before .before .before .before .before .before .before .args .w) + 2) 0) (headAt (c .before .before .before .before .before .before .before .before .args .table .now) (c .before .before .before .before .before .before .before .before .args .reals .now) (c .before .before .before .before .before .before .before .before .args .counts .now) (c .before .before .before .before .before .before .before .before .args .w)) (c .before .before .before .before .before .before .before .before .args .s) (c .before .before .before .before .before .before .before .before .args .depth) (c .before .before .before .before .before .before .before .before .args .number) (c .before .before .before .before .before .before .before .before .pre .1 .2)) .bin)
 
 -- src/acceptance.rt:88:27
 bins-accept-mul-value : (t : ℕ) → bins-accept-lts.Need-mul-value (
@@ -198,7 +212,7 @@ bins-accept-mul-value : (t : ℕ) → bins-accept-lts.Need-mul-value (
   child-accepts-below t,
   child-accepts.Post,
 ) (bins-accept-at t) bins-accept.Post
-bins-accept-mul-value t c = ?
+bins-accept-mul-value t c = omega (arith, (c .before .before .before .before .before .before .before .before .pre .1 .0), (formed (gridAt (c .before .before .before .before .before .before .before .before .args .level) (c .before .before .before .before .before .before .before .before .args .table .now) (c .before .before .before .before .before .before .before .before .args .reals .now) (c .before .before .before .before .before .before .before .before .args .counts .now)) (c .before .before .before .before .before .before .before .before .args .table .now) (c .before .before .before .before .before .before .before .before .args .reals .now) (c .before .before .before .before .before .before .before .before .args .counts .now) (c .before .before .before .before .before .before .before .before .args .w) (getD (c .before .before .before .before .before .before .before .before .args .table .now) ((c .before .before .before .before .before .before .before .before .args .w) + 2) 0) (headAt (c .before .before .before .before .before .before .before .before .args .table .now) (c .before .before .before .before .before .before .before .before .args .reals .now) (c .before .before .before .before .before .before .before .before .args .counts .now) (c .before .before .before .before .before .before .before .before .args .w)) (c .before .before .before .before .before .before .before .before .args .s) (c .before .before .before .before .before .before .before .before .args .depth) (c .before .before .before .before .before .before .before .before .args .number) (c .before .before .before .before .before .before .before .before .pre .1 .2)) .bin)
 
 -- src/acceptance.rt:88:27
 bins-accept-shared-slice-read-value : (t : ℕ) → bins-accept-lts.Need-shared-slice-read-value (
@@ -207,7 +221,7 @@ bins-accept-shared-slice-read-value : (t : ℕ) → bins-accept-lts.Need-shared-
   child-accepts-below t,
   child-accepts.Post,
 ) (bins-accept-at t) bins-accept.Post
-bins-accept-shared-slice-read-value t c = ?
+bins-accept-shared-slice-read-value t c = omega (arith, (c .before .before .before .before .before .before .before .before .before .pre .1 .0), (formed (gridAt (c .before .before .before .before .before .before .before .before .before .args .level) (c .before .before .before .before .before .before .before .before .before .args .table .now) (c .before .before .before .before .before .before .before .before .before .args .reals .now) (c .before .before .before .before .before .before .before .before .before .args .counts .now)) (c .before .before .before .before .before .before .before .before .before .args .table .now) (c .before .before .before .before .before .before .before .before .before .args .reals .now) (c .before .before .before .before .before .before .before .before .before .args .counts .now) (c .before .before .before .before .before .before .before .before .before .args .w) (getD (c .before .before .before .before .before .before .before .before .before .args .table .now) ((c .before .before .before .before .before .before .before .before .before .args .w) + 2) 0) (headAt (c .before .before .before .before .before .before .before .before .before .args .table .now) (c .before .before .before .before .before .before .before .before .before .args .reals .now) (c .before .before .before .before .before .before .before .before .before .args .counts .now) (c .before .before .before .before .before .before .before .before .before .args .w)) (c .before .before .before .before .before .before .before .before .before .args .s) (c .before .before .before .before .before .before .before .before .before .args .depth) (c .before .before .before .before .before .before .before .before .before .args .number) (c .before .before .before .before .before .before .before .before .before .pre .1 .2)) .bin)
 
 -- src/acceptance.rt:89:9
 bins-accept-fits-with-requires : (t : ℕ) → bins-accept-lts.Need-fits-with-requires (
@@ -216,7 +230,8 @@ bins-accept-fits-with-requires : (t : ℕ) → bins-accept-lts.Need-fits-with-re
   child-accepts-below t,
   child-accepts.Post,
 ) (bins-accept-at t) bins-accept.Post
-bins-accept-fits-with-requires t c κs = ?
+unfolding headAt
+bins-accept-fits-with-requires t c κs = (omega (arith, (c .before .before .before .before .before .before .before .before .before .pre .1 .0)), omega (arith, (c .before .before .before .before .before .before .before .before .before .pre .1 .0)), head-sound (gridAt (c .before .before .before .before .before .before .before .before .before .args .level) (c .before .before .before .before .before .before .before .before .before .args .table .now) (c .before .before .before .before .before .before .before .before .before .args .reals .now) (c .before .before .before .before .before .before .before .before .before .args .counts .now)) (c .before .before .before .before .before .before .before .before .before .args .table .now) (c .before .before .before .before .before .before .before .before .before .args .reals .now) (c .before .before .before .before .before .before .before .before .before .args .counts .now) (c .before .before .before .before .before .before .before .before .before .args .w) (getD (c .before .before .before .before .before .before .before .before .before .args .table .now) ((c .before .before .before .before .before .before .before .before .before .args .w) + 2) 0) (headAt (c .before .before .before .before .before .before .before .before .before .args .table .now) (c .before .before .before .before .before .before .before .before .before .args .reals .now) (c .before .before .before .before .before .before .before .before .before .args .counts .now) (c .before .before .before .before .before .before .before .before .before .args .w)) (c .before .before .before .before .before .before .before .before .before .args .s) (c .before .before .before .before .before .before .before .before .before .args .depth) (c .before .before .before .before .before .before .before .before .before .args .number) (c .before .before .before .before .before .before .before .before .before .pre .1 .2), (c .before .before .before .before .before .before .before .before .before .pre .1 .2) .number)
 
 -- src/acceptance.rt:90:50
 bins-accept-add-fits-with : (t : ℕ) → bins-accept-lts.Need-add-fits-with (
@@ -225,7 +240,7 @@ bins-accept-add-fits-with : (t : ℕ) → bins-accept-lts.Need-add-fits-with (
   child-accepts-below t,
   child-accepts.Post,
 ) (bins-accept-at t) bins-accept.Post
-bins-accept-add-fits-with t c = ?
+bins-accept-add-fits-with t c = omega (arith, (c .before .before .before .before .before .before .before .before .before .before .pre .1 .0), (formed (gridAt (c .before .before .before .before .before .before .before .before .before .before .args .level) (c .before .before .before .before .before .before .before .before .before .before .args .table .now) (c .before .before .before .before .before .before .before .before .before .before .args .reals .now) (c .before .before .before .before .before .before .before .before .before .before .args .counts .now)) (c .before .before .before .before .before .before .before .before .before .before .args .table .now) (c .before .before .before .before .before .before .before .before .before .before .args .reals .now) (c .before .before .before .before .before .before .before .before .before .before .args .counts .now) (c .before .before .before .before .before .before .before .before .before .before .args .w) (getD (c .before .before .before .before .before .before .before .before .before .before .args .table .now) ((c .before .before .before .before .before .before .before .before .before .before .args .w) + 2) 0) (headAt (c .before .before .before .before .before .before .before .before .before .before .args .table .now) (c .before .before .before .before .before .before .before .before .before .before .args .reals .now) (c .before .before .before .before .before .before .before .before .before .before .args .counts .now) (c .before .before .before .before .before .before .before .before .before .before .args .w)) (c .before .before .before .before .before .before .before .before .before .before .args .s) (c .before .before .before .before .before .before .before .before .before .before .args .depth) (c .before .before .before .before .before .before .before .before .before .before .args .number) (c .before .before .before .before .before .before .before .before .before .before .pre .1 .2)) .bin)
 
 -- src/acceptance.rt:90:50
 bins-accept-add-fits-with-2 : (t : ℕ) → bins-accept-lts.Need-add-fits-with-2 (
@@ -234,7 +249,7 @@ bins-accept-add-fits-with-2 : (t : ℕ) → bins-accept-lts.Need-add-fits-with-2
   child-accepts-below t,
   child-accepts.Post,
 ) (bins-accept-at t) bins-accept.Post
-bins-accept-add-fits-with-2 t c = ?
+bins-accept-add-fits-with-2 t c = omega (arith, (c .before .before .before .before .before .before .before .before .before .before .pre .1 .0), (formed (gridAt (c .before .before .before .before .before .before .before .before .before .before .args .level) (c .before .before .before .before .before .before .before .before .before .before .args .table .now) (c .before .before .before .before .before .before .before .before .before .before .args .reals .now) (c .before .before .before .before .before .before .before .before .before .before .args .counts .now)) (c .before .before .before .before .before .before .before .before .before .before .args .table .now) (c .before .before .before .before .before .before .before .before .before .before .args .reals .now) (c .before .before .before .before .before .before .before .before .before .before .args .counts .now) (c .before .before .before .before .before .before .before .before .before .before .args .w) (getD (c .before .before .before .before .before .before .before .before .before .before .args .table .now) ((c .before .before .before .before .before .before .before .before .before .before .args .w) + 2) 0) (headAt (c .before .before .before .before .before .before .before .before .before .before .args .table .now) (c .before .before .before .before .before .before .before .before .before .before .args .reals .now) (c .before .before .before .before .before .before .before .before .before .before .args .counts .now) (c .before .before .before .before .before .before .before .before .before .before .args .w)) (c .before .before .before .before .before .before .before .before .before .before .args .s) (c .before .before .before .before .before .before .before .before .before .before .args .depth) (c .before .before .before .before .before .before .before .before .before .before .args .number) (c .before .before .before .before .before .before .before .before .before .before .pre .1 .2)) .bin)
 
 -- src/acceptance.rt:90:63
 bins-accept-mul-fits-with : (t : ℕ) → bins-accept-lts.Need-mul-fits-with (
@@ -243,7 +258,7 @@ bins-accept-mul-fits-with : (t : ℕ) → bins-accept-lts.Need-mul-fits-with (
   child-accepts-below t,
   child-accepts.Post,
 ) (bins-accept-at t) bins-accept.Post
-bins-accept-mul-fits-with t c = ?
+bins-accept-mul-fits-with t c = omega (arith, (c .before .before .before .before .before .before .before .before .before .before .pre .1 .0), (formed (gridAt (c .before .before .before .before .before .before .before .before .before .before .args .level) (c .before .before .before .before .before .before .before .before .before .before .args .table .now) (c .before .before .before .before .before .before .before .before .before .before .args .reals .now) (c .before .before .before .before .before .before .before .before .before .before .args .counts .now)) (c .before .before .before .before .before .before .before .before .before .before .args .table .now) (c .before .before .before .before .before .before .before .before .before .before .args .reals .now) (c .before .before .before .before .before .before .before .before .before .before .args .counts .now) (c .before .before .before .before .before .before .before .before .before .before .args .w) (getD (c .before .before .before .before .before .before .before .before .before .before .args .table .now) ((c .before .before .before .before .before .before .before .before .before .before .args .w) + 2) 0) (headAt (c .before .before .before .before .before .before .before .before .before .before .args .table .now) (c .before .before .before .before .before .before .before .before .before .before .args .reals .now) (c .before .before .before .before .before .before .before .before .before .before .args .counts .now) (c .before .before .before .before .before .before .before .before .before .before .args .w)) (c .before .before .before .before .before .before .before .before .before .before .args .s) (c .before .before .before .before .before .before .before .before .before .before .args .depth) (c .before .before .before .before .before .before .before .before .before .before .args .number) (c .before .before .before .before .before .before .before .before .before .before .pre .1 .2)) .bin)
 
 -- src/acceptance.rt:90:50
 bins-accept-add-fits-with-3 : (t : ℕ) → bins-accept-lts.Need-add-fits-with-3 (
@@ -252,7 +267,7 @@ bins-accept-add-fits-with-3 : (t : ℕ) → bins-accept-lts.Need-add-fits-with-3
   child-accepts-below t,
   child-accepts.Post,
 ) (bins-accept-at t) bins-accept.Post
-bins-accept-add-fits-with-3 t c = ?
+bins-accept-add-fits-with-3 t c = omega (arith, (c .before .before .before .before .before .before .before .before .before .before .pre .1 .0), (formed (gridAt (c .before .before .before .before .before .before .before .before .before .before .args .level) (c .before .before .before .before .before .before .before .before .before .before .args .table .now) (c .before .before .before .before .before .before .before .before .before .before .args .reals .now) (c .before .before .before .before .before .before .before .before .before .before .args .counts .now)) (c .before .before .before .before .before .before .before .before .before .before .args .table .now) (c .before .before .before .before .before .before .before .before .before .before .args .reals .now) (c .before .before .before .before .before .before .before .before .before .before .args .counts .now) (c .before .before .before .before .before .before .before .before .before .before .args .w) (getD (c .before .before .before .before .before .before .before .before .before .before .args .table .now) ((c .before .before .before .before .before .before .before .before .before .before .args .w) + 2) 0) (headAt (c .before .before .before .before .before .before .before .before .before .before .args .table .now) (c .before .before .before .before .before .before .before .before .before .before .args .reals .now) (c .before .before .before .before .before .before .before .before .before .before .args .counts .now) (c .before .before .before .before .before .before .before .before .before .before .args .w)) (c .before .before .before .before .before .before .before .before .before .before .args .s) (c .before .before .before .before .before .before .before .before .before .before .args .depth) (c .before .before .before .before .before .before .before .before .before .before .args .number) (c .before .before .before .before .before .before .before .before .before .before .pre .1 .2)) .bin)
 
 -- src/acceptance.rt:90:73
 bins-accept-add-fits-with-4 : (t : ℕ) → bins-accept-lts.Need-add-fits-with-4 (
@@ -261,7 +276,7 @@ bins-accept-add-fits-with-4 : (t : ℕ) → bins-accept-lts.Need-add-fits-with-4
   child-accepts-below t,
   child-accepts.Post,
 ) (bins-accept-at t) bins-accept.Post
-bins-accept-add-fits-with-4 t c = ?
+bins-accept-add-fits-with-4 t c = omega (arith, (c .before .before .before .before .before .before .before .before .before .before .pre .1 .0), (formed (gridAt (c .before .before .before .before .before .before .before .before .before .before .args .level) (c .before .before .before .before .before .before .before .before .before .before .args .table .now) (c .before .before .before .before .before .before .before .before .before .before .args .reals .now) (c .before .before .before .before .before .before .before .before .before .before .args .counts .now)) (c .before .before .before .before .before .before .before .before .before .before .args .table .now) (c .before .before .before .before .before .before .before .before .before .before .args .reals .now) (c .before .before .before .before .before .before .before .before .before .before .args .counts .now) (c .before .before .before .before .before .before .before .before .before .before .args .w) (getD (c .before .before .before .before .before .before .before .before .before .before .args .table .now) ((c .before .before .before .before .before .before .before .before .before .before .args .w) + 2) 0) (headAt (c .before .before .before .before .before .before .before .before .before .before .args .table .now) (c .before .before .before .before .before .before .before .before .before .before .args .reals .now) (c .before .before .before .before .before .before .before .before .before .before .args .counts .now) (c .before .before .before .before .before .before .before .before .before .before .args .w)) (c .before .before .before .before .before .before .before .before .before .before .args .s) (c .before .before .before .before .before .before .before .before .before .before .args .depth) (c .before .before .before .before .before .before .before .before .before .before .args .number) (c .before .before .before .before .before .before .before .before .before .before .pre .1 .2)) .bin)
 
 -- src/acceptance.rt:90:81
 bins-accept-mul-fits-with-2 : (t : ℕ) → bins-accept-lts.Need-mul-fits-with-2 (
@@ -270,7 +285,7 @@ bins-accept-mul-fits-with-2 : (t : ℕ) → bins-accept-lts.Need-mul-fits-with-2
   child-accepts-below t,
   child-accepts.Post,
 ) (bins-accept-at t) bins-accept.Post
-bins-accept-mul-fits-with-2 t c = ?
+bins-accept-mul-fits-with-2 t c = omega (arith, (c .before .before .before .before .before .before .before .before .before .before .pre .1 .0), (formed (gridAt (c .before .before .before .before .before .before .before .before .before .before .args .level) (c .before .before .before .before .before .before .before .before .before .before .args .table .now) (c .before .before .before .before .before .before .before .before .before .before .args .reals .now) (c .before .before .before .before .before .before .before .before .before .before .args .counts .now)) (c .before .before .before .before .before .before .before .before .before .before .args .table .now) (c .before .before .before .before .before .before .before .before .before .before .args .reals .now) (c .before .before .before .before .before .before .before .before .before .before .args .counts .now) (c .before .before .before .before .before .before .before .before .before .before .args .w) (getD (c .before .before .before .before .before .before .before .before .before .before .args .table .now) ((c .before .before .before .before .before .before .before .before .before .before .args .w) + 2) 0) (headAt (c .before .before .before .before .before .before .before .before .before .before .args .table .now) (c .before .before .before .before .before .before .before .before .before .before .args .reals .now) (c .before .before .before .before .before .before .before .before .before .before .args .counts .now) (c .before .before .before .before .before .before .before .before .before .before .args .w)) (c .before .before .before .before .before .before .before .before .before .before .args .s) (c .before .before .before .before .before .before .before .before .before .before .args .depth) (c .before .before .before .before .before .before .before .before .before .before .args .number) (c .before .before .before .before .before .before .before .before .before .before .pre .1 .2)) .bin)
 
 -- src/acceptance.rt:90:73
 bins-accept-add-fits-with-5 : (t : ℕ) → bins-accept-lts.Need-add-fits-with-5 (
@@ -279,7 +294,7 @@ bins-accept-add-fits-with-5 : (t : ℕ) → bins-accept-lts.Need-add-fits-with-5
   child-accepts-below t,
   child-accepts.Post,
 ) (bins-accept-at t) bins-accept.Post
-bins-accept-add-fits-with-5 t c = ?
+bins-accept-add-fits-with-5 t c = omega (arith, (c .before .before .before .before .before .before .before .before .before .before .pre .1 .0), (formed (gridAt (c .before .before .before .before .before .before .before .before .before .before .args .level) (c .before .before .before .before .before .before .before .before .before .before .args .table .now) (c .before .before .before .before .before .before .before .before .before .before .args .reals .now) (c .before .before .before .before .before .before .before .before .before .before .args .counts .now)) (c .before .before .before .before .before .before .before .before .before .before .args .table .now) (c .before .before .before .before .before .before .before .before .before .before .args .reals .now) (c .before .before .before .before .before .before .before .before .before .before .args .counts .now) (c .before .before .before .before .before .before .before .before .before .before .args .w) (getD (c .before .before .before .before .before .before .before .before .before .before .args .table .now) ((c .before .before .before .before .before .before .before .before .before .before .args .w) + 2) 0) (headAt (c .before .before .before .before .before .before .before .before .before .before .args .table .now) (c .before .before .before .before .before .before .before .before .before .before .args .reals .now) (c .before .before .before .before .before .before .before .before .before .before .args .counts .now) (c .before .before .before .before .before .before .before .before .before .before .args .w)) (c .before .before .before .before .before .before .before .before .before .before .args .s) (c .before .before .before .before .before .before .before .before .before .before .args .depth) (c .before .before .before .before .before .before .before .before .before .before .args .number) (c .before .before .before .before .before .before .before .before .before .before .pre .1 .2)) .bin)
 
 -- src/acceptance.rt:90:9
 bins-accept-fits-with-requires-2 : (t : ℕ) → bins-accept-lts.Need-fits-with-requires-2 (
@@ -288,7 +303,8 @@ bins-accept-fits-with-requires-2 : (t : ℕ) → bins-accept-lts.Need-fits-with-
   child-accepts-below t,
   child-accepts.Post,
 ) (bins-accept-at t) bins-accept.Post
-bins-accept-fits-with-requires-2 t c κs = ?
+unfolding binIn
+bins-accept-fits-with-requires-2 t c κs = (omega (arith, (c .before .before .before .before .before .before .before .before .before .before .pre .1 .0), (formed (gridAt (c .before .before .before .before .before .before .before .before .before .before .args .level) (c .before .before .before .before .before .before .before .before .before .before .args .table .now) (c .before .before .before .before .before .before .before .before .before .before .args .reals .now) (c .before .before .before .before .before .before .before .before .before .before .args .counts .now)) (c .before .before .before .before .before .before .before .before .before .before .args .table .now) (c .before .before .before .before .before .before .before .before .before .before .args .reals .now) (c .before .before .before .before .before .before .before .before .before .before .args .counts .now) (c .before .before .before .before .before .before .before .before .before .before .args .w) (getD (c .before .before .before .before .before .before .before .before .before .before .args .table .now) ((c .before .before .before .before .before .before .before .before .before .before .args .w) + 2) 0) (headAt (c .before .before .before .before .before .before .before .before .before .before .args .table .now) (c .before .before .before .before .before .before .before .before .before .before .args .reals .now) (c .before .before .before .before .before .before .before .before .before .before .args .counts .now) (c .before .before .before .before .before .before .before .before .before .before .args .w)) (c .before .before .before .before .before .before .before .before .before .before .args .s) (c .before .before .before .before .before .before .before .before .before .before .args .depth) (c .before .before .before .before .before .before .before .before .before .before .args .number) (c .before .before .before .before .before .before .before .before .before .before .pre .1 .2)) .bin), omega (arith, (c .before .before .before .before .before .before .before .before .before .before .pre .1 .0), (formed (gridAt (c .before .before .before .before .before .before .before .before .before .before .args .level) (c .before .before .before .before .before .before .before .before .before .before .args .table .now) (c .before .before .before .before .before .before .before .before .before .before .args .reals .now) (c .before .before .before .before .before .before .before .before .before .before .args .counts .now)) (c .before .before .before .before .before .before .before .before .before .before .args .table .now) (c .before .before .before .before .before .before .before .before .before .before .args .reals .now) (c .before .before .before .before .before .before .before .before .before .before .args .counts .now) (c .before .before .before .before .before .before .before .before .before .before .args .w) (getD (c .before .before .before .before .before .before .before .before .before .before .args .table .now) ((c .before .before .before .before .before .before .before .before .before .before .args .w) + 2) 0) (headAt (c .before .before .before .before .before .before .before .before .before .before .args .table .now) (c .before .before .before .before .before .before .before .before .before .before .args .reals .now) (c .before .before .before .before .before .before .before .before .before .before .args .counts .now) (c .before .before .before .before .before .before .before .before .before .before .args .w)) (c .before .before .before .before .before .before .before .before .before .before .args .s) (c .before .before .before .before .before .before .before .before .before .before .args .depth) (c .before .before .before .before .before .before .before .before .before .before .args .number) (c .before .before .before .before .before .before .before .before .before .before .pre .1 .2)) .bin), spot-sound (gridAt (c .before .before .before .before .before .before .before .before .before .before .args .level) (c .before .before .before .before .before .before .before .before .before .before .args .table .now) (c .before .before .before .before .before .before .before .before .before .before .args .reals .now) (c .before .before .before .before .before .before .before .before .before .before .args .counts .now)) (c .before .before .before .before .before .before .before .before .before .before .args .table .now) (c .before .before .before .before .before .before .before .before .before .before .args .reals .now) (c .before .before .before .before .before .before .before .before .before .before .args .counts .now) (c .before .before .before .before .before .before .before .before .before .before .args .w) (getD (c .before .before .before .before .before .before .before .before .before .before .args .table .now) ((c .before .before .before .before .before .before .before .before .before .before .args .w) + 2) 0) (headAt (c .before .before .before .before .before .before .before .before .before .before .args .table .now) (c .before .before .before .before .before .before .before .before .before .before .args .reals .now) (c .before .before .before .before .before .before .before .before .before .before .args .counts .now) (c .before .before .before .before .before .before .before .before .before .before .args .w)) (c .before .before .before .before .before .before .before .before .before .before .args .s) (c .before .before .before .before .before .before .before .before .before .before .args .depth) (c .before .before .before .before .before .before .before .before .before .before .args .number) (c .before .before .before .before .before .before .before .before .before .before .pre .1 .2), (c .before .before .before .before .before .before .before .before .before .before .pre .1 .2) .number)
 
 -- src/acceptance.rt:91:22
 bins-accept-add-link : (t : ℕ) → bins-accept-lts.Need-add-link (
@@ -297,7 +313,7 @@ bins-accept-add-link : (t : ℕ) → bins-accept-lts.Need-add-link (
   child-accepts-below t,
   child-accepts.Post,
 ) (bins-accept-at t) bins-accept.Post
-bins-accept-add-link t c = ?
+bins-accept-add-link t c = omega (arith, (c .before .before .before .before .before .before .before .before .before .before .before .pre .1 .0), (formed (gridAt (c .before .before .before .before .before .before .before .before .before .before .before .args .level) (c .before .before .before .before .before .before .before .before .before .before .before .args .table .now) (c .before .before .before .before .before .before .before .before .before .before .before .args .reals .now) (c .before .before .before .before .before .before .before .before .before .before .before .args .counts .now)) (c .before .before .before .before .before .before .before .before .before .before .before .args .table .now) (c .before .before .before .before .before .before .before .before .before .before .before .args .reals .now) (c .before .before .before .before .before .before .before .before .before .before .before .args .counts .now) (c .before .before .before .before .before .before .before .before .before .before .before .args .w) (getD (c .before .before .before .before .before .before .before .before .before .before .before .args .table .now) ((c .before .before .before .before .before .before .before .before .before .before .before .args .w) + 2) 0) (headAt (c .before .before .before .before .before .before .before .before .before .before .before .args .table .now) (c .before .before .before .before .before .before .before .before .before .before .before .args .reals .now) (c .before .before .before .before .before .before .before .before .before .before .before .args .counts .now) (c .before .before .before .before .before .before .before .before .before .before .before .args .w)) (c .before .before .before .before .before .before .before .before .before .before .before .args .s) (c .before .before .before .before .before .before .before .before .before .before .before .args .depth) (c .before .before .before .before .before .before .before .before .before .before .before .args .number) (c .before .before .before .before .before .before .before .before .before .before .before .pre .1 .2)) .bin)
 
 -- src/acceptance.rt:91:22
 bins-accept-add-link-2 : (t : ℕ) → bins-accept-lts.Need-add-link-2 (
@@ -306,7 +322,7 @@ bins-accept-add-link-2 : (t : ℕ) → bins-accept-lts.Need-add-link-2 (
   child-accepts-below t,
   child-accepts.Post,
 ) (bins-accept-at t) bins-accept.Post
-bins-accept-add-link-2 t c = ?
+bins-accept-add-link-2 t c = omega (arith, (c .before .before .before .before .before .before .before .before .before .before .before .pre .1 .0), (formed (gridAt (c .before .before .before .before .before .before .before .before .before .before .before .args .level) (c .before .before .before .before .before .before .before .before .before .before .before .args .table .now) (c .before .before .before .before .before .before .before .before .before .before .before .args .reals .now) (c .before .before .before .before .before .before .before .before .before .before .before .args .counts .now)) (c .before .before .before .before .before .before .before .before .before .before .before .args .table .now) (c .before .before .before .before .before .before .before .before .before .before .before .args .reals .now) (c .before .before .before .before .before .before .before .before .before .before .before .args .counts .now) (c .before .before .before .before .before .before .before .before .before .before .before .args .w) (getD (c .before .before .before .before .before .before .before .before .before .before .before .args .table .now) ((c .before .before .before .before .before .before .before .before .before .before .before .args .w) + 2) 0) (headAt (c .before .before .before .before .before .before .before .before .before .before .before .args .table .now) (c .before .before .before .before .before .before .before .before .before .before .before .args .reals .now) (c .before .before .before .before .before .before .before .before .before .before .before .args .counts .now) (c .before .before .before .before .before .before .before .before .before .before .before .args .w)) (c .before .before .before .before .before .before .before .before .before .before .before .args .s) (c .before .before .before .before .before .before .before .before .before .before .before .args .depth) (c .before .before .before .before .before .before .before .before .before .before .before .args .number) (c .before .before .before .before .before .before .before .before .before .before .before .pre .1 .2)) .bin)
 
 -- src/acceptance.rt:91:16
 bins-accept-mul-link : (t : ℕ) → bins-accept-lts.Need-mul-link (
@@ -315,7 +331,7 @@ bins-accept-mul-link : (t : ℕ) → bins-accept-lts.Need-mul-link (
   child-accepts-below t,
   child-accepts.Post,
 ) (bins-accept-at t) bins-accept.Post
-bins-accept-mul-link t c = ?
+bins-accept-mul-link t c = omega (arith, (c .before .before .before .before .before .before .before .before .before .before .before .pre .1 .0), (formed (gridAt (c .before .before .before .before .before .before .before .before .before .before .before .args .level) (c .before .before .before .before .before .before .before .before .before .before .before .args .table .now) (c .before .before .before .before .before .before .before .before .before .before .before .args .reals .now) (c .before .before .before .before .before .before .before .before .before .before .before .args .counts .now)) (c .before .before .before .before .before .before .before .before .before .before .before .args .table .now) (c .before .before .before .before .before .before .before .before .before .before .before .args .reals .now) (c .before .before .before .before .before .before .before .before .before .before .before .args .counts .now) (c .before .before .before .before .before .before .before .before .before .before .before .args .w) (getD (c .before .before .before .before .before .before .before .before .before .before .before .args .table .now) ((c .before .before .before .before .before .before .before .before .before .before .before .args .w) + 2) 0) (headAt (c .before .before .before .before .before .before .before .before .before .before .before .args .table .now) (c .before .before .before .before .before .before .before .before .before .before .before .args .reals .now) (c .before .before .before .before .before .before .before .before .before .before .before .args .counts .now) (c .before .before .before .before .before .before .before .before .before .before .before .args .w)) (c .before .before .before .before .before .before .before .before .before .before .before .args .s) (c .before .before .before .before .before .before .before .before .before .before .before .args .depth) (c .before .before .before .before .before .before .before .before .before .before .before .args .number) (c .before .before .before .before .before .before .before .before .before .before .before .pre .1 .2)) .bin)
 
 -- src/acceptance.rt:91:16
 bins-accept-shared-slice-read-link : (t : ℕ) → bins-accept-lts.Need-shared-slice-read-link (
@@ -324,7 +340,7 @@ bins-accept-shared-slice-read-link : (t : ℕ) → bins-accept-lts.Need-shared-s
   child-accepts-below t,
   child-accepts.Post,
 ) (bins-accept-at t) bins-accept.Post
-bins-accept-shared-slice-read-link t c = ?
+bins-accept-shared-slice-read-link t c = omega (arith, (c .before .before .before .before .before .before .before .before .before .before .before .before .pre .1 .0), (formed (gridAt (c .before .before .before .before .before .before .before .before .before .before .before .before .args .level) (c .before .before .before .before .before .before .before .before .before .before .before .before .args .table .now) (c .before .before .before .before .before .before .before .before .before .before .before .before .args .reals .now) (c .before .before .before .before .before .before .before .before .before .before .before .before .args .counts .now)) (c .before .before .before .before .before .before .before .before .before .before .before .before .args .table .now) (c .before .before .before .before .before .before .before .before .before .before .before .before .args .reals .now) (c .before .before .before .before .before .before .before .before .before .before .before .before .args .counts .now) (c .before .before .before .before .before .before .before .before .before .before .before .before .args .w) (getD (c .before .before .before .before .before .before .before .before .before .before .before .before .args .table .now) ((c .before .before .before .before .before .before .before .before .before .before .before .before .args .w) + 2) 0) (headAt (c .before .before .before .before .before .before .before .before .before .before .before .before .args .table .now) (c .before .before .before .before .before .before .before .before .before .before .before .before .args .reals .now) (c .before .before .before .before .before .before .before .before .before .before .before .before .args .counts .now) (c .before .before .before .before .before .before .before .before .before .before .before .before .args .w)) (c .before .before .before .before .before .before .before .before .before .before .before .before .args .s) (c .before .before .before .before .before .before .before .before .before .before .before .before .args .depth) (c .before .before .before .before .before .before .before .before .before .before .before .before .args .number) (c .before .before .before .before .before .before .before .before .before .before .before .before .pre .1 .2)) .bin)
 
 -- src/acceptance.rt:92:69
 bins-accept-add-child-accepts : (t : ℕ) → bins-accept-lts.Need-add-child-accepts (
@@ -333,7 +349,7 @@ bins-accept-add-child-accepts : (t : ℕ) → bins-accept-lts.Need-add-child-acc
   child-accepts-below t,
   child-accepts.Post,
 ) (bins-accept-at t) bins-accept.Post
-bins-accept-add-child-accepts t c = ?
+bins-accept-add-child-accepts t c = omega (arith, c .before .before .before .before .before .before .before .before .before .before .before .before .pre .1 .1)
 
 -- src/acceptance.rt:92:9
 bins-accept-child-accepts-requires : (t : ℕ) → bins-accept-lts.Need-child-accepts-requires (
@@ -342,7 +358,8 @@ bins-accept-child-accepts-requires : (t : ℕ) → bins-accept-lts.Need-child-ac
   child-accepts-below t,
   child-accepts.Post,
 ) (bins-accept-at t) bins-accept.Post
-bins-accept-child-accepts-requires t c κs = ?
+unfolding ChildLaid
+bins-accept-child-accepts-requires t c κs = (omega (arith, c .before .before .before .before .before .before .before .before .before .before .before .before .pre .0), (λ z. (c .before .before .before .before .before .before .before .before .before .before .before .before .pre .1 .0) .children (getD ((c .before .before .before .before .before .before .before .before .before .before .before .before .args .s) .path) (c .before .before .before .before .before .before .before .before .before .before .before .before .args .depth) 0) ((formed (gridAt (c .before .before .before .before .before .before .before .before .before .before .before .before .args .level) (c .before .before .before .before .before .before .before .before .before .before .before .before .args .table .now) (c .before .before .before .before .before .before .before .before .before .before .before .before .args .reals .now) (c .before .before .before .before .before .before .before .before .before .before .before .before .args .counts .now)) (c .before .before .before .before .before .before .before .before .before .before .before .before .args .table .now) (c .before .before .before .before .before .before .before .before .before .before .before .before .args .reals .now) (c .before .before .before .before .before .before .before .before .before .before .before .before .args .counts .now) (c .before .before .before .before .before .before .before .before .before .before .before .before .args .w) (getD (c .before .before .before .before .before .before .before .before .before .before .before .before .args .table .now) ((c .before .before .before .before .before .before .before .before .before .before .before .before .args .w) + 2) 0) (headAt (c .before .before .before .before .before .before .before .before .before .before .before .before .args .table .now) (c .before .before .before .before .before .before .before .before .before .before .before .before .args .reals .now) (c .before .before .before .before .before .before .before .before .before .before .before .before .args .counts .now) (c .before .before .before .before .before .before .before .before .before .before .before .before .args .w)) (c .before .before .before .before .before .before .before .before .before .before .before .before .args .s) (c .before .before .before .before .before .before .before .before .before .before .before .before .args .depth) (c .before .before .before .before .before .before .before .before .before .before .before .before .args .number) (c .before .before .before .before .before .before .before .before .before .before .before .before .pre .1 .2)) .bin) z, omega (arith, c .before .before .before .before .before .before .before .before .before .before .before .before .pre .1 .1), takes-below (gridAt (c .before .before .before .before .before .before .before .before .before .before .before .before .args .level) (c .before .before .before .before .before .before .before .before .before .before .before .before .args .table .now) (c .before .before .before .before .before .before .before .before .before .before .before .before .args .reals .now) (c .before .before .before .before .before .before .before .before .before .before .before .before .args .counts .now)) (c .before .before .before .before .before .before .before .before .before .before .before .before .args .table .now) (c .before .before .before .before .before .before .before .before .before .before .before .before .args .reals .now) (c .before .before .before .before .before .before .before .before .before .before .before .before .args .counts .now) (c .before .before .before .before .before .before .before .before .before .before .before .before .args .w) (getD (c .before .before .before .before .before .before .before .before .before .before .before .before .args .table .now) ((c .before .before .before .before .before .before .before .before .before .before .before .before .args .w) + 2) 0) (headAt (c .before .before .before .before .before .before .before .before .before .before .before .before .args .table .now) (c .before .before .before .before .before .before .before .before .before .before .before .before .args .reals .now) (c .before .before .before .before .before .before .before .before .before .before .before .before .args .counts .now) (c .before .before .before .before .before .before .before .before .before .before .before .before .args .w)) (c .before .before .before .before .before .before .before .before .before .before .before .before .args .s) (c .before .before .before .before .before .before .before .before .before .before .before .before .args .depth) (c .before .before .before .before .before .before .before .before .before .before .before .before .args .number) (c .before .before .before .before .before .before .before .before .before .before .before .before .pre .1 .2)))
 
 -- src/acceptance.rt:64:1
 bins-accept-returns : (t : ℕ) → bins-accept-lts.Need-returns (
@@ -351,28 +368,30 @@ bins-accept-returns : (t : ℕ) → bins-accept-lts.Need-returns (
   child-accepts-below t,
   child-accepts.Post,
 ) (bins-accept-at t) bins-accept.Post
-bins-accept-returns t c = ?
+unfolding binIn headAt
+bins-accept-returns t c = ap₂ _&&_ (c .before .before .before .fits-with .ensures) (ap₂ _&&_ (c .before .before .fits-with2 .ensures) (c .child-accepts .ensures)) ∙ bins-told (gridAt (c .before .before .before .before .before .before .before .before .before .before .before .before .before .args .level) (c .before .before .before .before .before .before .before .before .before .before .before .before .before .args .table .now) (c .before .before .before .before .before .before .before .before .before .before .before .before .before .args .reals .now) (c .before .before .before .before .before .before .before .before .before .before .before .before .before .args .counts .now)) (c .before .before .before .before .before .before .before .before .before .before .before .before .before .args .table .now) (c .before .before .before .before .before .before .before .before .before .before .before .before .before .args .reals .now) (c .before .before .before .before .before .before .before .before .before .before .before .before .before .args .counts .now) (c .before .before .before .before .before .before .before .before .before .before .before .before .before .args .w) (getD (c .before .before .before .before .before .before .before .before .before .before .before .before .before .args .table .now) ((c .before .before .before .before .before .before .before .before .before .before .before .before .before .args .w) + 2) 0) (headAt (c .before .before .before .before .before .before .before .before .before .before .before .before .before .args .table .now) (c .before .before .before .before .before .before .before .before .before .before .before .before .before .args .reals .now) (c .before .before .before .before .before .before .before .before .before .before .before .before .before .args .counts .now) (c .before .before .before .before .before .before .before .before .before .before .before .before .before .args .w)) (c .before .before .before .before .before .before .before .before .before .before .before .before .before .args .s) (c .before .before .before .before .before .before .before .before .before .before .before .before .before .args .depth) (c .before .before .before .before .before .before .before .before .before .before .before .before .before .args .number) (c .before .before .before .before .before .before .before .before .before .before .before .before .before .pre .1 .2) (c .before .before .before .before .before .before .before .before .before .before .before .before .before .args .evaluation)
 
 -- src/acceptance.rt:58:9
 child-accepts-returns : (t : ℕ) → child-accepts-lts.Need-returns (
   grid-accepts-below t,
   grid-accepts.Post,
 ) (child-accepts-at t) child-accepts.Post
-child-accepts-returns t c = ?
+child-accepts-returns t c = none-told (gridAt (c .before .before .before .before .args .level) (c .before .before .before .before .args .table .now) (c .before .before .before .before .args .reals .now) (c .before .before .before .before .args .counts .now)) (c .before .before .before .before .args .link) (pathLeft (c .before .before .before .before .args .s) (c .before .before .before .before .args .depth)) (weightsLeft (c .before .before .before .before .args .s) (c .before .before .before .before .args .depth)) (placesIn (c .before .before .before .before .args .s)) (c .before .before .before .before .args .evaluation) (c .before .before .before .before .args .number) (c .if1 .taken)
 
 -- src/acceptance.rt:60:5
 child-accepts-grid-accepts-requires : (t : ℕ) → child-accepts-lts.Need-grid-accepts-requires (
   grid-accepts-below t,
   grid-accepts.Post,
 ) (child-accepts-at t) child-accepts.Post
-child-accepts-grid-accepts-requires t c κs = ?
+unfolding ChildLaid
+child-accepts-grid-accepts-requires t c κs = (omega (arith, c .before .before .before .before .pre .0), (c .before .before .before .before .pre .1 .0 (c .if1 .left), c .before .before .before .before .pre .1 .1, takes-grid (gridAt (c .before .before .before .before .args .level) (c .before .before .before .before .args .table .now) (c .before .before .before .before .args .reals .now) (c .before .before .before .before .args .counts .now)) (c .before .before .before .before .args .link) (c .before .before .before .before .args .s) (c .before .before .before .before .args .depth) (c .before .before .before .before .args .number) (c .if1 .left) (c .before .before .before .before .pre .1 .2)))
 
 -- src/acceptance.rt:43:1
 child-accepts-returns-2 : (t : ℕ) → child-accepts-lts.Need-returns-2 (
   grid-accepts-below t,
   grid-accepts.Post,
 ) (child-accepts-at t) child-accepts.Post
-child-accepts-returns-2 t c = ?
+child-accepts-returns-2 t c = c .grid-accepts .ensures ∙ grid-told (gridAt (c .before .before .before .before .before .args .level) (c .before .before .before .before .before .args .table .now) (c .before .before .before .before .before .args .reals .now) (c .before .before .before .before .before .args .counts .now)) (c .before .before .before .before .before .args .link) (pathLeft (c .before .before .before .before .before .args .s) (c .before .before .before .before .before .args .depth)) (weightsLeft (c .before .before .before .before .before .args .s) (c .before .before .before .before .before .args .depth)) (placesIn (c .before .before .before .before .before .args .s)) (c .before .before .before .before .before .args .evaluation) (c .before .before .before .before .before .args .number) (c .before .if1 .left)
 
 -- src/acceptance.rt:111:8
 grid-accepts-mul-if1 : (t : ℕ) → grid-accepts-lts.Need-mul-if1 (
@@ -381,7 +400,7 @@ grid-accepts-mul-if1 : (t : ℕ) → grid-accepts-lts.Need-mul-if1 (
   bins-accept-below t,
   bins-accept.Post,
 ) (grid-accepts-at t) grid-accepts.Post
-grid-accepts-mul-if1 t c = ?
+grid-accepts-mul-if1 t c = let q = (laid-head (c .before .before .before .args .level) (c .before .before .before .args .table .now) (length (c .before .before .before .args .reals .now)) (length (c .before .before .before .args .counts .now)) (c .before .before .before .args .w) (c .before .before .before .pre .1 .0)) in omega arith
 
 -- src/acceptance.rt:111:8
 grid-accepts-shared-slice-read-if1 : (t : ℕ) → grid-accepts-lts.Need-shared-slice-read-if1 (
@@ -390,7 +409,7 @@ grid-accepts-shared-slice-read-if1 : (t : ℕ) → grid-accepts-lts.Need-shared-
   bins-accept-below t,
   bins-accept.Post,
 ) (grid-accepts-at t) grid-accepts.Post
-grid-accepts-shared-slice-read-if1 t c = ?
+grid-accepts-shared-slice-read-if1 t c = let q = (laid-head (c .before .before .before .before .args .level) (c .before .before .before .before .args .table .now) (length (c .before .before .before .before .args .reals .now)) (length (c .before .before .before .before .args .counts .now)) (c .before .before .before .before .args .w) (c .before .before .before .before .pre .1 .0)) in omega arith
 
 -- src/acceptance.rt:112:9
 grid-accepts-axes-accept-requires : (t : ℕ) → grid-accepts-lts.Need-axes-accept-requires (
@@ -399,7 +418,7 @@ grid-accepts-axes-accept-requires : (t : ℕ) → grid-accepts-lts.Need-axes-acc
   bins-accept-below t,
   bins-accept.Post,
 ) (grid-accepts-at t) grid-accepts.Post
-grid-accepts-axes-accept-requires t c κs = ?
+grid-accepts-axes-accept-requires t c κs = ((laid-axes (c .before .before .before .before .before .args .level) (c .before .before .before .before .before .args .table .now) (length (c .before .before .before .before .before .args .reals .now)) (length (c .before .before .before .before .before .args .counts .now)) (c .before .before .before .before .before .args .w) (c .before .before .before .before .before .pre .1 .0) (c .if1 .taken)), omega (arith, c .before .before .before .before .before .pre .1 .1), subst (λ (g : Grid). Takes g (c .before .before .before .before .before .args .s) (c .before .before .before .before .before .args .depth) (c .before .before .before .before .before .args .number)) (node-axes (c .before .before .before .before .before .args .level) (c .before .before .before .before .before .args .table .now) (c .before .before .before .before .before .args .reals .now) (c .before .before .before .before .before .args .counts .now) (c .before .before .before .before .before .args .w) (c .if1 .taken)) (c .before .before .before .before .before .pre .1 .2))
 
 -- src/acceptance.rt:112:9
 grid-accepts-returns : (t : ℕ) → grid-accepts-lts.Need-returns (
@@ -408,7 +427,7 @@ grid-accepts-returns : (t : ℕ) → grid-accepts-lts.Need-returns (
   bins-accept-below t,
   bins-accept.Post,
 ) (grid-accepts-at t) grid-accepts.Post
-grid-accepts-returns t c = ?
+grid-accepts-returns t c = c .axes-accept .ensures ∙ ap (λ (g : Grid). keptGrid (trainGrid g (pathLeft (c .before .before .before .before .before .before .args .s) (c .before .before .before .before .before .before .args .depth)) (weightsLeft (c .before .before .before .before .before .before .args .s) (c .before .before .before .before .before .before .args .depth)) (placesIn (c .before .before .before .before .before .before .args .s)) (c .before .before .before .before .before .before .args .evaluation) (c .before .before .before .before .before .before .args .number))) (sym (node-axes (c .before .before .before .before .before .before .args .level) (c .before .before .before .before .before .before .args .table .now) (c .before .before .before .before .before .before .args .reals .now) (c .before .before .before .before .before .before .args .counts .now) (c .before .before .before .before .before .before .args .w) (c .before .if1 .taken)))
 
 -- src/acceptance.rt:114:39
 grid-accepts-sub-bins-accept : (t : ℕ) → grid-accepts-lts.Need-sub-bins-accept (
@@ -417,7 +436,7 @@ grid-accepts-sub-bins-accept : (t : ℕ) → grid-accepts-lts.Need-sub-bins-acce
   bins-accept-below t,
   bins-accept.Post,
 ) (grid-accepts-at t) grid-accepts.Post
-grid-accepts-sub-bins-accept t c = ?
+grid-accepts-sub-bins-accept t c = omega (arith, (laid-bins (c .before .before .before .before .before .args .level) (c .before .before .before .before .before .args .table .now) (length (c .before .before .before .before .before .args .reals .now)) (length (c .before .before .before .before .before .args .counts .now)) (c .before .before .before .before .before .args .w) (c .before .before .before .before .before .pre .1 .0) (c .if1 .left)) .level)
 
 -- src/acceptance.rt:114:5
 grid-accepts-bins-accept-requires : (t : ℕ) → grid-accepts-lts.Need-bins-accept-requires (
@@ -426,7 +445,7 @@ grid-accepts-bins-accept-requires : (t : ℕ) → grid-accepts-lts.Need-bins-acc
   bins-accept-below t,
   bins-accept.Post,
 ) (grid-accepts-at t) grid-accepts.Post
-grid-accepts-bins-accept-requires t c κs = ?
+grid-accepts-bins-accept-requires t c κs = (omega (arith, c .before .before .before .before .before .pre .0, (laid-bins (c .before .before .before .before .before .args .level) (c .before .before .before .before .before .args .table .now) (length (c .before .before .before .before .before .args .reals .now)) (length (c .before .before .before .before .before .args .counts .now)) (c .before .before .before .before .before .args .w) (c .before .before .before .before .before .pre .1 .0) (c .if1 .left)) .level), ((laid-bins (c .before .before .before .before .before .args .level) (c .before .before .before .before .before .args .table .now) (length (c .before .before .before .before .before .args .reals .now)) (length (c .before .before .before .before .before .args .counts .now)) (c .before .before .before .before .before .args .w) (c .before .before .before .before .before .pre .1 .0) (c .if1 .left)) .bins, omega (arith, c .before .before .before .before .before .pre .1 .1, (laid-bins (c .before .before .before .before .before .args .level) (c .before .before .before .before .before .args .table .now) (length (c .before .before .before .before .before .args .reals .now)) (length (c .before .before .before .before .before .args .counts .now)) (c .before .before .before .before .before .args .w) (c .before .before .before .before .before .pre .1 .0) (c .if1 .left)) .level), subst (λ (g : Grid). Takes g (c .before .before .before .before .before .args .s) (c .before .before .before .before .before .args .depth) (c .before .before .before .before .before .args .number)) (node-bins (c .before .before .before .before .before .args .level) (c .before .before .before .before .before .args .table .now) (c .before .before .before .before .before .args .reals .now) (c .before .before .before .before .before .args .counts .now) (c .before .before .before .before .before .args .w) (c .if1 .left) ((laid-bins (c .before .before .before .before .before .args .level) (c .before .before .before .before .before .args .table .now) (length (c .before .before .before .before .before .args .reals .now)) (length (c .before .before .before .before .before .args .counts .now)) (c .before .before .before .before .before .args .w) (c .before .before .before .before .before .pre .1 .0) (c .if1 .left)) .level)) (c .before .before .before .before .before .pre .1 .2)))
 
 -- src/acceptance.rt:97:1
 grid-accepts-returns-2 : (t : ℕ) → grid-accepts-lts.Need-returns-2 (
@@ -435,7 +454,7 @@ grid-accepts-returns-2 : (t : ℕ) → grid-accepts-lts.Need-returns-2 (
   bins-accept-below t,
   bins-accept.Post,
 ) (grid-accepts-at t) grid-accepts.Post
-grid-accepts-returns-2 t c = ?
+grid-accepts-returns-2 t c = c .bins-accept .ensures ∙ ap (λ (g : Grid). keptGrid (trainGrid g (pathLeft (c .before .before .before .before .before .before .args .s) (c .before .before .before .before .before .before .args .depth)) (weightsLeft (c .before .before .before .before .before .before .args .s) (c .before .before .before .before .before .before .args .depth)) (placesIn (c .before .before .before .before .before .before .args .s)) (c .before .before .before .before .before .before .args .evaluation) (c .before .before .before .before .before .before .args .number))) (sym (node-bins (c .before .before .before .before .before .before .args .level) (c .before .before .before .before .before .before .args .table .now) (c .before .before .before .before .before .before .args .reals .now) (c .before .before .before .before .before .before .args .counts .now) (c .before .before .before .before .before .before .args .w) (c .before .if1 .left) ((laid-bins (c .before .before .before .before .before .before .args .level) (c .before .before .before .before .before .before .args .table .now) (length (c .before .before .before .before .before .before .args .reals .now)) (length (c .before .before .before .before .before .before .args .counts .now)) (c .before .before .before .before .before .before .args .w) (c .before .before .before .before .before .before .pre .1 .0) (c .before .if1 .left)) .level)))
 
 pub +bins-accept+child-accepts+grid-accepts-spec : {M : Type 1} → statement M
 +bins-accept+child-accepts+grid-accepts-spec =

@@ -1,3 +1,14 @@
+use mathlib.Core.Path.{ap₂, _∙_}
+use mathlib.Core.Bool.{_&&_}
+use mathlib.Core.List.{List}
+use Prim.Native.Nat.{ℕ}
+use native.Mathlib.Omega.{arith}
+use lib.ListN.{getD}
+use lib.Ieee.{nan, binary64, mul}
+use Rattle.grid.specs.declared.axes.AxesAt.{AxesAt}
+use Rattle.grid.specs.Memory.{memory}
+use Rattle.grid.specs.Trained.{cellsFit}
+use Rattle.grid.proofs.Accepts.{axes-placed, spots-found, cells-of, own-sound, axes-told}
 use borrow.Author.Needs.{needs}
 use Rattle.grid.proofs.acceptance.axes_accept.Statement.{statement}
 use Rattle.grid.proofs.acceptance.axes_accept.Tie as tie
@@ -22,11 +33,11 @@ axes-place-requires c κs = search needs
 
 -- src/acceptance.rt:34:9
 locate-requires : tie.Need-locate-requires
-locate-requires c κs = ?
+locate-requires c κs = axes-placed (c .before .before .before .before .before .before .args .table .now) (c .before .before .before .before .before .before .args .reals .now) (c .before .before .before .before .before .before .args .counts .now) (c .before .before .before .before .before .before .args .w) (c .before .before .before .before .before .before .args .s) (c .before .before .before .before .before .before .args .depth) (c .before .before .before .before .before .before .args .number) (c .before .before .before .before .before .before .pre .0) (c .before .before .before .before .before .before .pre .2) (c .axes-place .result) (c .axes-place .ensures)
 
 -- src/acceptance.rt:35:9
 cells-fit-requires : tie.Need-cells-fit-requires
-cells-fit-requires c κs = ?
+cells-fit-requires c κs = cells-of (c .before .before .before .before .before .before .before .args .table .now) (c .before .before .before .before .before .before .before .args .reals .now) (c .before .before .before .before .before .before .before .args .counts .now) (c .before .before .before .before .before .before .before .args .w) (c .before .before .before .before .before .before .before .args .s) (c .before .before .before .before .before .before .before .args .depth) (c .before .before .before .before .before .before .before .args .number) (c .before .before .before .before .before .before .before .pre .0) (c .before .before .before .before .before .before .before .pre .2) (c .before .axes-place .result) (c .before .axes-place .ensures) (c .locate .result) (c .locate .ensures)
 
 -- src/acceptance.rt:36:19
 add-r : tie.Need-add-r
@@ -54,11 +65,11 @@ shared-slice-read-c c = search needs
 
 -- src/acceptance.rt:38:9
 fits-with-requires : tie.Need-fits-with-requires
-fits-with-requires c κs = ?
+fits-with-requires c κs = (omega (arith, c .before .before .before .before .before .before .before .before .before .before .pre .0), omega (arith, c .before .before .before .before .before .before .before .before .before .before .pre .0), own-sound (c .before .before .before .before .before .before .before .before .before .before .args .table .now) (c .before .before .before .before .before .before .before .before .before .before .args .reals .now) (c .before .before .before .before .before .before .before .before .before .before .args .counts .now) (c .before .before .before .before .before .before .before .before .before .before .args .w) (c .before .before .before .before .before .before .before .before .before .before .args .s) (c .before .before .before .before .before .before .before .before .before .before .args .depth) (c .before .before .before .before .before .before .before .before .before .before .pre .2 .well), c .before .before .before .before .before .before .before .before .before .before .pre .2 .number)
 
 -- src/acceptance.rt:17:1
 returns : tie.Need-returns
-returns c = ?
+returns c = ap₂ _&&_ (c .fits-with .ensures) (c .before .before .before .cells-fit .ensures ∙ ap₂ (λ (g : AxesAt) (is : List ℕ). cellsFit (g .most) (mul binary64 (getD ((c .before .before .before .before .before .before .before .before .before .before .before .args .s) .weights) (c .before .before .before .before .before .before .before .before .before .before .before .args .depth) nan) (c .before .before .before .before .before .before .before .before .before .before .before .args .evaluation)) is (g .reals) (g .counts) (memory (c .before .before .before .before .before .before .before .before .before .before .before .args .reals .now) (c .before .before .before .before .before .before .before .before .before .before .before .args .counts .now))) (c .before .before .before .before .before .axes-place .ensures) (spots-found (c .before .before .before .before .before .before .before .before .before .before .before .args .table .now) (c .before .before .before .before .before .before .before .before .before .before .before .args .reals .now) (c .before .before .before .before .before .before .before .before .before .before .before .args .counts .now) (c .before .before .before .before .before .before .before .before .before .before .before .args .w) (c .before .before .before .before .before .before .before .before .before .before .before .args .s) (c .before .before .before .before .before .before .before .before .before .before .before .args .depth) (c .before .before .before .before .before .before .before .before .before .before .before .args .number) (c .before .before .before .before .before .before .before .before .before .before .before .pre .0) (c .before .before .before .before .before .before .before .before .before .before .before .pre .2) (c .before .before .before .before .before .axes-place .result) (c .before .before .before .before .before .axes-place .ensures) (c .before .before .before .before .locate .result) (c .before .before .before .before .locate .ensures))) ∙ axes-told (c .before .before .before .before .before .before .before .before .before .before .before .args .table .now) (c .before .before .before .before .before .before .before .before .before .before .before .args .reals .now) (c .before .before .before .before .before .before .before .before .before .before .before .args .counts .now) (c .before .before .before .before .before .before .before .before .before .before .before .args .w) (c .before .before .before .before .before .before .before .before .before .before .before .args .s) (c .before .before .before .before .before .before .before .before .before .before .before .args .depth) (c .before .before .before .before .before .before .before .before .before .before .before .args .number) (c .before .before .before .before .before .before .before .before .before .before .before .pre .0) (c .before .before .before .before .before .before .before .before .before .before .before .pre .2) (c .before .before .before .before .before .before .before .before .before .before .before .args .evaluation)
 
 pub axes-accept-spec : {M : Type 1} → statement M
 axes-accept-spec =
