@@ -110,7 +110,7 @@ pub record Form (k : ℕ) (path : List ℕ) (ws xs : List Float) : Type 0 where
   pub axes : length xs ≡ k
   pub unit : allInUnit xs ≡ true
 
-form-is : (k : ℕ) (path : List ℕ) (ws xs : List Float) → formFault k path ws xs ≡ 0 → Form k path ws xs
+pub form-is : (k : ℕ) (path : List ℕ) (ws xs : List Float) → formFault k path ws xs ≡ 0 → Form k path ws xs
 unfolding formFault
 form-is k (i ∷ path) ws xs e = absurd (omega (arith, e))
 form-is k [] ws xs e = first (eqb (length ws) 1) refl e

@@ -28,6 +28,8 @@ pub mod Trains
 pub mod Trained
 pub mod Adds
 pub mod Accepts
+pub mod Absorbs
+pub mod Objections
 pub mod Fitting
 pub mod Plans
 pub mod Unique
