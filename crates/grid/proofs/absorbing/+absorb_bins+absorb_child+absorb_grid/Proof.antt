@@ -1,3 +1,16 @@
+use mathlib.Core.Path.{sym, ap, _∙_, subst}
+use native.Mathlib.Omega.{arith}
+use Prim.Native.Nat.{_+_, _-_, _*_}
+use lib.ListN.{length, getD}
+use Rattle.model.specs.Grid.{Grid}
+use Rattle.grid.specs.Memory.{memory}
+use Rattle.grid.specs.Tree.{headAt, gridAt}
+use Rattle.grid.specs.Sampled.{ChildLaid}
+use Rattle.grid.specs.Absorbed.{Takes, absorbed}
+use Rattle.grid.proofs.Laid.{laid-axes, laid-bins, laid-head}
+use Rattle.grid.proofs.Sounds.{node-axes, node-bins}
+use Rattle.grid.proofs.Accepts.{formed, takes-below, takes-grid}
+use Rattle.grid.proofs.Absorbs.{bins-absorbed, nothing-absorbed, child-absorbed, absorbed-axes, absorbed-bins}
 use Prim.Native.Nat.{ℕ, _<_}
 use borrow.Fn.Kinds.{In}
 use borrow.Fn.PlainCycle.{Measures, is, falls, and}
@@ -17,13 +30,13 @@ use Rattle.grid.proofs.absorbing.+absorb_bins+absorb_child+absorb_grid.
 use Rattle.grid.proofs.absorbing.+absorb_bins+absorb_child+absorb_grid.Tie.{close}
 
 abbrev μ-absorb-bins : Measures 3 absorb-bins-kinds.ps ℕ
-μ-absorb-bins κs a = ?
+μ-absorb-bins κs a = 3 * a .1 .1 .1 .0 + 2
 
 abbrev μ-absorb-child : Measures 3 absorb-child-kinds.ps ℕ
-μ-absorb-child κs a = ?
+μ-absorb-child κs a = 3 * a .1 .1 .1 .0 + 1
 
 abbrev μ-absorb-grid : Measures 3 absorb-grid-kinds.ps ℕ
-μ-absorb-grid κs a = ?
+μ-absorb-grid κs a = 3 * a .1 .1 .1 .0
 
 abbrev absorb-bins-at : ℕ → In 3 absorb-bins-kinds.ps
 absorb-bins-at t =
@@ -62,7 +75,7 @@ absorb-bins-mul-bin : (t : ℕ) → absorb-bins-lts.Need-mul-bin (
   store-reads.Asked,
   store-reads.Learnt,
 ) (absorb-bins-at t) absorb-bins.Post
-absorb-bins-mul-bin t c = ?
+absorb-bins-mul-bin t c = omega (arith, c .before .before .before .before .pre .1 .1)
 
 -- src/absorbing.rt:80:15
 absorb-bins-array-read-bin : (t : ℕ) → absorb-bins-lts.Need-array-read-bin (
@@ -73,7 +86,7 @@ absorb-bins-array-read-bin : (t : ℕ) → absorb-bins-lts.Need-array-read-bin (
   store-reads.Asked,
   store-reads.Learnt,
 ) (absorb-bins-at t) absorb-bins.Post
-absorb-bins-array-read-bin t c = ?
+absorb-bins-array-read-bin t c = omega (arith, c .before .before .before .before .pre .1 .1)
 
 -- src/absorbing.rt:82:18
 absorb-bins-mul-weight : (t : ℕ) → absorb-bins-lts.Need-mul-weight (
@@ -84,7 +97,7 @@ absorb-bins-mul-weight : (t : ℕ) → absorb-bins-lts.Need-mul-weight (
   store-reads.Asked,
   store-reads.Learnt,
 ) (absorb-bins-at t) absorb-bins.Post
-absorb-bins-mul-weight t c = ?
+absorb-bins-mul-weight t c = omega (arith, c .before .before .before .before .before .pre .1 .1)
 
 -- src/absorbing.rt:82:18
 absorb-bins-array-read-weight : (t : ℕ) → absorb-bins-lts.Need-array-read-weight (
@@ -95,7 +108,7 @@ absorb-bins-array-read-weight : (t : ℕ) → absorb-bins-lts.Need-array-read-we
   store-reads.Asked,
   store-reads.Learnt,
 ) (absorb-bins-at t) absorb-bins.Post
-absorb-bins-array-read-weight t c = ?
+absorb-bins-array-read-weight t c = omega (arith, c .before .before .before .before .before .pre .1 .1)
 
 -- src/absorbing.rt:83:19
 absorb-bins-add-n : (t : ℕ) → absorb-bins-lts.Need-add-n (
@@ -106,7 +119,7 @@ absorb-bins-add-n : (t : ℕ) → absorb-bins-lts.Need-add-n (
   store-reads.Asked,
   store-reads.Learnt,
 ) (absorb-bins-at t) absorb-bins.Post
-absorb-bins-add-n t c = ?
+absorb-bins-add-n t c = omega (arith, (c .before .before .before .before .before .pre .1 .0))
 
 -- src/absorbing.rt:83:13
 absorb-bins-mul-n : (t : ℕ) → absorb-bins-lts.Need-mul-n (
@@ -117,7 +130,7 @@ absorb-bins-mul-n : (t : ℕ) → absorb-bins-lts.Need-mul-n (
   store-reads.Asked,
   store-reads.Learnt,
 ) (absorb-bins-at t) absorb-bins.Post
-absorb-bins-mul-n t c = ?
+absorb-bins-mul-n t c = omega (arith, (c .before .before .before .before .before .pre .1 .0))
 
 -- src/absorbing.rt:83:13
 absorb-bins-shared-slice-read-n : (t : ℕ) → absorb-bins-lts.Need-shared-slice-read-n (
@@ -128,7 +141,7 @@ absorb-bins-shared-slice-read-n : (t : ℕ) → absorb-bins-lts.Need-shared-slic
   store-reads.Asked,
   store-reads.Learnt,
 ) (absorb-bins-at t) absorb-bins.Post
-absorb-bins-shared-slice-read-n t c = ?
+absorb-bins-shared-slice-read-n t c = omega (arith, (c .before .before .before .before .before .before .pre .1 .0))
 
 -- src/absorbing.rt:84:19
 absorb-bins-add-r : (t : ℕ) → absorb-bins-lts.Need-add-r (
@@ -139,7 +152,7 @@ absorb-bins-add-r : (t : ℕ) → absorb-bins-lts.Need-add-r (
   store-reads.Asked,
   store-reads.Learnt,
 ) (absorb-bins-at t) absorb-bins.Post
-absorb-bins-add-r t c = ?
+absorb-bins-add-r t c = omega (arith, (c .before .before .before .before .before .before .pre .1 .0))
 
 -- src/absorbing.rt:84:13
 absorb-bins-mul-r : (t : ℕ) → absorb-bins-lts.Need-mul-r (
@@ -150,7 +163,7 @@ absorb-bins-mul-r : (t : ℕ) → absorb-bins-lts.Need-mul-r (
   store-reads.Asked,
   store-reads.Learnt,
 ) (absorb-bins-at t) absorb-bins.Post
-absorb-bins-mul-r t c = ?
+absorb-bins-mul-r t c = omega (arith, (c .before .before .before .before .before .before .pre .1 .0))
 
 -- src/absorbing.rt:84:13
 absorb-bins-shared-slice-read-r : (t : ℕ) → absorb-bins-lts.Need-shared-slice-read-r (
@@ -161,7 +174,7 @@ absorb-bins-shared-slice-read-r : (t : ℕ) → absorb-bins-lts.Need-shared-slic
   store-reads.Asked,
   store-reads.Learnt,
 ) (absorb-bins-at t) absorb-bins.Post
-absorb-bins-shared-slice-read-r t c = ?
+absorb-bins-shared-slice-read-r t c = omega (arith, (c .before .before .before .before .before .before .before .pre .1 .0))
 
 -- src/absorbing.rt:85:19
 absorb-bins-add-c : (t : ℕ) → absorb-bins-lts.Need-add-c (
@@ -172,7 +185,7 @@ absorb-bins-add-c : (t : ℕ) → absorb-bins-lts.Need-add-c (
   store-reads.Asked,
   store-reads.Learnt,
 ) (absorb-bins-at t) absorb-bins.Post
-absorb-bins-add-c t c = ?
+absorb-bins-add-c t c = omega (arith, (c .before .before .before .before .before .before .before .pre .1 .0))
 
 -- src/absorbing.rt:85:13
 absorb-bins-mul-c : (t : ℕ) → absorb-bins-lts.Need-mul-c (
@@ -183,7 +196,7 @@ absorb-bins-mul-c : (t : ℕ) → absorb-bins-lts.Need-mul-c (
   store-reads.Asked,
   store-reads.Learnt,
 ) (absorb-bins-at t) absorb-bins.Post
-absorb-bins-mul-c t c = ?
+absorb-bins-mul-c t c = omega (arith, (c .before .before .before .before .before .before .before .pre .1 .0))
 
 -- src/absorbing.rt:85:13
 absorb-bins-shared-slice-read-c : (t : ℕ) → absorb-bins-lts.Need-shared-slice-read-c (
@@ -194,7 +207,7 @@ absorb-bins-shared-slice-read-c : (t : ℕ) → absorb-bins-lts.Need-shared-slic
   store-reads.Asked,
   store-reads.Learnt,
 ) (absorb-bins-at t) absorb-bins.Post
-absorb-bins-shared-slice-read-c t c = ?
+absorb-bins-shared-slice-read-c t c = omega (arith, (c .before .before .before .before .before .before .before .before .pre .1 .0))
 
 -- src/absorbing.rt:86:22
 absorb-bins-add-link : (t : ℕ) → absorb-bins-lts.Need-add-link (
@@ -205,7 +218,7 @@ absorb-bins-add-link : (t : ℕ) → absorb-bins-lts.Need-add-link (
   store-reads.Asked,
   store-reads.Learnt,
 ) (absorb-bins-at t) absorb-bins.Post
-absorb-bins-add-link t c = ?
+absorb-bins-add-link t c = omega (arith, (c .before .before .before .before .before .before .before .before .pre .1 .0), (formed (gridAt (c .before .before .before .before .before .before .before .before .args .level) (c .before .before .before .before .before .before .before .before .args .table .now) (c .before .before .before .before .before .before .before .before .args .reals .now) (c .before .before .before .before .before .before .before .before .args .counts .now)) (c .before .before .before .before .before .before .before .before .args .table .now) (c .before .before .before .before .before .before .before .before .args .reals .now) (c .before .before .before .before .before .before .before .before .args .counts .now) (c .before .before .before .before .before .before .before .before .args .w) (getD (c .before .before .before .before .before .before .before .before .args .table .now) ((c .before .before .before .before .before .before .before .before .args .w) + 2) 0) (headAt (c .before .before .before .before .before .before .before .before .args .table .now) (c .before .before .before .before .before .before .before .before .args .reals .now) (c .before .before .before .before .before .before .before .before .args .counts .now) (c .before .before .before .before .before .before .before .before .args .w)) (c .before .before .before .before .before .before .before .before .args .s) (c .before .before .before .before .before .before .before .before .args .depth) (c .before .before .before .before .before .before .before .before .args .number) (c .before .before .before .before .before .before .before .before .pre .1 .2)) .bin)
 
 -- src/absorbing.rt:86:22
 absorb-bins-add-link-2 : (t : ℕ) → absorb-bins-lts.Need-add-link-2 (
@@ -216,7 +229,7 @@ absorb-bins-add-link-2 : (t : ℕ) → absorb-bins-lts.Need-add-link-2 (
   store-reads.Asked,
   store-reads.Learnt,
 ) (absorb-bins-at t) absorb-bins.Post
-absorb-bins-add-link-2 t c = ?
+absorb-bins-add-link-2 t c = omega (arith, (c .before .before .before .before .before .before .before .before .pre .1 .0), (formed (gridAt (c .before .before .before .before .before .before .before .before .args .level) (c .before .before .before .before .before .before .before .before .args .table .now) (c .before .before .before .before .before .before .before .before .args .reals .now) (c .before .before .before .before .before .before .before .before .args .counts .now)) (c .before .before .before .before .before .before .before .before .args .table .now) (c .before .before .before .before .before .before .before .before .args .reals .now) (c .before .before .before .before .before .before .before .before .args .counts .now) (c .before .before .before .before .before .before .before .before .args .w) (getD (c .before .before .before .before .before .before .before .before .args .table .now) ((c .before .before .before .before .before .before .before .before .args .w) + 2) 0) (headAt (c .before .before .before .before .before .before .before .before .args .table .now) (c .before .before .before .before .before .before .before .before .args .reals .now) (c .before .before .before .before .before .before .before .before .args .counts .now) (c .before .before .before .before .before .before .before .before .args .w)) (c .before .before .before .before .before .before .before .before .args .s) (c .before .before .before .before .before .before .before .before .args .depth) (c .before .before .before .before .before .before .before .before .args .number) (c .before .before .before .before .before .before .before .before .pre .1 .2)) .bin)
 
 -- src/absorbing.rt:86:16
 absorb-bins-mul-link : (t : ℕ) → absorb-bins-lts.Need-mul-link (
@@ -227,7 +240,7 @@ absorb-bins-mul-link : (t : ℕ) → absorb-bins-lts.Need-mul-link (
   store-reads.Asked,
   store-reads.Learnt,
 ) (absorb-bins-at t) absorb-bins.Post
-absorb-bins-mul-link t c = ?
+absorb-bins-mul-link t c = omega (arith, (c .before .before .before .before .before .before .before .before .pre .1 .0), (formed (gridAt (c .before .before .before .before .before .before .before .before .args .level) (c .before .before .before .before .before .before .before .before .args .table .now) (c .before .before .before .before .before .before .before .before .args .reals .now) (c .before .before .before .before .before .before .before .before .args .counts .now)) (c .before .before .before .before .before .before .before .before .args .table .now) (c .before .before .before .before .before .before .before .before .args .reals .now) (c .before .before .before .before .before .before .before .before .args .counts .now) (c .before .before .before .before .before .before .before .before .args .w) (getD (c .before .before .before .before .before .before .before .before .args .table .now) ((c .before .before .before .before .before .before .before .before .args .w) + 2) 0) (headAt (c .before .before .before .before .before .before .before .before .args .table .now) (c .before .before .before .before .before .before .before .before .args .reals .now) (c .before .before .before .before .before .before .before .before .args .counts .now) (c .before .before .before .before .before .before .before .before .args .w)) (c .before .before .before .before .before .before .before .before .args .s) (c .before .before .before .before .before .before .before .before .args .depth) (c .before .before .before .before .before .before .before .before .args .number) (c .before .before .before .before .before .before .before .before .pre .1 .2)) .bin)
 
 -- src/absorbing.rt:86:16
 absorb-bins-shared-slice-read-link : (t : ℕ) → absorb-bins-lts.Need-shared-slice-read-link (
@@ -238,7 +251,7 @@ absorb-bins-shared-slice-read-link : (t : ℕ) → absorb-bins-lts.Need-shared-s
   store-reads.Asked,
   store-reads.Learnt,
 ) (absorb-bins-at t) absorb-bins.Post
-absorb-bins-shared-slice-read-link t c = ?
+absorb-bins-shared-slice-read-link t c = omega (arith, (c .before .before .before .before .before .before .before .before .before .pre .1 .0), (formed (gridAt (c .before .before .before .before .before .before .before .before .before .args .level) (c .before .before .before .before .before .before .before .before .before .args .table .now) (c .before .before .before .before .before .before .before .before .before .args .reals .now) (c .before .before .before .before .before .before .before .before .before .args .counts .now)) (c .before .before .before .before .before .before .before .before .before .args .table .now) (c .before .before .before .before .before .before .before .before .before .args .reals .now) (c .before .before .before .before .before .before .before .before .before .args .counts .now) (c .before .before .before .before .before .before .before .before .before .args .w) (getD (c .before .before .before .before .before .before .before .before .before .args .table .now) ((c .before .before .before .before .before .before .before .before .before .args .w) + 2) 0) (headAt (c .before .before .before .before .before .before .before .before .before .args .table .now) (c .before .before .before .before .before .before .before .before .before .args .reals .now) (c .before .before .before .before .before .before .before .before .before .args .counts .now) (c .before .before .before .before .before .before .before .before .before .args .w)) (c .before .before .before .before .before .before .before .before .before .args .s) (c .before .before .before .before .before .before .before .before .before .args .depth) (c .before .before .before .before .before .before .before .before .before .args .number) (c .before .before .before .before .before .before .before .before .before .pre .1 .2)) .bin)
 
 -- src/absorbing.rt:87:33
 absorb-bins-add-value : (t : ℕ) → absorb-bins-lts.Need-add-value (
@@ -249,7 +262,7 @@ absorb-bins-add-value : (t : ℕ) → absorb-bins-lts.Need-add-value (
   store-reads.Asked,
   store-reads.Learnt,
 ) (absorb-bins-at t) absorb-bins.Post
-absorb-bins-add-value t c = ?
+absorb-bins-add-value t c = omega (arith, (c .before .before .before .before .before .before .before .before .before .pre .1 .0), (formed (gridAt (c .before .before .before .before .before .before .before .before .before .args .level) (c .before .before .before .before .before .before .before .before .before .args .table .now) (c .before .before .before .before .before .before .before .before .before .args .reals .now) (c .before .before .before .before .before .before .before .before .before .args .counts .now)) (c .before .before .before .before .before .before .before .before .before .args .table .now) (c .before .before .before .before .before .before .before .before .before .args .reals .now) (c .before .before .before .before .before .before .before .before .before .args .counts .now) (c .before .before .before .before .before .before .before .before .before .args .w) (getD (c .before .before .before .before .before .before .before .before .before .args .table .now) ((c .before .before .before .before .before .before .before .before .before .args .w) + 2) 0) (headAt (c .before .before .before .before .before .before .before .before .before .args .table .now) (c .before .before .before .before .before .before .before .before .before .args .reals .now) (c .before .before .before .before .before .before .before .before .before .args .counts .now) (c .before .before .before .before .before .before .before .before .before .args .w)) (c .before .before .before .before .before .before .before .before .before .args .s) (c .before .before .before .before .before .before .before .before .before .args .depth) (c .before .before .before .before .before .before .before .before .before .args .number) (c .before .before .before .before .before .before .before .before .before .pre .1 .2)) .bin)
 
 -- src/absorbing.rt:87:33
 absorb-bins-add-value-2 : (t : ℕ) → absorb-bins-lts.Need-add-value-2 (
@@ -260,7 +273,7 @@ absorb-bins-add-value-2 : (t : ℕ) → absorb-bins-lts.Need-add-value-2 (
   store-reads.Asked,
   store-reads.Learnt,
 ) (absorb-bins-at t) absorb-bins.Post
-absorb-bins-add-value-2 t c = ?
+absorb-bins-add-value-2 t c = omega (arith, (c .before .before .before .before .before .before .before .before .before .pre .1 .0), (formed (gridAt (c .before .before .before .before .before .before .before .before .before .args .level) (c .before .before .before .before .before .before .before .before .before .args .table .now) (c .before .before .before .before .before .before .before .before .before .args .reals .now) (c .before .before .before .before .before .before .before .before .before .args .counts .now)) (c .before .before .before .before .before .before .before .before .before .args .table .now) (c .before .before .before .before .before .before .before .before .before .args .reals .now) (c .before .before .before .before .before .before .before .before .before .args .counts .now) (c .before .before .before .before .before .before .before .before .before .args .w) (getD (c .before .before .before .before .before .before .before .before .before .args .table .now) ((c .before .before .before .before .before .before .before .before .before .args .w) + 2) 0) (headAt (c .before .before .before .before .before .before .before .before .before .args .table .now) (c .before .before .before .before .before .before .before .before .before .args .reals .now) (c .before .before .before .before .before .before .before .before .before .args .counts .now) (c .before .before .before .before .before .before .before .before .before .args .w)) (c .before .before .before .before .before .before .before .before .before .args .s) (c .before .before .before .before .before .before .before .before .before .args .depth) (c .before .before .before .before .before .before .before .before .before .args .number) (c .before .before .before .before .before .before .before .before .before .pre .1 .2)) .bin)
 
 -- src/absorbing.rt:87:27
 absorb-bins-mul-value : (t : ℕ) → absorb-bins-lts.Need-mul-value (
@@ -271,7 +284,7 @@ absorb-bins-mul-value : (t : ℕ) → absorb-bins-lts.Need-mul-value (
   store-reads.Asked,
   store-reads.Learnt,
 ) (absorb-bins-at t) absorb-bins.Post
-absorb-bins-mul-value t c = ?
+absorb-bins-mul-value t c = omega (arith, (c .before .before .before .before .before .before .before .before .before .pre .1 .0), (formed (gridAt (c .before .before .before .before .before .before .before .before .before .args .level) (c .before .before .before .before .before .before .before .before .before .args .table .now) (c .before .before .before .before .before .before .before .before .before .args .reals .now) (c .before .before .before .before .before .before .before .before .before .args .counts .now)) (c .before .before .before .before .before .before .before .before .before .args .table .now) (c .before .before .before .before .before .before .before .before .before .args .reals .now) (c .before .before .before .before .before .before .before .before .before .args .counts .now) (c .before .before .before .before .before .before .before .before .before .args .w) (getD (c .before .before .before .before .before .before .before .before .before .args .table .now) ((c .before .before .before .before .before .before .before .before .before .args .w) + 2) 0) (headAt (c .before .before .before .before .before .before .before .before .before .args .table .now) (c .before .before .before .before .before .before .before .before .before .args .reals .now) (c .before .before .before .before .before .before .before .before .before .args .counts .now) (c .before .before .before .before .before .before .before .before .before .args .w)) (c .before .before .before .before .before .before .before .before .before .args .s) (c .before .before .before .before .before .before .before .before .before .args .depth) (c .before .before .before .before .before .before .before .before .before .args .number) (c .before .before .before .before .before .before .before .before .before .pre .1 .2)) .bin)
 
 -- src/absorbing.rt:87:27
 absorb-bins-slice-read-value : (t : ℕ) → absorb-bins-lts.Need-slice-read-value (
@@ -282,7 +295,7 @@ absorb-bins-slice-read-value : (t : ℕ) → absorb-bins-lts.Need-slice-read-val
   store-reads.Asked,
   store-reads.Learnt,
 ) (absorb-bins-at t) absorb-bins.Post
-absorb-bins-slice-read-value t c = ?
+absorb-bins-slice-read-value t c = omega (arith, (c .before .before .before .before .before .before .before .before .before .before .pre .1 .0), (formed (gridAt (c .before .before .before .before .before .before .before .before .before .before .args .level) (c .before .before .before .before .before .before .before .before .before .before .args .table .now) (c .before .before .before .before .before .before .before .before .before .before .args .reals .now) (c .before .before .before .before .before .before .before .before .before .before .args .counts .now)) (c .before .before .before .before .before .before .before .before .before .before .args .table .now) (c .before .before .before .before .before .before .before .before .before .before .args .reals .now) (c .before .before .before .before .before .before .before .before .before .before .args .counts .now) (c .before .before .before .before .before .before .before .before .before .before .args .w) (getD (c .before .before .before .before .before .before .before .before .before .before .args .table .now) ((c .before .before .before .before .before .before .before .before .before .before .args .w) + 2) 0) (headAt (c .before .before .before .before .before .before .before .before .before .before .args .table .now) (c .before .before .before .before .before .before .before .before .before .before .args .reals .now) (c .before .before .before .before .before .before .before .before .before .before .args .counts .now) (c .before .before .before .before .before .before .before .before .before .before .args .w)) (c .before .before .before .before .before .before .before .before .before .before .args .s) (c .before .before .before .before .before .before .before .before .before .before .args .depth) (c .before .before .before .before .before .before .before .before .before .before .args .number) (c .before .before .before .before .before .before .before .before .before .before .pre .1 .2)) .bin)
 
 -- src/absorbing.rt:88:9
 absorb-bins-with-sample-requires : (t : ℕ) → absorb-bins-lts.Need-with-sample-requires (
@@ -293,7 +306,7 @@ absorb-bins-with-sample-requires : (t : ℕ) → absorb-bins-lts.Need-with-sampl
   store-reads.Asked,
   store-reads.Learnt,
 ) (absorb-bins-at t) absorb-bins.Post
-absorb-bins-with-sample-requires t c κs = ?
+absorb-bins-with-sample-requires t c κs = (omega (arith, (c .before .before .before .before .before .before .before .before .before .before .before .before .pre .1 .0)), omega (arith, (c .before .before .before .before .before .before .before .before .before .before .before .before .pre .1 .0)))
 
 -- src/absorbing.rt:89:19
 absorb-bins-add-inner-r : (t : ℕ) → absorb-bins-lts.Need-add-inner-r (
@@ -304,7 +317,7 @@ absorb-bins-add-inner-r : (t : ℕ) → absorb-bins-lts.Need-add-inner-r (
   store-reads.Asked,
   store-reads.Learnt,
 ) (absorb-bins-at t) absorb-bins.Post
-absorb-bins-add-inner-r t c = ?
+absorb-bins-add-inner-r t c = omega (arith, (c .before .before .before .before .before .before .before .before .before .before .before .before .before .pre .1 .0), (formed (gridAt (c .before .before .before .before .before .before .before .before .before .before .before .before .before .args .level) (c .before .before .before .before .before .before .before .before .before .before .before .before .before .args .table .now) (c .before .before .before .before .before .before .before .before .before .before .before .before .before .args .reals .now) (c .before .before .before .before .before .before .before .before .before .before .before .before .before .args .counts .now)) (c .before .before .before .before .before .before .before .before .before .before .before .before .before .args .table .now) (c .before .before .before .before .before .before .before .before .before .before .before .before .before .args .reals .now) (c .before .before .before .before .before .before .before .before .before .before .before .before .before .args .counts .now) (c .before .before .before .before .before .before .before .before .before .before .before .before .before .args .w) (getD (c .before .before .before .before .before .before .before .before .before .before .before .before .before .args .table .now) ((c .before .before .before .before .before .before .before .before .before .before .before .before .before .args .w) + 2) 0) (headAt (c .before .before .before .before .before .before .before .before .before .before .before .before .before .args .table .now) (c .before .before .before .before .before .before .before .before .before .before .before .before .before .args .reals .now) (c .before .before .before .before .before .before .before .before .before .before .before .before .before .args .counts .now) (c .before .before .before .before .before .before .before .before .before .before .before .before .before .args .w)) (c .before .before .before .before .before .before .before .before .before .before .before .before .before .args .s) (c .before .before .before .before .before .before .before .before .before .before .before .before .before .args .depth) (c .before .before .before .before .before .before .before .before .before .before .before .before .before .args .number) (c .before .before .before .before .before .before .before .before .before .before .before .before .before .pre .1 .2)) .bin)
 
 -- src/absorbing.rt:89:19
 absorb-bins-add-inner-r-2 : (t : ℕ) → absorb-bins-lts.Need-add-inner-r-2 (
@@ -315,7 +328,7 @@ absorb-bins-add-inner-r-2 : (t : ℕ) → absorb-bins-lts.Need-add-inner-r-2 (
   store-reads.Asked,
   store-reads.Learnt,
 ) (absorb-bins-at t) absorb-bins.Post
-absorb-bins-add-inner-r-2 t c = ?
+absorb-bins-add-inner-r-2 t c = omega (arith, (c .before .before .before .before .before .before .before .before .before .before .before .before .before .pre .1 .0), (formed (gridAt (c .before .before .before .before .before .before .before .before .before .before .before .before .before .args .level) (c .before .before .before .before .before .before .before .before .before .before .before .before .before .args .table .now) (c .before .before .before .before .before .before .before .before .before .before .before .before .before .args .reals .now) (c .before .before .before .before .before .before .before .before .before .before .before .before .before .args .counts .now)) (c .before .before .before .before .before .before .before .before .before .before .before .before .before .args .table .now) (c .before .before .before .before .before .before .before .before .before .before .before .before .before .args .reals .now) (c .before .before .before .before .before .before .before .before .before .before .before .before .before .args .counts .now) (c .before .before .before .before .before .before .before .before .before .before .before .before .before .args .w) (getD (c .before .before .before .before .before .before .before .before .before .before .before .before .before .args .table .now) ((c .before .before .before .before .before .before .before .before .before .before .before .before .before .args .w) + 2) 0) (headAt (c .before .before .before .before .before .before .before .before .before .before .before .before .before .args .table .now) (c .before .before .before .before .before .before .before .before .before .before .before .before .before .args .reals .now) (c .before .before .before .before .before .before .before .before .before .before .before .before .before .args .counts .now) (c .before .before .before .before .before .before .before .before .before .before .before .before .before .args .w)) (c .before .before .before .before .before .before .before .before .before .before .before .before .before .args .s) (c .before .before .before .before .before .before .before .before .before .before .before .before .before .args .depth) (c .before .before .before .before .before .before .before .before .before .before .before .before .before .args .number) (c .before .before .before .before .before .before .before .before .before .before .before .before .before .pre .1 .2)) .bin)
 
 -- src/absorbing.rt:89:32
 absorb-bins-mul-inner-r : (t : ℕ) → absorb-bins-lts.Need-mul-inner-r (
@@ -326,7 +339,7 @@ absorb-bins-mul-inner-r : (t : ℕ) → absorb-bins-lts.Need-mul-inner-r (
   store-reads.Asked,
   store-reads.Learnt,
 ) (absorb-bins-at t) absorb-bins.Post
-absorb-bins-mul-inner-r t c = ?
+absorb-bins-mul-inner-r t c = omega (arith, (c .before .before .before .before .before .before .before .before .before .before .before .before .before .pre .1 .0), (formed (gridAt (c .before .before .before .before .before .before .before .before .before .before .before .before .before .args .level) (c .before .before .before .before .before .before .before .before .before .before .before .before .before .args .table .now) (c .before .before .before .before .before .before .before .before .before .before .before .before .before .args .reals .now) (c .before .before .before .before .before .before .before .before .before .before .before .before .before .args .counts .now)) (c .before .before .before .before .before .before .before .before .before .before .before .before .before .args .table .now) (c .before .before .before .before .before .before .before .before .before .before .before .before .before .args .reals .now) (c .before .before .before .before .before .before .before .before .before .before .before .before .before .args .counts .now) (c .before .before .before .before .before .before .before .before .before .before .before .before .before .args .w) (getD (c .before .before .before .before .before .before .before .before .before .before .before .before .before .args .table .now) ((c .before .before .before .before .before .before .before .before .before .before .before .before .before .args .w) + 2) 0) (headAt (c .before .before .before .before .before .before .before .before .before .before .before .before .before .args .table .now) (c .before .before .before .before .before .before .before .before .before .before .before .before .before .args .reals .now) (c .before .before .before .before .before .before .before .before .before .before .before .before .before .args .counts .now) (c .before .before .before .before .before .before .before .before .before .before .before .before .before .args .w)) (c .before .before .before .before .before .before .before .before .before .before .before .before .before .args .s) (c .before .before .before .before .before .before .before .before .before .before .before .before .before .args .depth) (c .before .before .before .before .before .before .before .before .before .before .before .before .before .args .number) (c .before .before .before .before .before .before .before .before .before .before .before .before .before .pre .1 .2)) .bin)
 
 -- src/absorbing.rt:89:19
 absorb-bins-add-inner-r-3 : (t : ℕ) → absorb-bins-lts.Need-add-inner-r-3 (
@@ -337,7 +350,7 @@ absorb-bins-add-inner-r-3 : (t : ℕ) → absorb-bins-lts.Need-add-inner-r-3 (
   store-reads.Asked,
   store-reads.Learnt,
 ) (absorb-bins-at t) absorb-bins.Post
-absorb-bins-add-inner-r-3 t c = ?
+absorb-bins-add-inner-r-3 t c = omega (arith, (c .before .before .before .before .before .before .before .before .before .before .before .before .before .pre .1 .0), (formed (gridAt (c .before .before .before .before .before .before .before .before .before .before .before .before .before .args .level) (c .before .before .before .before .before .before .before .before .before .before .before .before .before .args .table .now) (c .before .before .before .before .before .before .before .before .before .before .before .before .before .args .reals .now) (c .before .before .before .before .before .before .before .before .before .before .before .before .before .args .counts .now)) (c .before .before .before .before .before .before .before .before .before .before .before .before .before .args .table .now) (c .before .before .before .before .before .before .before .before .before .before .before .before .before .args .reals .now) (c .before .before .before .before .before .before .before .before .before .before .before .before .before .args .counts .now) (c .before .before .before .before .before .before .before .before .before .before .before .before .before .args .w) (getD (c .before .before .before .before .before .before .before .before .before .before .before .before .before .args .table .now) ((c .before .before .before .before .before .before .before .before .before .before .before .before .before .args .w) + 2) 0) (headAt (c .before .before .before .before .before .before .before .before .before .before .before .before .before .args .table .now) (c .before .before .before .before .before .before .before .before .before .before .before .before .before .args .reals .now) (c .before .before .before .before .before .before .before .before .before .before .before .before .before .args .counts .now) (c .before .before .before .before .before .before .before .before .before .before .before .before .before .args .w)) (c .before .before .before .before .before .before .before .before .before .before .before .before .before .args .s) (c .before .before .before .before .before .before .before .before .before .before .before .before .before .args .depth) (c .before .before .before .before .before .before .before .before .before .before .before .before .before .args .number) (c .before .before .before .before .before .before .before .before .before .before .before .before .before .pre .1 .2)) .bin)
 
 -- src/absorbing.rt:90:19
 absorb-bins-add-inner-c : (t : ℕ) → absorb-bins-lts.Need-add-inner-c (
@@ -348,7 +361,7 @@ absorb-bins-add-inner-c : (t : ℕ) → absorb-bins-lts.Need-add-inner-c (
   store-reads.Asked,
   store-reads.Learnt,
 ) (absorb-bins-at t) absorb-bins.Post
-absorb-bins-add-inner-c t c = ?
+absorb-bins-add-inner-c t c = omega (arith, (c .before .before .before .before .before .before .before .before .before .before .before .before .before .pre .1 .0), (formed (gridAt (c .before .before .before .before .before .before .before .before .before .before .before .before .before .args .level) (c .before .before .before .before .before .before .before .before .before .before .before .before .before .args .table .now) (c .before .before .before .before .before .before .before .before .before .before .before .before .before .args .reals .now) (c .before .before .before .before .before .before .before .before .before .before .before .before .before .args .counts .now)) (c .before .before .before .before .before .before .before .before .before .before .before .before .before .args .table .now) (c .before .before .before .before .before .before .before .before .before .before .before .before .before .args .reals .now) (c .before .before .before .before .before .before .before .before .before .before .before .before .before .args .counts .now) (c .before .before .before .before .before .before .before .before .before .before .before .before .before .args .w) (getD (c .before .before .before .before .before .before .before .before .before .before .before .before .before .args .table .now) ((c .before .before .before .before .before .before .before .before .before .before .before .before .before .args .w) + 2) 0) (headAt (c .before .before .before .before .before .before .before .before .before .before .before .before .before .args .table .now) (c .before .before .before .before .before .before .before .before .before .before .before .before .before .args .reals .now) (c .before .before .before .before .before .before .before .before .before .before .before .before .before .args .counts .now) (c .before .before .before .before .before .before .before .before .before .before .before .before .before .args .w)) (c .before .before .before .before .before .before .before .before .before .before .before .before .before .args .s) (c .before .before .before .before .before .before .before .before .before .before .before .before .before .args .depth) (c .before .before .before .before .before .before .before .before .before .before .before .before .before .args .number) (c .before .before .before .before .before .before .before .before .before .before .before .before .before .pre .1 .2)) .bin)
 
 -- src/absorbing.rt:90:27
 absorb-bins-mul-inner-c : (t : ℕ) → absorb-bins-lts.Need-mul-inner-c (
@@ -359,7 +372,7 @@ absorb-bins-mul-inner-c : (t : ℕ) → absorb-bins-lts.Need-mul-inner-c (
   store-reads.Asked,
   store-reads.Learnt,
 ) (absorb-bins-at t) absorb-bins.Post
-absorb-bins-mul-inner-c t c = ?
+absorb-bins-mul-inner-c t c = omega (arith, (c .before .before .before .before .before .before .before .before .before .before .before .before .before .pre .1 .0), (formed (gridAt (c .before .before .before .before .before .before .before .before .before .before .before .before .before .args .level) (c .before .before .before .before .before .before .before .before .before .before .before .before .before .args .table .now) (c .before .before .before .before .before .before .before .before .before .before .before .before .before .args .reals .now) (c .before .before .before .before .before .before .before .before .before .before .before .before .before .args .counts .now)) (c .before .before .before .before .before .before .before .before .before .before .before .before .before .args .table .now) (c .before .before .before .before .before .before .before .before .before .before .before .before .before .args .reals .now) (c .before .before .before .before .before .before .before .before .before .before .before .before .before .args .counts .now) (c .before .before .before .before .before .before .before .before .before .before .before .before .before .args .w) (getD (c .before .before .before .before .before .before .before .before .before .before .before .before .before .args .table .now) ((c .before .before .before .before .before .before .before .before .before .before .before .before .before .args .w) + 2) 0) (headAt (c .before .before .before .before .before .before .before .before .before .before .before .before .before .args .table .now) (c .before .before .before .before .before .before .before .before .before .before .before .before .before .args .reals .now) (c .before .before .before .before .before .before .before .before .before .before .before .before .before .args .counts .now) (c .before .before .before .before .before .before .before .before .before .before .before .before .before .args .w)) (c .before .before .before .before .before .before .before .before .before .before .before .before .before .args .s) (c .before .before .before .before .before .before .before .before .before .before .before .before .before .args .depth) (c .before .before .before .before .before .before .before .before .before .before .before .before .before .args .number) (c .before .before .before .before .before .before .before .before .before .before .before .before .before .pre .1 .2)) .bin)
 
 -- src/absorbing.rt:90:19
 absorb-bins-add-inner-c-2 : (t : ℕ) → absorb-bins-lts.Need-add-inner-c-2 (
@@ -370,7 +383,7 @@ absorb-bins-add-inner-c-2 : (t : ℕ) → absorb-bins-lts.Need-add-inner-c-2 (
   store-reads.Asked,
   store-reads.Learnt,
 ) (absorb-bins-at t) absorb-bins.Post
-absorb-bins-add-inner-c-2 t c = ?
+absorb-bins-add-inner-c-2 t c = omega (arith, (c .before .before .before .before .before .before .before .before .before .before .before .before .before .pre .1 .0), (formed (gridAt (c .before .before .before .before .before .before .before .before .before .before .before .before .before .args .level) (c .before .before .before .before .before .before .before .before .before .before .before .before .before .args .table .now) (c .before .before .before .before .before .before .before .before .before .before .before .before .before .args .reals .now) (c .before .before .before .before .before .before .before .before .before .before .before .before .before .args .counts .now)) (c .before .before .before .before .before .before .before .before .before .before .before .before .before .args .table .now) (c .before .before .before .before .before .before .before .before .before .before .before .before .before .args .reals .now) (c .before .before .before .before .before .before .before .before .before .before .before .before .before .args .counts .now) (c .before .before .before .before .before .before .before .before .before .before .before .before .before .args .w) (getD (c .before .before .before .before .before .before .before .before .before .before .before .before .before .args .table .now) ((c .before .before .before .before .before .before .before .before .before .before .before .before .before .args .w) + 2) 0) (headAt (c .before .before .before .before .before .before .before .before .before .before .before .before .before .args .table .now) (c .before .before .before .before .before .before .before .before .before .before .before .before .before .args .reals .now) (c .before .before .before .before .before .before .before .before .before .before .before .before .before .args .counts .now) (c .before .before .before .before .before .before .before .before .before .before .before .before .before .args .w)) (c .before .before .before .before .before .before .before .before .before .before .before .before .before .args .s) (c .before .before .before .before .before .before .before .before .before .before .before .before .before .args .depth) (c .before .before .before .before .before .before .before .before .before .before .before .before .before .args .number) (c .before .before .before .before .before .before .before .before .before .before .before .before .before .pre .1 .2)) .bin)
 
 -- src/absorbing.rt:91:9
 absorb-bins-with-sample-requires-2 : (t : ℕ) → absorb-bins-lts.Need-with-sample-requires-2 (
@@ -381,7 +394,7 @@ absorb-bins-with-sample-requires-2 : (t : ℕ) → absorb-bins-lts.Need-with-sam
   store-reads.Asked,
   store-reads.Learnt,
 ) (absorb-bins-at t) absorb-bins.Post
-absorb-bins-with-sample-requires-2 t c κs = ?
+absorb-bins-with-sample-requires-2 t c κs = (omega (arith, (c .before .before .before .before .before .before .before .before .before .before .before .before .before .before .before .pre .1 .0), (formed (gridAt (c .before .before .before .before .before .before .before .before .before .before .before .before .before .before .before .args .level) (c .before .before .before .before .before .before .before .before .before .before .before .before .before .before .before .args .table .now) (c .before .before .before .before .before .before .before .before .before .before .before .before .before .before .before .args .reals .now) (c .before .before .before .before .before .before .before .before .before .before .before .before .before .before .before .args .counts .now)) (c .before .before .before .before .before .before .before .before .before .before .before .before .before .before .before .args .table .now) (c .before .before .before .before .before .before .before .before .before .before .before .before .before .before .before .args .reals .now) (c .before .before .before .before .before .before .before .before .before .before .before .before .before .before .before .args .counts .now) (c .before .before .before .before .before .before .before .before .before .before .before .before .before .before .before .args .w) (getD (c .before .before .before .before .before .before .before .before .before .before .before .before .before .before .before .args .table .now) ((c .before .before .before .before .before .before .before .before .before .before .before .before .before .before .before .args .w) + 2) 0) (headAt (c .before .before .before .before .before .before .before .before .before .before .before .before .before .before .before .args .table .now) (c .before .before .before .before .before .before .before .before .before .before .before .before .before .before .before .args .reals .now) (c .before .before .before .before .before .before .before .before .before .before .before .before .before .before .before .args .counts .now) (c .before .before .before .before .before .before .before .before .before .before .before .before .before .before .before .args .w)) (c .before .before .before .before .before .before .before .before .before .before .before .before .before .before .before .args .s) (c .before .before .before .before .before .before .before .before .before .before .before .before .before .before .before .args .depth) (c .before .before .before .before .before .before .before .before .before .before .before .before .before .before .before .args .number) (c .before .before .before .before .before .before .before .before .before .before .before .before .before .before .before .pre .1 .2)) .bin), omega (arith, (c .before .before .before .before .before .before .before .before .before .before .before .before .before .before .before .pre .1 .0), (formed (gridAt (c .before .before .before .before .before .before .before .before .before .before .before .before .before .before .before .args .level) (c .before .before .before .before .before .before .before .before .before .before .before .before .before .before .before .args .table .now) (c .before .before .before .before .before .before .before .before .before .before .before .before .before .before .before .args .reals .now) (c .before .before .before .before .before .before .before .before .before .before .before .before .before .before .before .args .counts .now)) (c .before .before .before .before .before .before .before .before .before .before .before .before .before .before .before .args .table .now) (c .before .before .before .before .before .before .before .before .before .before .before .before .before .before .before .args .reals .now) (c .before .before .before .before .before .before .before .before .before .before .before .before .before .before .before .args .counts .now) (c .before .before .before .before .before .before .before .before .before .before .before .before .before .before .before .args .w) (getD (c .before .before .before .before .before .before .before .before .before .before .before .before .before .before .before .args .table .now) ((c .before .before .before .before .before .before .before .before .before .before .before .before .before .before .before .args .w) + 2) 0) (headAt (c .before .before .before .before .before .before .before .before .before .before .before .before .before .before .before .args .table .now) (c .before .before .before .before .before .before .before .before .before .before .before .before .before .before .before .args .reals .now) (c .before .before .before .before .before .before .before .before .before .before .before .before .before .before .before .args .counts .now) (c .before .before .before .before .before .before .before .before .before .before .before .before .before .before .before .args .w)) (c .before .before .before .before .before .before .before .before .before .before .before .before .before .before .before .args .s) (c .before .before .before .before .before .before .before .before .before .before .before .before .before .before .before .args .depth) (c .before .before .before .before .before .before .before .before .before .before .before .before .before .before .before .args .number) (c .before .before .before .before .before .before .before .before .before .before .before .before .before .before .before .pre .1 .2)) .bin))
 
 -- src/absorbing.rt:92:56
 absorb-bins-add-absorb-child : (t : ℕ) → absorb-bins-lts.Need-add-absorb-child (
@@ -392,7 +405,7 @@ absorb-bins-add-absorb-child : (t : ℕ) → absorb-bins-lts.Need-add-absorb-chi
   store-reads.Asked,
   store-reads.Learnt,
 ) (absorb-bins-at t) absorb-bins.Post
-absorb-bins-add-absorb-child t c = ?
+absorb-bins-add-absorb-child t c = omega (arith, c .before .before .before .before .before .before .before .before .before .before .before .before .before .before .before .before .before .before .pre .1 .1)
 
 -- src/absorbing.rt:92:5
 absorb-bins-absorb-child-requires : (t : ℕ) → absorb-bins-lts.Need-absorb-child-requires (
@@ -403,7 +416,8 @@ absorb-bins-absorb-child-requires : (t : ℕ) → absorb-bins-lts.Need-absorb-ch
   store-reads.Asked,
   store-reads.Learnt,
 ) (absorb-bins-at t) absorb-bins.Post
-absorb-bins-absorb-child-requires t c κs = ?
+unfolding ChildLaid
+absorb-bins-absorb-child-requires t c κs = (omega (arith, c .before .before .before .before .before .before .before .before .before .before .before .before .before .before .before .before .before .before .pre .0), (λ z. (c .before .before .before .before .before .before .before .before .before .before .before .before .before .before .before .before .before .before .pre .1 .0) .children (getD ((c .before .before .before .before .before .before .before .before .before .before .before .before .before .before .before .before .before .before .args .s) .path) (c .before .before .before .before .before .before .before .before .before .before .before .before .before .before .before .before .before .before .args .depth) 0) ((formed (gridAt (c .before .before .before .before .before .before .before .before .before .before .before .before .before .before .before .before .before .before .args .level) (c .before .before .before .before .before .before .before .before .before .before .before .before .before .before .before .before .before .before .args .table .now) (c .before .before .before .before .before .before .before .before .before .before .before .before .before .before .before .before .before .before .args .reals .now) (c .before .before .before .before .before .before .before .before .before .before .before .before .before .before .before .before .before .before .args .counts .now)) (c .before .before .before .before .before .before .before .before .before .before .before .before .before .before .before .before .before .before .args .table .now) (c .before .before .before .before .before .before .before .before .before .before .before .before .before .before .before .before .before .before .args .reals .now) (c .before .before .before .before .before .before .before .before .before .before .before .before .before .before .before .before .before .before .args .counts .now) (c .before .before .before .before .before .before .before .before .before .before .before .before .before .before .before .before .before .before .args .w) (getD (c .before .before .before .before .before .before .before .before .before .before .before .before .before .before .before .before .before .before .args .table .now) ((c .before .before .before .before .before .before .before .before .before .before .before .before .before .before .before .before .before .before .args .w) + 2) 0) (headAt (c .before .before .before .before .before .before .before .before .before .before .before .before .before .before .before .before .before .before .args .table .now) (c .before .before .before .before .before .before .before .before .before .before .before .before .before .before .before .before .before .before .args .reals .now) (c .before .before .before .before .before .before .before .before .before .before .before .before .before .before .before .before .before .before .args .counts .now) (c .before .before .before .before .before .before .before .before .before .before .before .before .before .before .before .before .before .before .args .w)) (c .before .before .before .before .before .before .before .before .before .before .before .before .before .before .before .before .before .before .args .s) (c .before .before .before .before .before .before .before .before .before .before .before .before .before .before .before .before .before .before .args .depth) (c .before .before .before .before .before .before .before .before .before .before .before .before .before .before .before .before .before .before .args .number) (c .before .before .before .before .before .before .before .before .before .before .before .before .before .before .before .before .before .before .pre .1 .2)) .bin) z, omega (arith, c .before .before .before .before .before .before .before .before .before .before .before .before .before .before .before .before .before .before .pre .1 .1), takes-below (gridAt (c .before .before .before .before .before .before .before .before .before .before .before .before .before .before .before .before .before .before .args .level) (c .before .before .before .before .before .before .before .before .before .before .before .before .before .before .before .before .before .before .args .table .now) (c .before .before .before .before .before .before .before .before .before .before .before .before .before .before .before .before .before .before .args .reals .now) (c .before .before .before .before .before .before .before .before .before .before .before .before .before .before .before .before .before .before .args .counts .now)) (c .before .before .before .before .before .before .before .before .before .before .before .before .before .before .before .before .before .before .args .table .now) (c .before .before .before .before .before .before .before .before .before .before .before .before .before .before .before .before .before .before .args .reals .now) (c .before .before .before .before .before .before .before .before .before .before .before .before .before .before .before .before .before .before .args .counts .now) (c .before .before .before .before .before .before .before .before .before .before .before .before .before .before .before .before .before .before .args .w) (getD (c .before .before .before .before .before .before .before .before .before .before .before .before .before .before .before .before .before .before .args .table .now) ((c .before .before .before .before .before .before .before .before .before .before .before .before .before .before .before .before .before .before .args .w) + 2) 0) (headAt (c .before .before .before .before .before .before .before .before .before .before .before .before .before .before .before .before .before .before .args .table .now) (c .before .before .before .before .before .before .before .before .before .before .before .before .before .before .before .before .before .before .args .reals .now) (c .before .before .before .before .before .before .before .before .before .before .before .before .before .before .before .before .before .before .args .counts .now) (c .before .before .before .before .before .before .before .before .before .before .before .before .before .before .before .before .before .before .args .w)) (c .before .before .before .before .before .before .before .before .before .before .before .before .before .before .before .before .before .before .args .s) (c .before .before .before .before .before .before .before .before .before .before .before .before .before .before .before .before .before .before .args .depth) (c .before .before .before .before .before .before .before .before .before .before .before .before .before .before .before .before .before .before .args .number) (c .before .before .before .before .before .before .before .before .before .before .before .before .before .before .before .before .before .before .pre .1 .2)))
 
 -- src/absorbing.rt:93:5
 absorb-bins-store-requires : (t : ℕ) → absorb-bins-lts.Need-store-requires (
@@ -414,7 +428,7 @@ absorb-bins-store-requires : (t : ℕ) → absorb-bins-lts.Need-store-requires (
   store-reads.Asked,
   store-reads.Learnt,
 ) (absorb-bins-at t) absorb-bins.Post
-absorb-bins-store-requires t c κs = ?
+absorb-bins-store-requires t c κs = (omega (arith, (c .before .before .before .before .before .before .before .before .before .before .before .before .before .before .before .before .before .before .before .before .before .before .before .before .before .pre .1 .0), (formed (gridAt (c .before .before .before .before .before .before .before .before .before .before .before .before .before .before .before .before .before .before .before .before .before .before .before .before .before .args .level) (c .before .before .before .before .before .before .before .before .before .before .before .before .before .before .before .before .before .before .before .before .before .before .before .before .before .args .table .now) (c .before .before .before .before .before .before .before .before .before .before .before .before .before .before .before .before .before .before .before .before .before .before .before .before .before .args .reals .now) (c .before .before .before .before .before .before .before .before .before .before .before .before .before .before .before .before .before .before .before .before .before .before .before .before .before .args .counts .now)) (c .before .before .before .before .before .before .before .before .before .before .before .before .before .before .before .before .before .before .before .before .before .before .before .before .before .args .table .now) (c .before .before .before .before .before .before .before .before .before .before .before .before .before .before .before .before .before .before .before .before .before .before .before .before .before .args .reals .now) (c .before .before .before .before .before .before .before .before .before .before .before .before .before .before .before .before .before .before .before .before .before .before .before .before .before .args .counts .now) (c .before .before .before .before .before .before .before .before .before .before .before .before .before .before .before .before .before .before .before .before .before .before .before .before .before .args .w) (getD (c .before .before .before .before .before .before .before .before .before .before .before .before .before .before .before .before .before .before .before .before .before .before .before .before .before .args .table .now) ((c .before .before .before .before .before .before .before .before .before .before .before .before .before .before .before .before .before .before .before .before .before .before .before .before .before .args .w) + 2) 0) (headAt (c .before .before .before .before .before .before .before .before .before .before .before .before .before .before .before .before .before .before .before .before .before .before .before .before .before .args .table .now) (c .before .before .before .before .before .before .before .before .before .before .before .before .before .before .before .before .before .before .before .before .before .before .before .before .before .args .reals .now) (c .before .before .before .before .before .before .before .before .before .before .before .before .before .before .before .before .before .before .before .before .before .before .before .before .before .args .counts .now) (c .before .before .before .before .before .before .before .before .before .before .before .before .before .before .before .before .before .before .before .before .before .before .before .before .before .args .w)) (c .before .before .before .before .before .before .before .before .before .before .before .before .before .before .before .before .before .before .before .before .before .before .before .before .before .args .s) (c .before .before .before .before .before .before .before .before .before .before .before .before .before .before .before .before .before .before .before .before .before .before .before .before .before .args .depth) (c .before .before .before .before .before .before .before .before .before .before .before .before .before .before .before .before .before .before .before .before .before .before .before .before .before .args .number) (c .before .before .before .before .before .before .before .before .before .before .before .before .before .before .before .before .before .before .before .before .before .before .before .before .before .pre .1 .2)) .bin, c .before .before .before .before .before .before .absorb-child .kept .1 .0), omega (arith, (c .before .before .before .before .before .before .before .before .before .before .before .before .before .before .before .before .before .before .before .before .before .before .before .before .before .pre .1 .0), (formed (gridAt (c .before .before .before .before .before .before .before .before .before .before .before .before .before .before .before .before .before .before .before .before .before .before .before .before .before .args .level) (c .before .before .before .before .before .before .before .before .before .before .before .before .before .before .before .before .before .before .before .before .before .before .before .before .before .args .table .now) (c .before .before .before .before .before .before .before .before .before .before .before .before .before .before .before .before .before .before .before .before .before .before .before .before .before .args .reals .now) (c .before .before .before .before .before .before .before .before .before .before .before .before .before .before .before .before .before .before .before .before .before .before .before .before .before .args .counts .now)) (c .before .before .before .before .before .before .before .before .before .before .before .before .before .before .before .before .before .before .before .before .before .before .before .before .before .args .table .now) (c .before .before .before .before .before .before .before .before .before .before .before .before .before .before .before .before .before .before .before .before .before .before .before .before .before .args .reals .now) (c .before .before .before .before .before .before .before .before .before .before .before .before .before .before .before .before .before .before .before .before .before .before .before .before .before .args .counts .now) (c .before .before .before .before .before .before .before .before .before .before .before .before .before .before .before .before .before .before .before .before .before .before .before .before .before .args .w) (getD (c .before .before .before .before .before .before .before .before .before .before .before .before .before .before .before .before .before .before .before .before .before .before .before .before .before .args .table .now) ((c .before .before .before .before .before .before .before .before .before .before .before .before .before .before .before .before .before .before .before .before .before .before .before .before .before .args .w) + 2) 0) (headAt (c .before .before .before .before .before .before .before .before .before .before .before .before .before .before .before .before .before .before .before .before .before .before .before .before .before .args .table .now) (c .before .before .before .before .before .before .before .before .before .before .before .before .before .before .before .before .before .before .before .before .before .before .before .before .before .args .reals .now) (c .before .before .before .before .before .before .before .before .before .before .before .before .before .before .before .before .before .before .before .before .before .before .before .before .before .args .counts .now) (c .before .before .before .before .before .before .before .before .before .before .before .before .before .before .before .before .before .before .before .before .before .before .before .before .before .args .w)) (c .before .before .before .before .before .before .before .before .before .before .before .before .before .before .before .before .before .before .before .before .before .before .before .before .before .args .s) (c .before .before .before .before .before .before .before .before .before .before .before .before .before .before .before .before .before .before .before .before .before .before .before .before .before .args .depth) (c .before .before .before .before .before .before .before .before .before .before .before .before .before .before .before .before .before .before .before .before .before .before .before .before .before .args .number) (c .before .before .before .before .before .before .before .before .before .before .before .before .before .before .before .before .before .before .before .before .before .before .before .before .before .pre .1 .2)) .bin, c .before .before .before .before .before .before .absorb-child .kept .1 .1 .0))
 
 -- src/absorbing.rt:94:5
 absorb-bins-store-requires-2 : (t : ℕ) → absorb-bins-lts.Need-store-requires-2 (
@@ -425,7 +439,7 @@ absorb-bins-store-requires-2 : (t : ℕ) → absorb-bins-lts.Need-store-requires
   store-reads.Asked,
   store-reads.Learnt,
 ) (absorb-bins-at t) absorb-bins.Post
-absorb-bins-store-requires-2 t c κs = ?
+absorb-bins-store-requires-2 t c κs = (omega (arith, (c .before .before .before .before .before .before .before .before .before .before .before .before .before .before .before .before .before .before .before .before .before .before .before .before .before .before .before .before .before .before .before .before .pre .1 .0), c .before .before .before .before .before .before .before .before .before .before .before .before .before .absorb-child .kept .1 .0, c .before .before .before .before .before .before .store .kept .0), omega (arith, (c .before .before .before .before .before .before .before .before .before .before .before .before .before .before .before .before .before .before .before .before .before .before .before .before .before .before .before .before .before .before .before .before .pre .1 .0), c .before .before .before .before .before .before .before .before .before .before .before .before .before .absorb-child .kept .1 .1 .0, c .before .before .before .before .before .before .store .kept .1 .0))
 
 -- src/absorbing.rt:64:1
 absorb-bins-same-length : (t : ℕ) → absorb-bins-lts.Need-same-length (
@@ -436,7 +450,7 @@ absorb-bins-same-length : (t : ℕ) → absorb-bins-lts.Need-same-length (
   store-reads.Asked,
   store-reads.Learnt,
 ) (absorb-bins-at t) absorb-bins.Post
-absorb-bins-same-length t c = ?
+absorb-bins-same-length t c = c .before .before .before .before .store2 .kept .0 ∙ c .before .before .before .before .before .before .before .before .before .before .before .store .kept .0 ∙ c .before .before .before .before .before .before .before .before .before .before .before .before .before .before .before .before .before .before .absorb-child .kept .1 .0
 
 -- src/absorbing.rt:64:1
 absorb-bins-same-length-2 : (t : ℕ) → absorb-bins-lts.Need-same-length-2 (
@@ -447,7 +461,7 @@ absorb-bins-same-length-2 : (t : ℕ) → absorb-bins-lts.Need-same-length-2 (
   store-reads.Asked,
   store-reads.Learnt,
 ) (absorb-bins-at t) absorb-bins.Post
-absorb-bins-same-length-2 t c = ?
+absorb-bins-same-length-2 t c = c .before .before .before .before .store2 .kept .1 .0 ∙ c .before .before .before .before .before .before .before .before .before .before .before .store .kept .1 .0 ∙ c .before .before .before .before .before .before .before .before .before .before .before .before .before .before .before .before .before .before .absorb-child .kept .1 .1 .0
 
 -- src/absorbing.rt:64:1
 absorb-bins-returns : (t : ℕ) → absorb-bins-lts.Need-returns (
@@ -458,42 +472,43 @@ absorb-bins-returns : (t : ℕ) → absorb-bins-lts.Need-returns (
   store-reads.Asked,
   store-reads.Learnt,
 ) (absorb-bins-at t) absorb-bins.Post
-absorb-bins-returns t c = ?
+absorb-bins-returns t c = bins-absorbed (c .before .before .before .before .before .before .before .before .before .before .before .before .before .before .before .before .before .before .before .before .before .before .before .before .before .before .before .before .before .before .before .before .before .before .before .before .before .args .table .now) (c .before .before .before .before .before .before .before .before .before .before .before .before .before .before .before .before .before .before .before .before .before .before .before .before .before .before .before .before .before .before .before .before .before .before .before .before .before .args .s) (c .before .before .before .before .before .before .before .before .before .before .before .before .before .before .before .before .before .before .before .before .before .before .before .before .before .before .before .before .before .before .before .before .before .before .before .before .before .args .evaluation) (c .before .before .before .before .before .before .before .before .before .before .before .before .before .before .before .before .before .before .before .before .before .before .before .before .before .before .before .before .before .before .before .before .before .before .before .before .before .args .number) (c .before .before .before .before .before .before .before .before .before .before .before .before .before .before .before .before .before .before .before .before .before .before .before .before .before .before .before .before .before .before .before .before .before .before .before .before .before .args .w) (c .before .before .before .before .before .before .before .before .before .before .before .before .before .before .before .before .before .before .before .before .before .before .before .before .before .before .before .before .before .before .before .before .before .before .before .before .before .args .depth) (absorbed (c .before .before .before .before .before .before .before .before .before .before .before .before .before .before .before .before .before .before .before .before .before .before .before .before .before .before .before .before .before .before .before .before .before .before .before .before .before .args .level) (c .before .before .before .before .before .before .before .before .before .before .before .before .before .before .before .before .before .before .before .before .before .before .before .before .before .before .before .before .before .before .before .before .before .before .before .before .before .args .table .now) (c .before .before .before .before .before .before .before .before .before .before .before .before .before .before .before .before .before .before .before .before .before .before .before .before .before .before .before .before .before .before .before .before .before .before .before .before .before .args .s) (c .before .before .before .before .before .before .before .before .before .before .before .before .before .before .before .before .before .before .before .before .before .before .before .before .before .before .before .before .before .before .before .before .before .before .before .before .before .args .evaluation) (c .before .before .before .before .before .before .before .before .before .before .before .before .before .before .before .before .before .before .before .before .before .before .before .before .before .before .before .before .before .before .before .before .before .before .before .before .before .args .number)) (memory (c .before .before .before .before .before .before .before .before .before .before .before .before .before .before .before .before .before .before .before .before .before .before .before .before .before .before .before .before .before .before .before .before .before .before .before .before .before .args .reals .now) (c .before .before .before .before .before .before .before .before .before .before .before .before .before .before .before .before .before .before .before .before .before .before .before .before .before .before .before .before .before .before .before .before .before .before .before .before .before .args .counts .now)) (memory (c .before .before .before .before .before .before .before .before .before .before .before .before .before .before .before .before .before .before .absorb-child .last .1 .0) (c .before .before .before .before .before .before .before .before .before .before .before .before .before .before .before .before .before .before .absorb-child .last .1 .1 .0)) (memory (c .before .before .before .before .before .before .before .before .before .before .before .store .last .0) (c .before .before .before .before .before .before .before .before .before .before .before .store .last .1 .0)) (memory (c .before .before .before .before .store2 .last .0) (c .before .before .before .before .store2 .last .1 .0)) (c .before .before .before .before .before .before .before .before .before .before .before .before .before .before .before .before .before .before .before .before .before .before .before .before .with-sample .result) (c .before .before .before .before .before .before .before .before .before .before .before .before .before .before .before .before .before .before .before .before .before .with-sample2 .result) (c .before .before .before .before .before .before .before .before .before .before .before .before .before .before .before .before .before .before .before .before .before .before .before .before .with-sample .ensures) (c .before .before .before .before .before .before .before .before .before .before .before .before .before .before .before .before .before .before .before .before .before .with-sample2 .ensures) (c .before .before .before .before .before .before .before .before .before .before .before .before .before .before .before .before .before .before .absorb-child .ensures) (c .before .before .before .before .before .before .before .before .before .before .before .store .ensures) (c .before .before .before .before .store2 .ensures)
 
 -- src/absorbing.rt:58:9
 absorb-child-returns : (t : ℕ) → absorb-child-lts.Need-returns (
   absorb-grid-below t,
   absorb-grid.Post,
 ) (absorb-child-at t) absorb-child.Post
-absorb-child-returns t c = ?
+absorb-child-returns t c = nothing-absorbed (absorbed (c .before .before .before .before .args .level) (c .before .before .before .before .args .table .now) (c .before .before .before .before .args .s) (c .before .before .before .before .args .evaluation) (c .before .before .before .before .args .number)) (c .before .before .before .before .args .link) (c .before .before .before .before .args .depth) (memory (c .before .before .before .before .args .reals .now) (c .before .before .before .before .args .counts .now)) (c .if1 .taken)
 
 -- src/absorbing.rt:60:5
 absorb-child-absorb-grid-requires : (t : ℕ) → absorb-child-lts.Need-absorb-grid-requires (
   absorb-grid-below t,
   absorb-grid.Post,
 ) (absorb-child-at t) absorb-child.Post
-absorb-child-absorb-grid-requires t c κs = ?
+unfolding ChildLaid
+absorb-child-absorb-grid-requires t c κs = (omega (arith, c .before .before .before .before .before .before .pre .0), (c .before .before .before .before .before .before .pre .1 .0 (c .before .before .if1 .left), c .before .before .before .before .before .before .pre .1 .1, takes-grid (gridAt (c .before .before .before .before .before .before .args .level) (c .before .before .before .before .before .before .args .table .now) (c .before .before .before .before .before .before .args .reals .now) (c .before .before .before .before .before .before .args .counts .now)) (c .before .before .before .before .before .before .args .link) (c .before .before .before .before .before .before .args .s) (c .before .before .before .before .before .before .args .depth) (c .before .before .before .before .before .before .args .number) (c .before .before .if1 .left) (c .before .before .before .before .before .before .pre .1 .2)))
 
 -- src/absorbing.rt:43:1
 absorb-child-same-length : (t : ℕ) → absorb-child-lts.Need-same-length (
   absorb-grid-below t,
   absorb-grid.Post,
 ) (absorb-child-at t) absorb-child.Post
-absorb-child-same-length t c = ?
+absorb-child-same-length t c = c .before .before .before .before .absorb-grid .kept .1 .0
 
 -- src/absorbing.rt:43:1
 absorb-child-same-length-2 : (t : ℕ) → absorb-child-lts.Need-same-length-2 (
   absorb-grid-below t,
   absorb-grid.Post,
 ) (absorb-child-at t) absorb-child.Post
-absorb-child-same-length-2 t c = ?
+absorb-child-same-length-2 t c = c .before .before .before .before .absorb-grid .kept .1 .1 .0
 
 -- src/absorbing.rt:43:1
 absorb-child-returns-2 : (t : ℕ) → absorb-child-lts.Need-returns-2 (
   absorb-grid-below t,
   absorb-grid.Post,
 ) (absorb-child-at t) absorb-child.Post
-absorb-child-returns-2 t c = ?
+absorb-child-returns-2 t c = c .before .before .before .before .absorb-grid .ensures ∙ child-absorbed (absorbed (c .before .before .before .before .before .before .before .before .before .before .before .args .level) (c .before .before .before .before .before .before .before .before .before .before .before .args .table .now) (c .before .before .before .before .before .before .before .before .before .before .before .args .s) (c .before .before .before .before .before .before .before .before .before .before .before .args .evaluation) (c .before .before .before .before .before .before .before .before .before .before .before .args .number)) (c .before .before .before .before .before .before .before .before .before .before .before .args .link) (c .before .before .before .before .before .before .before .before .before .before .before .args .depth) (memory (c .before .before .before .before .before .before .before .before .before .before .before .args .reals .now) (c .before .before .before .before .before .before .before .before .before .before .before .args .counts .now)) (c .before .before .before .before .before .before .before .if1 .left)
 
 -- src/absorbing.rt:112:8
 absorb-grid-mul-if1 : (t : ℕ) → absorb-grid-lts.Need-mul-if1 (
@@ -502,7 +517,7 @@ absorb-grid-mul-if1 : (t : ℕ) → absorb-grid-lts.Need-mul-if1 (
   absorb-bins-below t,
   absorb-bins.Post,
 ) (absorb-grid-at t) absorb-grid.Post
-absorb-grid-mul-if1 t c = ?
+absorb-grid-mul-if1 t c = let q = (laid-head (c .before .before .before .args .level) (c .before .before .before .args .table .now) (length (c .before .before .before .args .reals .now)) (length (c .before .before .before .args .counts .now)) (c .before .before .before .args .w) (c .before .before .before .pre .1 .0)) in omega arith
 
 -- src/absorbing.rt:112:8
 absorb-grid-shared-slice-read-if1 : (t : ℕ) → absorb-grid-lts.Need-shared-slice-read-if1 (
@@ -511,7 +526,7 @@ absorb-grid-shared-slice-read-if1 : (t : ℕ) → absorb-grid-lts.Need-shared-sl
   absorb-bins-below t,
   absorb-bins.Post,
 ) (absorb-grid-at t) absorb-grid.Post
-absorb-grid-shared-slice-read-if1 t c = ?
+absorb-grid-shared-slice-read-if1 t c = let q = (laid-head (c .before .before .before .before .args .level) (c .before .before .before .before .args .table .now) (length (c .before .before .before .before .args .reals .now)) (length (c .before .before .before .before .args .counts .now)) (c .before .before .before .before .args .w) (c .before .before .before .before .pre .1 .0)) in omega arith
 
 -- src/absorbing.rt:113:9
 absorb-grid-absorb-axes-requires : (t : ℕ) → absorb-grid-lts.Need-absorb-axes-requires (
@@ -520,7 +535,7 @@ absorb-grid-absorb-axes-requires : (t : ℕ) → absorb-grid-lts.Need-absorb-axe
   absorb-bins-below t,
   absorb-bins.Post,
 ) (absorb-grid-at t) absorb-grid.Post
-absorb-grid-absorb-axes-requires t c κs = ?
+absorb-grid-absorb-axes-requires t c κs = ((laid-axes (c .before .before .before .before .before .before .before .args .level) (c .before .before .before .before .before .before .before .args .table .now) (length (c .before .before .before .before .before .before .before .args .reals .now)) (length (c .before .before .before .before .before .before .before .args .counts .now)) (c .before .before .before .before .before .before .before .args .w) (c .before .before .before .before .before .before .before .pre .1 .0) (c .before .before .if1 .taken)), omega (arith, c .before .before .before .before .before .before .before .pre .1 .1), subst (λ (g : Grid). Takes g (c .before .before .before .before .before .before .before .args .s) (c .before .before .before .before .before .before .before .args .depth) (c .before .before .before .before .before .before .before .args .number)) (node-axes (c .before .before .before .before .before .before .before .args .level) (c .before .before .before .before .before .before .before .args .table .now) (c .before .before .before .before .before .before .before .args .reals .now) (c .before .before .before .before .before .before .before .args .counts .now) (c .before .before .before .before .before .before .before .args .w) (c .before .before .if1 .taken)) (c .before .before .before .before .before .before .before .pre .1 .2))
 
 -- src/absorbing.rt:114:9
 absorb-grid-same-length : (t : ℕ) → absorb-grid-lts.Need-same-length (
@@ -529,7 +544,7 @@ absorb-grid-same-length : (t : ℕ) → absorb-grid-lts.Need-same-length (
   absorb-bins-below t,
   absorb-bins.Post,
 ) (absorb-grid-at t) absorb-grid.Post
-absorb-grid-same-length t c = ?
+absorb-grid-same-length t c = c .before .before .before .before .absorb-axes .kept .1 .0
 
 -- src/absorbing.rt:114:9
 absorb-grid-same-length-2 : (t : ℕ) → absorb-grid-lts.Need-same-length-2 (
@@ -538,7 +553,7 @@ absorb-grid-same-length-2 : (t : ℕ) → absorb-grid-lts.Need-same-length-2 (
   absorb-bins-below t,
   absorb-bins.Post,
 ) (absorb-grid-at t) absorb-grid.Post
-absorb-grid-same-length-2 t c = ?
+absorb-grid-same-length-2 t c = c .before .before .before .before .absorb-axes .kept .1 .1 .0
 
 -- src/absorbing.rt:114:9
 absorb-grid-returns : (t : ℕ) → absorb-grid-lts.Need-returns (
@@ -547,7 +562,7 @@ absorb-grid-returns : (t : ℕ) → absorb-grid-lts.Need-returns (
   absorb-bins-below t,
   absorb-bins.Post,
 ) (absorb-grid-at t) absorb-grid.Post
-absorb-grid-returns t c = ?
+absorb-grid-returns t c = c .before .before .before .before .absorb-axes .ensures ∙ absorbed-axes (c .before .before .before .before .before .before .before .before .before .before .before .before .args .table .now) (c .before .before .before .before .before .before .before .before .before .before .before .before .args .s) (c .before .before .before .before .before .before .before .before .before .before .before .before .args .evaluation) (c .before .before .before .before .before .before .before .before .before .before .before .before .args .number) (c .before .before .before .before .before .before .before .before .before .before .before .before .args .w) (c .before .before .before .before .before .before .before .before .before .before .before .before .args .depth) (memory (c .before .before .before .before .before .before .before .before .before .before .before .before .args .reals .now) (c .before .before .before .before .before .before .before .before .before .before .before .before .args .counts .now)) (c .before .before .before .before .before .before .before .before .before .before .before .before .args .level) (c .before .before .before .before .before .before .before .if1 .taken)
 
 -- src/absorbing.rt:116:39
 absorb-grid-sub-absorb-bins : (t : ℕ) → absorb-grid-lts.Need-sub-absorb-bins (
@@ -556,7 +571,7 @@ absorb-grid-sub-absorb-bins : (t : ℕ) → absorb-grid-lts.Need-sub-absorb-bins
   absorb-bins-below t,
   absorb-bins.Post,
 ) (absorb-grid-at t) absorb-grid.Post
-absorb-grid-sub-absorb-bins t c = ?
+absorb-grid-sub-absorb-bins t c = omega (arith, (laid-bins (c .before .before .before .before .before .before .before .args .level) (c .before .before .before .before .before .before .before .args .table .now) (length (c .before .before .before .before .before .before .before .args .reals .now)) (length (c .before .before .before .before .before .before .before .args .counts .now)) (c .before .before .before .before .before .before .before .args .w) (c .before .before .before .before .before .before .before .pre .1 .0) (c .before .before .if1 .left)) .level)
 
 -- src/absorbing.rt:116:5
 absorb-grid-absorb-bins-requires : (t : ℕ) → absorb-grid-lts.Need-absorb-bins-requires (
@@ -565,7 +580,7 @@ absorb-grid-absorb-bins-requires : (t : ℕ) → absorb-grid-lts.Need-absorb-bin
   absorb-bins-below t,
   absorb-bins.Post,
 ) (absorb-grid-at t) absorb-grid.Post
-absorb-grid-absorb-bins-requires t c κs = ?
+absorb-grid-absorb-bins-requires t c κs = (omega (arith, c .before .before .before .before .before .before .before .pre .0, (laid-bins (c .before .before .before .before .before .before .before .args .level) (c .before .before .before .before .before .before .before .args .table .now) (length (c .before .before .before .before .before .before .before .args .reals .now)) (length (c .before .before .before .before .before .before .before .args .counts .now)) (c .before .before .before .before .before .before .before .args .w) (c .before .before .before .before .before .before .before .pre .1 .0) (c .before .before .if1 .left)) .level), ((laid-bins (c .before .before .before .before .before .before .before .args .level) (c .before .before .before .before .before .before .before .args .table .now) (length (c .before .before .before .before .before .before .before .args .reals .now)) (length (c .before .before .before .before .before .before .before .args .counts .now)) (c .before .before .before .before .before .before .before .args .w) (c .before .before .before .before .before .before .before .pre .1 .0) (c .before .before .if1 .left)) .bins, omega (arith, c .before .before .before .before .before .before .before .pre .1 .1, (laid-bins (c .before .before .before .before .before .before .before .args .level) (c .before .before .before .before .before .before .before .args .table .now) (length (c .before .before .before .before .before .before .before .args .reals .now)) (length (c .before .before .before .before .before .before .before .args .counts .now)) (c .before .before .before .before .before .before .before .args .w) (c .before .before .before .before .before .before .before .pre .1 .0) (c .before .before .if1 .left)) .level), subst (λ (g : Grid). Takes g (c .before .before .before .before .before .before .before .args .s) (c .before .before .before .before .before .before .before .args .depth) (c .before .before .before .before .before .before .before .args .number)) (node-bins (c .before .before .before .before .before .before .before .args .level) (c .before .before .before .before .before .before .before .args .table .now) (c .before .before .before .before .before .before .before .args .reals .now) (c .before .before .before .before .before .before .before .args .counts .now) (c .before .before .before .before .before .before .before .args .w) (c .before .before .if1 .left) ((laid-bins (c .before .before .before .before .before .before .before .args .level) (c .before .before .before .before .before .before .before .args .table .now) (length (c .before .before .before .before .before .before .before .args .reals .now)) (length (c .before .before .before .before .before .before .before .args .counts .now)) (c .before .before .before .before .before .before .before .args .w) (c .before .before .before .before .before .before .before .pre .1 .0) (c .before .before .if1 .left)) .level)) (c .before .before .before .before .before .before .before .pre .1 .2)))
 
 -- src/absorbing.rt:98:1
 absorb-grid-same-length-3 : (t : ℕ) → absorb-grid-lts.Need-same-length-3 (
@@ -574,7 +589,7 @@ absorb-grid-same-length-3 : (t : ℕ) → absorb-grid-lts.Need-same-length-3 (
   absorb-bins-below t,
   absorb-bins.Post,
 ) (absorb-grid-at t) absorb-grid.Post
-absorb-grid-same-length-3 t c = ?
+absorb-grid-same-length-3 t c = c .before .before .before .before .absorb-bins .kept .1 .0
 
 -- src/absorbing.rt:98:1
 absorb-grid-same-length-4 : (t : ℕ) → absorb-grid-lts.Need-same-length-4 (
@@ -583,7 +598,7 @@ absorb-grid-same-length-4 : (t : ℕ) → absorb-grid-lts.Need-same-length-4 (
   absorb-bins-below t,
   absorb-bins.Post,
 ) (absorb-grid-at t) absorb-grid.Post
-absorb-grid-same-length-4 t c = ?
+absorb-grid-same-length-4 t c = c .before .before .before .before .absorb-bins .kept .1 .1 .0
 
 -- src/absorbing.rt:98:1
 absorb-grid-returns-2 : (t : ℕ) → absorb-grid-lts.Need-returns-2 (
@@ -592,7 +607,7 @@ absorb-grid-returns-2 : (t : ℕ) → absorb-grid-lts.Need-returns-2 (
   absorb-bins-below t,
   absorb-bins.Post,
 ) (absorb-grid-at t) absorb-grid.Post
-absorb-grid-returns-2 t c = ?
+absorb-grid-returns-2 t c = c .before .before .before .before .absorb-bins .ensures ∙ absorbed-bins (c .before .before .before .before .before .before .before .before .before .before .before .before .args .table .now) (c .before .before .before .before .before .before .before .before .before .before .before .before .args .s) (c .before .before .before .before .before .before .before .before .before .before .before .before .args .evaluation) (c .before .before .before .before .before .before .before .before .before .before .before .before .args .number) (c .before .before .before .before .before .before .before .before .before .before .before .before .args .w) (c .before .before .before .before .before .before .before .before .before .before .before .before .args .depth) (memory (c .before .before .before .before .before .before .before .before .before .before .before .before .args .reals .now) (c .before .before .before .before .before .before .before .before .before .before .before .before .args .counts .now)) (c .before .before .before .before .before .before .before .before .before .before .before .before .args .level) (c .before .before .before .before .before .before .before .if1 .left) ((laid-bins (c .before .before .before .before .before .before .before .before .before .before .before .before .args .level) (c .before .before .before .before .before .before .before .before .before .before .before .before .args .table .now) (length (c .before .before .before .before .before .before .before .before .before .before .before .before .args .reals .now)) (length (c .before .before .before .before .before .before .before .before .before .before .before .before .args .counts .now)) (c .before .before .before .before .before .before .before .before .before .before .before .before .args .w) (c .before .before .before .before .before .before .before .before .before .before .before .before .pre .1 .0) (c .before .before .before .before .before .before .before .if1 .left)) .level)
 
 pub +absorb-bins+absorb-child+absorb-grid-spec : {M : Type 1} → statement M
 +absorb-bins+absorb-child+absorb-grid-spec =

@@ -1,3 +1,8 @@
+use mathlib.Core.Path.{_∙_}
+use native.Mathlib.Omega.{arith}
+use Rattle.grid.specs.Memory.{memory}
+use Rattle.grid.proofs.Accepts.{axes-placed, spots-found, cells-of}
+use Rattle.grid.proofs.Absorbs.{axes-absorbed}
 use borrow.Author.Needs.{needs}
 use Rattle.grid.proofs.absorbing.absorb_axes.Statement.{statement}
 use Rattle.grid.proofs.absorbing.absorb_axes.Tie as tie
@@ -47,7 +52,7 @@ shared-slice-read-c c = search needs
 
 -- src/absorbing.rt:36:9
 locate-requires : tie.Need-locate-requires
-locate-requires c κs = ?
+locate-requires c κs = axes-placed (c .before .before .before .before .before .before .before .before .before .before .args .table .now) (c .before .before .before .before .before .before .before .before .before .before .args .reals .now) (c .before .before .before .before .before .before .before .before .before .before .args .counts .now) (c .before .before .before .before .before .before .before .before .before .before .args .w) (c .before .before .before .before .before .before .before .before .before .before .args .s) (c .before .before .before .before .before .before .before .before .before .before .args .depth) (c .before .before .before .before .before .before .before .before .before .before .args .number) (c .before .before .before .before .before .before .before .before .before .before .pre .0) (c .before .before .before .before .before .before .before .before .before .before .pre .2) (c .before .before .before .before .axes-place .result) (c .before .before .before .before .axes-place .ensures)
 
 -- src/absorbing.rt:37:9
 with-sample-requires : tie.Need-with-sample-requires
@@ -55,11 +60,11 @@ with-sample-requires c κs = search needs
 
 -- src/absorbing.rt:38:5
 train-axes-requires : tie.Need-train-axes-requires
-train-axes-requires c κs = ?
+train-axes-requires c κs = cells-of (c .before .before .before .before .before .before .before .before .before .before .before .before .before .before .before .before .args .table .now) (c .before .before .before .before .before .before .before .before .before .before .before .before .before .before .before .before .args .reals .now) (c .before .before .before .before .before .before .before .before .before .before .before .before .before .before .before .before .args .counts .now) (c .before .before .before .before .before .before .before .before .before .before .before .before .before .before .before .before .args .w) (c .before .before .before .before .before .before .before .before .before .before .before .before .before .before .before .before .args .s) (c .before .before .before .before .before .before .before .before .before .before .before .before .before .before .before .before .args .depth) (c .before .before .before .before .before .before .before .before .before .before .before .before .before .before .before .before .args .number) (c .before .before .before .before .before .before .before .before .before .before .before .before .before .before .before .before .pre .0) (c .before .before .before .before .before .before .before .before .before .before .before .before .before .before .before .before .pre .2) (c .before .before .before .before .before .before .before .before .before .before .axes-place .result) (c .before .before .before .before .before .before .before .before .before .before .axes-place .ensures) (c .before .before .before .before .before .locate .result) (c .before .before .before .before .before .locate .ensures)
 
 -- src/absorbing.rt:39:5
 store-requires : tie.Need-store-requires
-store-requires c κs = ?
+store-requires c κs = (omega (arith, c .before .before .before .before .before .before .before .before .before .before .before .before .before .before .before .before .before .before .before .before .before .before .before .pre .0, c .before .before .before .before .before .before .train-axes .kept .0), omega (arith, c .before .before .before .before .before .before .before .before .before .before .before .before .before .before .before .before .before .before .before .before .before .before .before .pre .0, c .before .before .before .before .before .before .train-axes .kept .1 .0))
 
 -- src/absorbing.rt:17:1
 same-length : tie.Need-same-length
@@ -71,7 +76,7 @@ same-length-2 c = search needs
 
 -- src/absorbing.rt:17:1
 returns : tie.Need-returns
-returns c = ?
+returns c = axes-absorbed (c .before .before .before .before .before .before .before .before .before .before .before .before .before .before .before .before .before .before .before .before .before .before .before .before .before .before .before .before .args .table .now) (c .before .before .before .before .before .before .before .before .before .before .before .before .before .before .before .before .before .before .before .before .before .before .before .before .before .before .before .before .args .s) (c .before .before .before .before .before .before .before .before .before .before .before .before .before .before .before .before .before .before .before .before .before .before .before .before .before .before .before .before .args .evaluation) (c .before .before .before .before .before .before .before .before .before .before .before .before .before .before .before .before .before .before .before .before .before .before .before .before .before .before .before .before .args .number) (c .before .before .before .before .before .before .before .before .before .before .before .before .before .before .before .before .before .before .before .before .before .before .before .before .before .before .before .before .args .w) (c .before .before .before .before .before .before .before .before .before .before .before .before .before .before .before .before .before .before .before .before .before .before .before .before .before .before .before .before .args .depth) (memory (c .before .before .before .before .before .before .before .before .before .before .before .before .before .before .before .before .before .before .before .before .before .before .before .before .before .before .before .before .args .reals .now) (c .before .before .before .before .before .before .before .before .before .before .before .before .before .before .before .before .before .before .before .before .before .before .before .before .before .before .before .before .args .counts .now)) (memory (c .before .before .before .before .before .before .before .before .before .before .before .train-axes .last .0) (c .before .before .before .before .before .before .before .before .before .before .before .train-axes .last .1 .0)) (memory (c .before .before .before .before .store .last .0) (c .before .before .before .before .store .last .1 .0)) (c .before .before .before .before .before .before .before .before .before .before .before .before .before .before .before .before .before .before .before .before .before .before .axes-place .result) (c .before .before .before .before .before .before .before .before .before .before .before .before .before .before .before .before .before .locate .result) (c .before .before .before .before .before .before .before .before .before .before .before .before .before .before .with-sample .result) (c .before .before .before .before .before .before .before .before .before .before .before .before .before .before .before .before .before .before .before .before .before .before .axes-place .ensures) (spots-found (c .before .before .before .before .before .before .before .before .before .before .before .before .before .before .before .before .before .before .before .before .before .before .before .before .before .before .before .before .args .table .now) (c .before .before .before .before .before .before .before .before .before .before .before .before .before .before .before .before .before .before .before .before .before .before .before .before .before .before .before .before .args .reals .now) (c .before .before .before .before .before .before .before .before .before .before .before .before .before .before .before .before .before .before .before .before .before .before .before .before .before .before .before .before .args .counts .now) (c .before .before .before .before .before .before .before .before .before .before .before .before .before .before .before .before .before .before .before .before .before .before .before .before .before .before .before .before .args .w) (c .before .before .before .before .before .before .before .before .before .before .before .before .before .before .before .before .before .before .before .before .before .before .before .before .before .before .before .before .args .s) (c .before .before .before .before .before .before .before .before .before .before .before .before .before .before .before .before .before .before .before .before .before .before .before .before .before .before .before .before .args .depth) (c .before .before .before .before .before .before .before .before .before .before .before .before .before .before .before .before .before .before .before .before .before .before .before .before .before .before .before .before .args .number) (c .before .before .before .before .before .before .before .before .before .before .before .before .before .before .before .before .before .before .before .before .before .before .before .before .before .before .before .before .pre .0) (c .before .before .before .before .before .before .before .before .before .before .before .before .before .before .before .before .before .before .before .before .before .before .before .before .before .before .before .before .pre .2) (c .before .before .before .before .before .before .before .before .before .before .before .before .before .before .before .before .before .before .before .before .before .before .axes-place .result) (c .before .before .before .before .before .before .before .before .before .before .before .before .before .before .before .before .before .before .before .before .before .before .axes-place .ensures) (c .before .before .before .before .before .before .before .before .before .before .before .before .before .before .before .before .before .locate .result) (c .before .before .before .before .before .before .before .before .before .before .before .before .before .before .before .before .before .locate .ensures)) (c .before .before .before .before .before .before .before .before .before .before .before .before .before .before .with-sample .ensures) (c .before .before .before .before .before .before .before .before .before .before .before .train-axes .ensures) (c .before .before .before .before .store .ensures)
 
 pub absorb-axes-spec : {M : Type 1} → statement M
 absorb-axes-spec =
