@@ -57,7 +57,17 @@ fn absorb_child(
     if link == 0 {
         return;
     }
-    absorb_grid(table, reals, counts, level, link, s, depth, evaluation, number);
+    absorb_grid(
+        table,
+        reals,
+        counts,
+        level,
+        link,
+        s,
+        depth,
+        evaluation,
+        number,
+    );
 }
 
 // At a bins grid: what hangs at the sample's bin, then that bin's accumulator and its own.
@@ -89,7 +99,17 @@ fn absorb_bins(
     let inner_r = r + 14 + n + 14 * bin;
     let inner_c = c + 7 + 7 * bin;
     let inner = adding::with_sample(reals, counts, inner_r, inner_c, value, number);
-    absorb_child(table, reals, counts, level, link, s, depth + 1, evaluation, number);
+    absorb_child(
+        table,
+        reals,
+        counts,
+        level,
+        link,
+        s,
+        depth + 1,
+        evaluation,
+        number,
+    );
     accounts::store(reals, counts, inner_r, inner_c, inner);
     accounts::store(reals, counts, r, c, own);
 }
@@ -113,5 +133,15 @@ pub fn absorb_grid(
         absorb_axes(table, reals, counts, w, s, depth, evaluation, number);
         return;
     }
-    absorb_bins(table, reals, counts, level - 1, w, s, depth, evaluation, number);
+    absorb_bins(
+        table,
+        reals,
+        counts,
+        level - 1,
+        w,
+        s,
+        depth,
+        evaluation,
+        number,
+    );
 }

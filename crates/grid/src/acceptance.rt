@@ -60,7 +60,17 @@ fn child_accepts(
     if link == 0 {
         return true;
     }
-    grid_accepts(table, reals, counts, level, link, s, depth, evaluation, number)
+    grid_accepts(
+        table,
+        reals,
+        counts,
+        level,
+        link,
+        s,
+        depth,
+        evaluation,
+        number,
+    )
 }
 
 // At a bins grid: its own accumulator, that of the sample's bin, and what hangs there.
@@ -90,9 +100,26 @@ fn bins_accept(
     let c = table[w + 6] as usize;
     let value = (weight * reals[r + 14 + bin]) * evaluation;
     let own = adding::fits_with(reals, counts, r, c, evaluation * weight, number);
-    let inner = adding::fits_with(reals, counts, r + 14 + n + 14 * bin, c + 7 + 7 * bin, value, number);
+    let inner = adding::fits_with(
+        reals,
+        counts,
+        r + 14 + n + 14 * bin,
+        c + 7 + 7 * bin,
+        value,
+        number,
+    );
     let link = table[w + 7 + bin] as usize;
-    let below = child_accepts(table, reals, counts, level, link, s, depth + 1, evaluation, number);
+    let below = child_accepts(
+        table,
+        reals,
+        counts,
+        level,
+        link,
+        s,
+        depth + 1,
+        evaluation,
+        number,
+    );
     own & (inner & below)
 }
 
@@ -114,7 +141,17 @@ pub fn grid_accepts(
     if table[w] == 1 {
         return axes_accept(table, reals, counts, w, s, depth, evaluation, number);
     }
-    bins_accept(table, reals, counts, level - 1, w, s, depth, evaluation, number)
+    bins_accept(
+        table,
+        reals,
+        counts,
+        level - 1,
+        w,
+        s,
+        depth,
+        evaluation,
+        number,
+    )
 }
 
 // What stands against a sample on a well-formed state: 3; its form, 4, 5 or 6; 7; 8; else 0.

@@ -51,7 +51,7 @@ loop-again c = (
   omega arith,
   ap (λ (b : Bool). ((c .before .before .loop .ok) && b) && allFinite (drop ((c .before .before .loop .i) + 1) (take (c .before .before .before .args .n) (c .before .before .before .args .t1)))) (c .finite .ensures ∙ ap finiteOf (sym (getD-take (c .before .before .before .args .n) (c .before .before .before .args .t1) (c .before .before .loop .i) nan (c .before .loop-test .taken))))
       ∙ finite-on (take (c .before .before .before .args .n) (c .before .before .before .args .t1)) (c .before .before .loop .i) (c .before .before .loop .ok) (omega (arith, (length-take-le (c .before .before .before .args .n) (c .before .before .before .args .t1) (omega (arith, c .before .before .before .good .0 .1 .0 .1, c .before .before .before .pre))), c .before .loop-test .taken)) ∙ c .before .before .loop .inv .1,
- )
+)
 
 -- src/training.rt:30:1
 returns : tie.Need-returns Inv-loop μ-loop
