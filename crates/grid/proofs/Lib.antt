@@ -34,5 +34,12 @@ pub mod Fitting
 pub mod Plans
 pub mod Unique
 pub mod Founds
+pub mod Trees
+pub mod Alike
 pub mod FoundedOwn
 pub mod FoundedTree
+pub mod Named
+pub mod Clones
+pub mod Cloned
+pub mod Turns
+pub mod Adapts

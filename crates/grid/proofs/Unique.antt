@@ -13,13 +13,17 @@ use Rattle.accumulator.specs.declared.Summed.{Summed}
 use Rattle.accumulator.proofs.Unique.{estimated-one, summed-one}
 use Rattle.plan.specs.declared.Read.{Read}
 use Rattle.plan.proofs.Unique.{paper-read-one}
-use Rattle.grid.specs.Calls.{FreshEnd, TrainEnd}
+use Rattle.grid.specs.Calls.{FreshEnd, CloneEnd, TrainEnd}
+use Rattle.grid.proofs.clone_without_samples.Kinds as clone-kinds
+use Rattle.grid.proofs.clone_without_samples.Reads as clone-reads
 use Rattle.grid.proofs.draw.Kinds as draw-kinds
 use Rattle.grid.proofs.draw.Reads as draw-reads
 use Rattle.grid.proofs.fresh.Kinds as fresh-kinds
 use Rattle.grid.proofs.fresh.Reads as fresh-reads
 use Rattle.grid.proofs.live_estimate.Kinds as live-kinds
 use Rattle.grid.proofs.live_estimate.Reads as live-reads
+use Rattle.grid.proofs.live_estimate_of_bin.Kinds as live-of-bin-kinds
+use Rattle.grid.proofs.live_estimate_of_bin.Reads as live-of-bin-reads
 use Rattle.grid.proofs.summary.Kinds as summary-kinds
 use Rattle.grid.proofs.summary.Reads as summary-reads
 use Rattle.grid.proofs.probe.Kinds as probe-kinds
@@ -48,6 +52,13 @@ pub live-estimate-unique : (κs : Lfts 3) (a : Dens κs live-kinds.ps) (r r′ :
     → live-reads.Post κs a r s → live-reads.Post κs a r′ s′ → r ≡ r′
 live-estimate-unique κs a r r′ s s′ p q = estimated-one r r′ (p ∙ sym q)
 
+pub live-estimate-of-bin-total : (κs : Lfts 3) (a : Dens κs live-of-bin-kinds.ps) → live-of-bin-reads.Pre κs a
+live-estimate-of-bin-total κs a = tt
+
+pub live-estimate-of-bin-unique : (κs : Lfts 3) (a : Dens κs live-of-bin-kinds.ps) (r r′ : Estimated) (s s′ : AtExit (endedOf 3 live-of-bin-kinds.ps live-of-bin-kinds.r) κs)
+    → live-of-bin-reads.Post κs a r s → live-of-bin-reads.Post κs a r′ s′ → r ≡ r′
+live-estimate-of-bin-unique κs a r r′ s s′ p q = estimated-one r r′ (p ∙ sym q)
+
 pub fresh-total : (κs : Lfts 4) (a : Dens κs fresh-kinds.ps) → fresh-reads.Pre κs a
 fresh-total κs a = tt
 
@@ -58,6 +69,17 @@ pub fresh-unique : (κs : Lfts 4) (a : Dens κs fresh-kinds.ps) (r r′ : Read) 
 fresh-unique κs a r r′ s s′ p q =
     let e = p ∙ sym q in
     (paper-read-one r r′ (ap (λ (x : FreshEnd). x .answer) e), ap (λ (x : FreshEnd). x .table) e, ap (λ (x : FreshEnd). x .state .reals) e, ap (λ (x : FreshEnd). x .state .counts) e)
+
+pub clone-without-samples-total : (κs : Lfts 5) (a : Dens κs clone-kinds.ps) → clone-reads.Pre κs a
+clone-without-samples-total κs a = tt
+
+-- the answer, and every entry of the destination
+pub clone-without-samples-unique : (κs : Lfts 5) (a : Dens κs clone-kinds.ps) (n n′ : ℕ) (s s′ : AtExit (endedOf 5 clone-kinds.ps clone-kinds.r) κs)
+    → clone-reads.Post κs a n s → clone-reads.Post κs a n′ s′
+    → (n ≡ n′) × (now (s .1 .1 .1 .0) ≡ now (s′ .1 .1 .1 .0)) × (now (s .1 .1 .1 .1 .0) ≡ now (s′ .1 .1 .1 .1 .0))
+clone-without-samples-unique κs a n n′ s s′ p q =
+    let e = p ∙ sym q in
+    (ap (λ (x : CloneEnd). x .answer) e, ap (λ (x : CloneEnd). x .copy .reals) e, ap (λ (x : CloneEnd). x .copy .counts) e)
 
 pub probe-total : (κs : Lfts 3) (a : Dens κs probe-kinds.ps) → probe-reads.Pre κs a
 probe-total κs a = tt

@@ -15,4 +15,7 @@ pub mod Probed
 pub mod State
 pub mod Founded
 pub mod Absorbed
+pub mod Bins
+pub mod Turns
+pub mod Adapted
 pub mod Calls

@@ -2,7 +2,9 @@
 mod absorbing;
 mod acceptance;
 mod accounts;
+mod adapting;
 mod adding;
+mod along;
 mod axes;
 mod clearing;
 mod copying;
@@ -28,11 +30,12 @@ ghost use Rattle.plan.specs.Paper.{gives, planRead, paperRead};
 ghost use Rattle.plan.specs.Calls.{measureOf};
 ghost use Rattle.grid.specs.Memory.{memory};
 ghost use Rattle.axis.specs.Calls.{paperProbed};
-ghost use Rattle.grid.specs.Calls.{drawnAs, drawOf, probeOf, summaryOf, liveOf, freshEnd, foundedOf, freshOf, trainEnd, trainCallOf};
+ghost use Rattle.grid.specs.Calls.{drawnAs, drawOf, probeOf, summaryOf, liveOf, liveOfBin, freshEnd, foundedOf, freshOf, cloneEnd, cloneOf, trainEnd, trainCallOf};
 use accumulator::Estimated;
 use accumulator::Summed;
 use plan::Needs;
 use plan::Read;
+use plan::Sized;
 
 // A sample: a bin for each bins grid on its path, a weight for each of them and for the axes grid at its end, and that grid's
 // coordinates. Of each as many are there as its number says.
@@ -106,6 +109,23 @@ pub fn live_estimate(table: &[u64], reals: &[f64], counts: &[u64]) -> Estimated
     state::own(table, reals, counts).get_live_estimate()
 }
 
+// The same of the bin at the end of a path. Refused: 10, 12; along the path 4, 6; then 8.
+pub fn live_estimate_of_bin(
+    table: &[u64],
+    reals: &[f64],
+    counts: &[u64],
+    path: [usize; 4],
+    levels: usize,
+) -> Estimated
+    ensures { λ r. ⌜ paperEstimated r ≡ liveOfBin (now (table .entry)) (now (reals .entry)) (now (counts .entry)) path levels ⌝ }
+{
+    let refused = state::fault(table, reals, counts);
+    if refused != 0 {
+        return Estimated::Refused(refused);
+    }
+    along::estimate_along(table, reals, counts, 4, 0, path, levels, 0)
+}
+
 // Lays a plan's table and its fresh grid, where there is room for all of it. The answer is the plan's: its end and its needs, or a
 // refusal with its field's offset. Refused: 1, 2, 3 in the plan; 10. Nothing is written then.
 pub fn fresh(bytes: &[u8], table: &mut [u64], reals: &mut [f64], counts: &mut [u64]) -> Read
@@ -147,6 +167,24 @@ fn found(
     let read = plan::read_plan(bytes, table);
     founding::lay_grid(table, reals, counts, 4, 0);
     read
+}
+
+// A copy without the samples that wait in the root, laid in other lent memory; the plan's table serves both. 0, or refused: 12, 10, 12,
+// the destination's room behind the source's. It stays then, and so does its room past the copy.
+pub fn clone_without_samples(
+    table: &[u64],
+    reals: &[f64],
+    counts: &[u64],
+    to_reals: &mut [f64],
+    to_counts: &mut [u64],
+) -> u64
+    ensures { λ n. ⌜ cloneEnd n (memory (now («to_reals» .exit)) (now («to_counts» .exit))) ≡
+        cloneOf (now (table .entry)) (memory (now (reals .entry)) (now (counts .entry))) (memory (now («to_reals» .entry)) (now («to_counts» .entry))) ⌝ }
+{
+    match plan::sizes(table) {
+        Sized::Plan(needs) => copying::copy_grid(table, reals, counts, to_reals, to_counts, needs),
+        Sized::Refused(_) => 12,
+    }
 }
 
 // The weight at a point, or over the region that open coordinates leave; where the path ends at a bin and no coordinates are given,
