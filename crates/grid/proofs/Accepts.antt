@@ -261,7 +261,7 @@ module _ (table : List ℕ) (reals : List Float) (counts : List ℕ) (w : ℕ) (
     form : Ended table w s d
     form = ended table reals counts w s d (t .form)
 
-    spread : length (placesIn s) ≡ getD table (w + 2) 0
+    pub spread : length (placesIn s) ≡ getD table (w + 2) 0
     spread = many-left nan (s .coordinates) 0 (s .axes) ∙ form .axes
 
     -- as wide as the grid
@@ -300,7 +300,7 @@ module _ (table : List ℕ) (reals : List Float) (counts : List ℕ) (w : ℕ) (
             rw spots-found (subst (λ (o : AxesAt). (o .axes ≤ 8) × CellsOf o spots (memory reals counts)) (sym p)
             (sound-stands table reals counts w a (t .well) .0, (sound-stands table reals counts w a (t .well) .1, spots-many, spots-asked)))
 
-    alone : weightsLeft s d ≡ weight ∷ []
+    pub alone : weightsLeft s d ≡ weight ∷ []
     alone = one-left nan (s .weights) d (s .given) (omega (arith, form .weight)) ∙ ap (λ (ws : List Float). weight ∷ ws) (none-left nan (s .weights) (d + 1) (s .given) (omega (arith, form .weight)))
 
     -- what would be kept

@@ -30,6 +30,9 @@ pub mod Adds
 pub mod Accepts
 pub mod Absorbs
 pub mod Objections
+pub mod Formed
+pub mod AbsorbedOwn
+pub mod AbsorbedTree
 pub mod Fitting
 pub mod Plans
 pub mod Unique

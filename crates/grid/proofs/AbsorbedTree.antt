@@ -1,0 +1,185 @@
+-- A sample taken in and read back: on a table in which a plan's tree stands, the memory afterwards holds the model's trained grid.
+use mathlib.Core.Path.{_≡_, refl, sym, ap, ap₂, _∙_, subst}
+use mathlib.Core.Logic.{_≢_}
+use mathlib.Core.Bool.{Bool, true, false, _&&_, cond}
+use mathlib.Core.List.{List, _∷_}
+use Prim.Native.Nat.{ℕ, zero, suc, _+_, _-_, _*_, _≤_, _<_}
+use native.Mathlib.Omega.{arith}
+use borrow.Author.Tests.{ne-eqb, eqb-false, ltb-true, ltb-false}
+use lib.Dec.{ltb, eqb}
+use lib.ListN.{length, getD}
+use lib.Ieee.{Float, nan, binary64, mul}
+use Rattle.real.proofs.Truth.{both}
+use Rattle.accumulator.specs.declared.StatisticsAccumulator.{StatisticsAccumulator}
+use Rattle.accumulator.specs.Record.{wellFormed}
+use Rattle.accumulator.specs.Steps.{addedOf}
+use Rattle.plan.specs.declared.Tally.{Tally}
+use Rattle.plan.specs.declared.AxesPlan.{AxesPlan}
+use Rattle.plan.specs.declared.BinsPlan.{BinsPlan}
+use Rattle.plan.specs.declared.Needs.{Needs}
+use Rattle.plan.specs.Plan.{Tree, Trees, nothing, axes, bins}
+use Rattle.plan.specs.Needs.{axesReals, axesCounts, axesTaken, binsTaken, after, childAt, before, untaken, needsOf}
+use Rattle.plan.specs.Table.{link}
+use Rattle.plan.specs.Walk.{axesRow, binsRow}
+use Rattle.plan.specs.Paper.{gives}
+use Rattle.plan.specs.Calls.{sizesOf}
+use Rattle.plan.proofs.Tables.{Words}
+use Rattle.plan.proofs.Rereads.{taken-words}
+use Rattle.plan.proofs.Records.{Stands, Upto, axes-record, bins-record, child-record, grid-link, before-next, passed-stands}
+use Rattle.model.specs.Grid as model
+use Rattle.model.specs.Sound.{sound, formedGrid, formedChild, keptGrid, keptChild}
+use Rattle.model.specs.Train.{trainGrid, trainBin, trainChild}
+use Rattle.grid.specs.declared.Sample.{Sample}
+use Rattle.grid.specs.Memory.{Memory, recordAt}
+use Rattle.grid.specs.Sampled.{soundChild}
+use Rattle.grid.specs.Tree.{axesGridAt, headAt, binIn, childIn, binsIn, nodeAt, gridAt}
+use Rattle.grid.specs.Absorbed.{pathLeft, weightsLeft, placesIn, Takes, TakesChild, joinedAt, absorbedChild, absorbedBin, absorbedBins, absorbedNode, absorbed}
+use Rattle.grid.specs.State.{rootOf}
+use Rattle.grid.proofs.Same.{Alike, same-alike, same-sym, same-on}
+use Rattle.grid.proofs.Laid.{stands-laid, laid-axes}
+use Rattle.grid.proofs.Sounds.{node-axes}
+use Rattle.grid.proofs.Samples.{sound-in, sound-below}
+use Rattle.grid.proofs.Fitting.{one-left}
+use Rattle.grid.proofs.FoundedOwn.{Within, within-same, within-on}
+use Rattle.grid.proofs.Trees.{axes-differ, bins-differ, taken-reals, taken-counts, below}
+use Rattle.grid.proofs.Alike.{grid-alike}
+use Rattle.grid.proofs.Turns.{before-upto, linked-grid}
+use Rattle.grid.proofs.Accepts.{formed, head-sound, spot-sound, takes-below, bins-told, grid-told, takes-grid}
+use Rattle.grid.proofs.Absorbs.{absorbed-axes}
+use Rattle.grid.proofs.Formed.{grid-formed, sound-formed, sound-trained}
+use Rattle.grid.proofs.AbsorbedOwn.{with-kept, axes-within, axes-grid-read, above, own-within, head-read, spot-read, chance-read, other-read, Still, bins-absorbed}
+
+module _ (xs : List ℕ) (s : Sample) (e : Float) (k : ℕ) where
+  -- the model's step below d bins grids, and the memory's
+  abbrev trained : ℕ → model.Grid → model.Grid
+  trained d g = trainGrid g (pathLeft s d) (weightsLeft s d) (placesIn s) e k
+
+  abbrev trainedChild : ℕ → model.Child → model.Child
+  trainedChild d c = trainChild c (pathLeft s d) (weightsLeft s d) (placesIn s) e k
+
+  abbrev step : ℕ → ℕ → ℕ → Memory → Memory
+  step l w d m = absorbed l xs s e k w d m
+
+  -- what is left differs within these bounds only, and is read as the model's
+  pub record Tied {X : Type 0} (r e′ c c′ : ℕ) (m m′ : Memory) (read : Memory → X) (g : X) : Type 0 where
+    pub within : Within r e′ c c′ m m′
+    pub reads : read m′ ≡ g
+
+  abbrev pub Ties : ℕ → Type 0
+  Ties l = (t : Tree) (y : Tally) (m : Memory) (d : ℕ) → (t ≡ nothing → ⊥) → Stands xs l t y → after t y .reals ≤ length (m .reals) → after t y .counts ≤ length (m .counts)
+      → Takes (gridAt l xs (m .reals) (m .counts) (y .words)) s d k → keptGrid (trained d (gridAt l xs (m .reals) (m .counts) (y .words))) ≡ true
+      → Tied (y .reals) (after t y .reals) (y .counts) (after t y .counts) m (step l (y .words) d m) (λ (n : Memory). gridAt l xs (n .reals) (n .counts) (y .words)) (trained d (gridAt l xs (m .reals) (m .counts) (y .words)))
+
+  -- ---- an axes grid
+
+  axes-tied : (l : ℕ) (a : AxesPlan) (es : List ℕ) (y : Tally) (m : Memory) (d : ℕ) → Stands xs l (axes a es) y → after (axes a es) y .reals ≤ length (m .reals) → after (axes a es) y .counts ≤ length (m .counts)
+      → Takes (gridAt l xs (m .reals) (m .counts) (y .words)) s d k → keptGrid (trained d (gridAt l xs (m .reals) (m .counts) (y .words))) ≡ true
+      → Tied (y .reals) (after (axes a es) y .reals) (y .counts) (after (axes a es) y .counts) m (step l (y .words) d m) (λ (n : Memory). gridAt l xs (n .reals) (n .counts) (y .words)) (trained d (gridAt l xs (m .reals) (m .counts) (y .words)))
+  unfolding after axesTaken axesReals axesCounts axesRow
+  axes-tied l a es y m d st h j t q =
+      let w = y .words in
+      let o = axes-record xs l a es y st in
+      let laid = laid-axes l xs (length (m .reals)) (length (m .counts)) w (stands-laid xs (length (m .reals)) (length (m .counts)) l (axes a es) y (axes-differ a es) st h j) (o .kind) in
+      let axs : getD xs (w + 2) 0 ≡ a .axes = ap (λ (b : AxesPlan). b .axes) (o .numbers) in
+      let mst : getD xs (w + 7) 0 ≡ a .most = ap (λ (b : AxesPlan). b .most) (o .numbers) in
+      let rr = o .reals in
+      let cc = o .counts in
+      let er : getD xs (w + 9) 0 + 14 + getD xs (w + 2) 0 * (6 * getD xs (w + 7) 0 + 1) ≡ after (axes a es) y .reals = rw (axs, mst, rr) (omega arith) in
+      let ec : getD xs (w + 10) 0 + 7 + getD xs (w + 2) 0 * (3 * getD xs (w + 7) 0 + 2) ≡ after (axes a es) y .counts = rw (axs, mst, cc) (omega arith) in
+      let was : gridAt l xs (m .reals) (m .counts) w ≡ model.axes (axesGridAt xs (m .reals) (m .counts) w) = node-axes l xs (m .reals) (m .counts) w (o .kind) in
+      let t′ = subst (λ (g : model.Grid). Takes g s d k) was t in
+      let q′ = sym (ap (λ (g : model.Grid). keptGrid (trained d g)) was) ∙ q in
+      let i = axes-within xs m w s d k laid t′ e q′ in
+      let same = absorbed-axes xs s e k w d m l (o .kind) in
+      subst (λ (n : Memory). Tied (y .reals) (after (axes a es) y .reals) (y .counts) (after (axes a es) y .counts) m n (λ (n : Memory). gridAt l xs (n .reals) (n .counts) w) (trained d (gridAt l xs (m .reals) (m .counts) w))) same (record {
+        within =
+            record {
+              low = λ lo hi h. i .low lo hi (omega arith);
+              high = λ lo hi h. i .high lo hi (omega arith);
+              few = λ lo hi h. i .few lo hi (omega arith);
+              many = λ lo hi h. i .many lo hi (omega arith);
+            };
+        reads = node-axes l xs _ _ w (o .kind) ∙ axes-grid-read xs m w s d k laid t′ e q′ ∙ sym (ap (trained d) was);
+      })
+
+  module _ (l : ℕ) (deeper : Ties l) where
+    -- ---- what hangs at a link: any memory that is alike there reads as the model's
+    abbrev Hung : (q : Tree) (u : Tally) (at d : ℕ) (m : Memory) → Type 0
+    Hung q u at d m = Within (u .reals) (after q u .reals) (u .counts) (after q u .counts) m (absorbedChild (step l) at d m)
+        × ((n : Memory) → Alike nan (u .reals) (after q u .reals) (absorbedChild (step l) at d m .reals) (n .reals) → Alike 0 (u .counts) (after q u .counts) (absorbedChild (step l) at d m .counts) (n .counts)
+        → childIn (gridAt l xs (n .reals) (n .counts)) at ≡ trainedChild d (childIn (gridAt l xs (m .reals) (m .counts)) at))
+
+    hung : (q : Tree) (u : Tally) (at d : ℕ) (m : Memory) → (q ≡ nothing → ⊥) → at ≡ u .words → 1 ≤ u .words → Stands xs l q u → after q u .reals ≤ length (m .reals) → after q u .counts ≤ length (m .counts)
+        → TakesChild (childIn (gridAt l xs (m .reals) (m .counts)) at) s d k → keptChild (trainedChild d (childIn (gridAt l xs (m .reals) (m .counts)) at)) ≡ true → Hung q u at d m
+    unfolding absorbedChild childIn trainChild
+    hung q u at d m there a n st h j t p =
+        let z : at ≡ 0 → ⊥ = λ r. absurd (omega arith) in
+        let G = gridAt l xs (m .reals) (m .counts) in
+        let takes : Takes (G (u .words)) s d k = subst (λ (o : ℕ). Takes (G o) s d k) a (takes-grid G at s d k z t) in
+        let keeps : keptGrid (trained d (G (u .words))) ≡ true = sym (ap (λ (o : ℕ). keptGrid (trained d (G o))) a) ∙ grid-told G at (pathLeft s d) (weightsLeft s d) (placesIn s) e k z ∙ p in
+        let f = deeper q u m d there st h j takes keeps in
+        let m′ = step l (u .words) d m in
+        let size : length (m′ .reals) ≡ length (m .reals) = f .within .low 0 0 (omega arith) .size in
+        let sizes : length (m′ .counts) ≡ length (m .counts) = f .within .few 0 0 (omega arith) .size in
+        let form : formedGrid (gridAt l xs (m′ .reals) (m′ .counts) (u .words)) ≡ true = ap formedGrid (f .reads) ∙ grid-formed (G (u .words)) (pathLeft s d) (weightsLeft s d) (placesIn s) e k ∙ sound-formed (G (u .words)) (takes .well) in
+        rw (ne-eqb at 0 z, a) (f .within, λ o x y. ap model.grid (sym (grid-alike xs (m′ .reals) (o .reals) (m′ .counts) (o .counts) l q u there st (omega (arith, h)) (omega (arith, j)) form x y) ∙ f .reads))
+
+    pick : (q : Tree) (u : Tally) (at d : ℕ) (m : Memory) → at ≡ link q u → 1 ≤ u .words → Stands xs l q u → after q u .reals ≤ length (m .reals) → after q u .counts ≤ length (m .counts)
+        → TakesChild (childIn (gridAt l xs (m .reals) (m .counts)) at) s d k → keptChild (trainedChild d (childIn (gridAt l xs (m .reals) (m .counts)) at)) ≡ true → Hung q u at d m
+    unfolding link absorbedChild childIn trainChild after
+    pick nothing u at d m a n st h j t p = rw a (within-same (u .reals) (u .reals) (u .counts) (u .counts) m, λ o x y. refl)
+    pick (axes b es) u at d m a n st h j t p = hung (axes b es) u at d m (axes-differ b es) a n st h j t p
+    pick (bins b ts) u at d m a n st h j t p = hung (bins b ts) u at d m (bins-differ b ts) a n st h j t p
+
+    -- ---- a bins grid
+
+    module _ (b : BinsPlan) (ts : Trees) (y : Tally) (st : Stands xs (suc l) (bins b ts) y) where
+      abbrev own : Tally
+      own = binsTaken b y
+
+      abbrev end : Tally
+      end = after (bins b ts) y
+
+      abbrev at : ℕ → ℕ
+      at j = getD xs (y .words + 7 + j) 0
+
+      abbrev N : ℕ
+      N = getD xs (y .words + 2) 0
+
+      stands : (j : ℕ) → j < b .bins → Stands xs l (childAt ts j) (before ts j own)
+      stands j h =
+          let level : suc l - 1 ≡ l = omega arith in
+          subst (λ (n : ℕ). Stands xs n (childAt ts j) (before ts j own)) level (child-record xs (suc l) b ts y j st h .stands)
+
+      -- child j lies behind all that child i takes
+      behind : (i j : ℕ) → i < j → i < b .bins → Upto (after (childAt ts i) (before ts i own)) (before ts j own)
+      behind i j h c =
+          let next : before ts (suc i) own ≡ after (childAt ts i) (before ts i own) = before-next ts i own (omega (arith, bins-record xs (suc l) b ts y st .number)) in
+          subst (λ (u : Tally). Upto u (before ts j own)) next (before-upto ts (suc i) j own (omega arith))
+
+      alike-grid : (j : ℕ) (m n : Memory) → j < b .bins → end .reals ≤ length (m .reals) → end .counts ≤ length (m .counts) → (at j ≡ 0 → ⊥) → formedGrid (gridAt l xs (m .reals) (m .counts) (at j)) ≡ true
+          → Alike nan (before ts j own .reals) (after (childAt ts j) (before ts j own) .reals) (m .reals) (n .reals)
+          → Alike 0 (before ts j own .counts) (after (childAt ts j) (before ts j own) .counts) (m .counts) (n .counts)
+          → gridAt l xs (m .reals) (m .counts) (at j) ≡ gridAt l xs (n .reals) (n .counts) (at j)
+      alike-grid j m n c h g z f x u =
+          let r = child-record xs (suc l) b ts y j st c in
+          let v = before ts j own in
+          let q = childAt ts j in
+          let there : q ≡ nothing → ⊥ = linked-grid q v (subst (λ (n : ℕ). n ≢ 0) (r .linked) z) in
+          let a : at j ≡ v .words = r .linked ∙ grid-link q v there in
+          subst (λ (o : ℕ). gridAt l xs (m .reals) (m .counts) o ≡ gridAt l xs (n .reals) (n .counts) o) (sym a)
+          (grid-alike xs (m .reals) (n .reals) (m .counts) (n .counts) l q v there (stands j c) (omega (arith, r .inside .reals)) (omega (arith, r .inside .counts))
+          (sym (ap (λ (o : ℕ). formedGrid (gridAt l xs (m .reals) (m .counts) o)) a) ∙ f) x u)
+
+      -- another child, out of memory that is alike on what it takes
+      other-child : (j : ℕ) (m n : Memory) → j < b .bins → end .reals ≤ length (m .reals) → end .counts ≤ length (m .counts) → formedChild (childIn (gridAt l xs (m .reals) (m .counts)) (at j)) ≡ true
+          → Alike nan (before ts j own .reals) (after (childAt ts j) (before ts j own) .reals) (m .reals) (n .reals)
+          → Alike 0 (before ts j own .counts) (after (childAt ts j) (before ts j own) .counts) (m .counts) (n .counts)
+          → childIn (gridAt l xs (n .reals) (n .counts)) (at j) ≡ childIn (gridAt l xs (m .reals) (m .counts)) (at j)
+      unfolding childIn formedChild
+      other-child j m n c h g f x z = told (eqb (at j) 0) refl f
+        where
+          told : (o : Bool) → eqb (at j) 0 ≡ o → formedChild (cond o model.nothing (model.grid (gridAt l xs (m .reals) (m .counts) (at j)))) ≡ true
+              → cond o model.nothing (model.grid (gridAt l xs (n .reals) (n .counts) (at j))) ≡ cond o model.nothing (model.grid (gridAt l xs (m .reals) (m .counts) (at j)))
+          told true o q = refl
+          told false o q = ap model.grid (sym (alike-grid j m n c h g (eqb-false (at j) 0 o) q x z))
