@@ -35,7 +35,7 @@ use Rattle.grid.specs.Sampled.{soundChild}
 use Rattle.grid.specs.Tree.{axesGridAt, headAt, binIn, childIn, binsIn, nodeAt, gridAt}
 use Rattle.grid.specs.Absorbed.{pathLeft, weightsLeft, placesIn, Takes, TakesChild, joinedAt, absorbedChild, absorbedBin, absorbedBins, absorbedNode, absorbed}
 use Rattle.grid.specs.State.{rootOf}
-use Rattle.grid.proofs.Same.{Alike, same-alike, same-sym, same-on}
+use Rattle.grid.proofs.Same.{Same, Alike, same-alike, same-sym, same-on}
 use Rattle.grid.proofs.Laid.{stands-laid, laid-axes}
 use Rattle.grid.proofs.Sounds.{node-axes}
 use Rattle.grid.proofs.Samples.{sound-in, sound-below}
@@ -183,3 +183,214 @@ module _ (xs : List ℕ) (s : Sample) (e : Float) (k : ℕ) where
               → cond o model.nothing (model.grid (gridAt l xs (n .reals) (n .counts) (at j))) ≡ cond o model.nothing (model.grid (gridAt l xs (m .reals) (m .counts) (at j)))
           told true o q = refl
           told false o q = ap model.grid (sym (alike-grid j m n c h g (eqb-false (at j) 0 o) q x z))
+
+      -- ---- one step at this bins grid
+
+      module _ (m : Memory) (d : ℕ) (h : end .reals ≤ length (m .reals)) (g : end .counts ≤ length (m .counts))
+          (t : Takes (model.bins (headAt xs (m .reals) (m .counts) (y .words)) (binsIn (gridAt l xs (m .reals) (m .counts)) xs (m .reals) (m .counts) (y .words) 0 N)) s d k)
+          (q : keptGrid (trained d (model.bins (headAt xs (m .reals) (m .counts) (y .words)) (binsIn (gridAt l xs (m .reals) (m .counts)) xs (m .reals) (m .counts) (y .words) 0 N))) ≡ true) where
+        abbrev w : ℕ
+        w = y .words
+
+        abbrev R : ℕ
+        R = getD xs (w + 5) 0
+
+        abbrev C : ℕ
+        C = getD xs (w + 6) 0
+
+        abbrev F : ℕ → model.Grid
+        F = gridAt l xs (m .reals) (m .counts)
+
+        abbrev H : model.Head
+        H = headAt xs (m .reals) (m .counts) w
+
+        abbrev i : ℕ
+        i = getD (s .path) d 0
+
+        abbrev v : Float
+        v = getD (s .weights) d nan
+
+        abbrev u : Tally
+        u = before ts i own
+
+        abbrev u′ : Tally
+        u′ = after (childAt ts i) (before ts i own)
+
+        abbrev deep : Memory
+        deep = absorbedChild (absorbed l xs s e k) (at i) (d + 1) m
+
+        abbrev spot : ℕ → ℕ
+        spot j = R + 14 + N + 14 * j
+
+        abbrev place : ℕ → ℕ
+        place j = C + 7 + 7 * j
+
+        abbrev value : Float
+        value = mul binary64 (mul binary64 v (getD (m .reals) (R + 14 + i) nan)) e
+
+        abbrev inner : StatisticsAccumulator
+        inner = joinedAt (spot i) (place i) value k m
+
+        abbrev outer : StatisticsAccumulator
+        outer = joinedAt R C (mul binary64 e v) k m
+
+        abbrev last : Memory
+        last = absorbedBin (absorbed l xs s e k) xs v e k w d i m
+
+        as-many : N ≡ b .bins
+        unfolding binsRow
+        as-many = ap (λ (a : BinsPlan). a .bins) (bins-record xs (suc l) b ts y st .numbers)
+
+        inside : i < N
+        inside = formed F xs (m .reals) (m .counts) w N H s d k t .bin
+
+        from-reals : R ≡ y .reals
+        from-reals = bins-record xs (suc l) b ts y st .reals
+
+        from-counts : C ≡ y .counts
+        from-counts = bins-record xs (suc l) b ts y st .counts
+
+        -- where a child begins, and where it ends
+        past : (j : ℕ) → j < N → (R + 14 + 15 * N ≤ before ts j own .reals) × (C + 7 + 7 * N ≤ before ts j own .counts)
+        past j o =
+            let r = child-record xs (suc l) b ts y j st (omega (arith, as-many)) in
+            (omega (arith, r .behind .reals, taken-reals b y, from-reals, as-many), omega (arith, r .behind .counts, taken-counts b y, from-counts, as-many))
+
+        upto-end : (j : ℕ) → j < N → Upto (after (childAt ts j) (before ts j own)) end
+        upto-end j o = child-record xs (suc l) b ts y j st (omega (arith, as-many)) .inside
+
+        room : R + 14 + 15 * N ≤ length (m .reals)
+        room = let a = below b ts y in omega (arith, a .reals, taken-reals b y, from-reals, as-many, h)
+
+        places : C + 7 + 7 * N ≤ length (m .counts)
+        places = let a = below b ts y in omega (arith, a .counts, taken-counts b y, from-counts, as-many, g)
+
+        -- what was judged
+        parts : (wellFormed (addedOf (H .own) (mul binary64 e v) k) ≡ true)
+            × (wellFormed (addedOf (binIn xs (m .reals) (m .counts) w i .own) (mul binary64 (mul binary64 v (binIn xs (m .reals) (m .counts) w i .probability)) e) k) ≡ true)
+            × (keptChild (trainedChild (d + 1) (childIn F (at i))) ≡ true)
+        parts =
+            let a = both (wellFormed (addedOf (H .own) (mul binary64 e v) k)) _ (bins-told F xs (m .reals) (m .counts) w N H s d k t e ∙ q) in
+            let c = both (wellFormed (addedOf (binIn xs (m .reals) (m .counts) w i .own) (mul binary64 (mul binary64 v (binIn xs (m .reals) (m .counts) w i .probability)) e) k)) (keptChild (trainedChild (d + 1) (childIn F (at i)))) (a .1) in
+            (a .0, c .0, c .1)
+
+        child : Hung (childAt ts i) u (at i) (d + 1) m
+        child =
+            let r = child-record xs (suc l) b ts y i st (omega (arith, as-many, inside)) in
+            let z = upto-end i inside in
+            pick (childAt ts i) u (at i) (d + 1) m (r .linked) (omega (arith, r .behind .words, taken-words b y)) (stands i (omega (arith, as-many, inside))) (omega (arith, z .reals, h)) (omega (arith, z .counts, g))
+            (takes-below F xs (m .reals) (m .counts) w N H s d k t) (parts .2)
+
+        touched : Within R (R + 14 + 15 * N) C (C + 7 + 7 * N) deep last
+        unfolding absorbedBin
+        touched = own-within xs w i m deep outer inner (u .reals) (u′ .reals) (u .counts) (u′ .counts) inside room places (past i inside .0) (past i inside .1) (child .0)
+
+        step-within : Within (y .reals) (end .reals) (y .counts) (end .counts) m last
+        step-within =
+            let a = below b ts y in
+            let z = upto-end i inside in
+            within-on (y .reals) (end .reals) (y .counts) (end .counts) (u .reals) (u′ .reals) (u .counts) (u′ .counts) R (R + 14 + 15 * N) C (C + 7 + 7 * N) m deep last
+            (omega (arith, past i inside .0, from-reals)) (z .reals) (omega (arith, past i inside .1, from-counts)) (z .counts)
+            (omega (arith, from-reals)) (omega (arith, a .reals, taken-reals b y, from-reals, as-many)) (omega (arith, from-counts)) (omega (arith, a .counts, taken-counts b y, from-counts, as-many))
+            (child .0) touched
+
+        head-trained : headAt xs (last .reals) (last .counts) w ≡ model.withHead H (addedOf (H .own) (mul binary64 e v) k)
+        unfolding headAt model.withHead absorbedBin joinedAt
+        head-trained =
+            rw (head-read xs w i m deep outer inner (u .reals) (u′ .reals) (u .counts) (u′ .counts) inside room places (past i inside .0) (past i inside .1) (child .0)
+            ∙ with-kept (recordAt (m .reals) (m .counts) R C) (mul binary64 e v) k (head-sound F xs (m .reals) (m .counts) w N H s d k t) (t .number) (parts .0))
+
+        bin-trained : binIn xs (last .reals) (last .counts) w i
+            ≡ model.withBin (binIn xs (m .reals) (m .counts) w i) (addedOf (binIn xs (m .reals) (m .counts) w i .own) (mul binary64 (mul binary64 v (binIn xs (m .reals) (m .counts) w i .probability)) e) k)
+        unfolding binIn model.withBin absorbedBin joinedAt
+        bin-trained =
+            rw (
+              chance-read xs w i m deep outer inner (u .reals) (u′ .reals) (u .counts) (u′ .counts) inside room places (past i inside .0) (past i inside .1) (child .0) i inside,
+              spot-read xs w i m deep outer inner (u .reals) (u′ .reals) (u .counts) (u′ .counts) inside room places (past i inside .0) (past i inside .1) (child .0)
+                  ∙ with-kept (recordAt (m .reals) (m .counts) (spot i) (place i)) value k (spot-sound F xs (m .reals) (m .counts) w N H s d k t) (t .number) (parts .1),
+            )
+
+        child-trained : childIn (gridAt l xs (last .reals) (last .counts)) (at i) ≡ trainedChild (d + 1) (childIn F (at i))
+        child-trained =
+            child .1 last (same-alike nan (u .reals) (u′ .reals) (deep .reals) (last .reals) (same-sym nan _ _ (last .reals) (deep .reals) (touched .high (u .reals) (u′ .reals) (past i inside .0))))
+            (same-alike 0 (u .counts) (u′ .counts) (deep .counts) (last .counts) (same-sym 0 _ _ (last .counts) (deep .counts) (touched .many (u .counts) (u′ .counts) (past i inside .1))))
+
+        -- beside it all is as it was
+        around : (x z : Tally) → R + 14 + 15 * N ≤ x .reals → C + 7 + 7 * N ≤ x .counts → Same nan (x .reals) (z .reals) (deep .reals) (m .reals) → Same 0 (x .counts) (z .counts) (deep .counts) (m .counts)
+            → Alike nan (x .reals) (z .reals) (m .reals) (last .reals) × Alike 0 (x .counts) (z .counts) (m .counts) (last .counts)
+        around x z o n c f = (
+          same-alike nan (x .reals) (z .reals) (m .reals) (last .reals) (same-sym nan (x .reals) (z .reals) (last .reals) (m .reals)
+              (same-on nan (x .reals) (z .reals) (last .reals) (deep .reals) (m .reals) (touched .high (x .reals) (z .reals) o) c)),
+          same-alike 0 (x .counts) (z .counts) (m .counts) (last .counts) (same-sym 0 (x .counts) (z .counts) (last .counts) (m .counts)
+              (same-on 0 (x .counts) (z .counts) (last .counts) (deep .counts) (m .counts) (touched .many (x .counts) (z .counts) n) f)),
+        )
+
+        kept-still : (j : ℕ) → j < N → j ≢ i → Alike nan (before ts j own .reals) (after (childAt ts j) (before ts j own) .reals) (m .reals) (last .reals)
+            × Alike 0 (before ts j own .counts) (after (childAt ts j) (before ts j own) .counts) (m .counts) (last .counts)
+        kept-still j o n = told (ltb j i) refl
+          where
+            told : (a : Bool) → ltb j i ≡ a → Alike nan (before ts j own .reals) (after (childAt ts j) (before ts j own) .reals) (m .reals) (last .reals)
+                × Alike 0 (before ts j own .counts) (after (childAt ts j) (before ts j own) .counts) (m .counts) (last .counts)
+            told true a =
+                let r = behind j i (ltb-true j i a) (omega (arith, as-many)) in
+                around (before ts j own) (after (childAt ts j) (before ts j own)) (past j o .0) (past j o .1) (child .0 .low _ _ (r .reals)) (child .0 .few _ _ (r .counts))
+            told false a =
+                let r = behind i j (above j i n (ltb-false j i a)) (omega (arith, as-many, inside)) in
+                around (before ts j own) (after (childAt ts j) (before ts j own)) (past j o .0) (past j o .1) (child .0 .high _ _ (r .reals)) (child .0 .many _ _ (r .counts))
+
+        bin-still : (j : ℕ) → j < N → j ≢ i → binIn xs (last .reals) (last .counts) w j ≡ binIn xs (m .reals) (m .counts) w j
+        unfolding binIn absorbedBin
+        bin-still j o n =
+            rw (
+              chance-read xs w i m deep outer inner (u .reals) (u′ .reals) (u .counts) (u′ .counts) inside room places (past i inside .0) (past i inside .1) (child .0) j o,
+              other-read xs w i m deep outer inner (u .reals) (u′ .reals) (u .counts) (u′ .counts) inside room places (past i inside .0) (past i inside .1) (child .0) j o n,
+            )
+
+        child-form : (j : ℕ) → j < N → formedChild (childIn F (at j)) ≡ true
+        unfolding soundChild
+        child-form j o = both (formedChild (childIn F (at j))) (keptChild (childIn F (at j))) (sound-below (binIn xs (m .reals) (m .counts) w j) (childIn F (at j)) (sound-in F xs (m .reals) (m .counts) w H N j o (t .well))) .0
+
+        all-trained : binsIn (gridAt l xs (last .reals) (last .counts)) xs (last .reals) (last .counts) w 0 N
+            ≡ trainBin (binsIn F xs (m .reals) (m .counts) w 0 N) i v (pathLeft s (d + 1)) (weightsLeft s (d + 1)) (placesIn s) e k
+        all-trained =
+            bins-absorbed F (gridAt l xs (last .reals) (last .counts)) xs m last w v (pathLeft s (d + 1)) (weightsLeft s (d + 1)) (placesIn s) e k N 0 i i (omega arith) inside
+            (λ j a o n. record { bin = bin-still j (omega arith) n; child = other-child j m last (omega (arith, as-many)) h g (child-form j (omega arith)) (kept-still j (omega arith) n .0) (kept-still j (omega arith) n .1) })
+            bin-trained child-trained
+
+        step-trained : model.bins (headAt xs (last .reals) (last .counts) w) (binsIn (gridAt l xs (last .reals) (last .counts)) xs (last .reals) (last .counts) w 0 N)
+            ≡ trained d (model.bins H (binsIn F xs (m .reals) (m .counts) w 0 N))
+        unfolding trainGrid
+        step-trained =
+            let o = formed F xs (m .reals) (m .counts) w N H s d k t in
+            rw (one-left 0 (s .path) d (s .levels) (o .deeper), one-left nan (s .weights) d (s .given) (o .weight)) (ap₂ model.bins head-trained all-trained)
+
+      -- the grid whose run begins there
+      node-is : (n : Memory) → gridAt (suc l) xs (n .reals) (n .counts) (y .words) ≡ model.bins (headAt xs (n .reals) (n .counts) (y .words)) (binsIn (gridAt l xs (n .reals) (n .counts)) xs (n .reals) (n .counts) (y .words) 0 N)
+      unfolding gridAt nodeAt
+      node-is n =
+          let z : getD xs (y .words) 0 ≡ 1 → ⊥ = λ o. absurd (omega (arith, bins-record xs (suc l) b ts y st .kind)) in
+          rw (ne-eqb (getD xs (y .words) 0) 1 z)
+
+      step-is : (m : Memory) (d : ℕ) → absorbedBin (absorbed l xs s e k) xs (getD (s .weights) d nan) e k (y .words) d (getD (s .path) d 0) m ≡ absorbed (suc l) xs s e k (y .words) d m
+      unfolding absorbed absorbedNode absorbedBins
+      step-is m d =
+          let z : getD xs (y .words) 0 ≡ 1 → ⊥ = λ o. absurd (omega (arith, bins-record xs (suc l) b ts y st .kind)) in
+          rw (ne-eqb (getD xs (y .words) 0) 1 z)
+
+      bins-tied : (m : Memory) (d : ℕ) → end .reals ≤ length (m .reals) → end .counts ≤ length (m .counts)
+          → Takes (gridAt (suc l) xs (m .reals) (m .counts) (y .words)) s d k → keptGrid (trained d (gridAt (suc l) xs (m .reals) (m .counts) (y .words))) ≡ true
+          → Tied (y .reals) (end .reals) (y .counts) (end .counts) m (step (suc l) (y .words) d m) (λ (n : Memory). gridAt (suc l) xs (n .reals) (n .counts) (y .words)) (trained d (gridAt (suc l) xs (m .reals) (m .counts) (y .words)))
+      bins-tied m d h g t q =
+          let was = node-is m in
+          let t′ = subst (λ (o : model.Grid). Takes o s d k) was t in
+          let q′ = sym (ap (λ (o : model.Grid). keptGrid (trained d o)) was) ∙ q in
+          subst (λ (n : Memory). Tied (y .reals) (end .reals) (y .counts) (end .counts) m n (λ (n : Memory). gridAt (suc l) xs (n .reals) (n .counts) (y .words)) (trained d (gridAt (suc l) xs (m .reals) (m .counts) (y .words)))) (step-is m d)
+          (record { within = step-within m d h g t′ q′; reads = node-is _ ∙ step-trained m d h g t′ q′ ∙ sym (ap (trained d) was) })
+
+  pub all-tied : (l : ℕ) → Ties l
+  all-tied zero nothing y m d n st h g t q = absurd (n refl)
+  all-tied zero (axes a es) y m d n st h g t q = axes-tied zero a es y m d st h g t q
+  all-tied zero (bins b ts) y m d n st h g t q = absurd (omega (arith, bins-record xs zero b ts y st .ranges .level))
+  all-tied (suc l) nothing y m d n st h g t q = absurd (n refl)
+  all-tied (suc l) (axes a es) y m d n st h g t q = axes-tied (suc l) a es y m d st h g t q
+  all-tied (suc l) (bins b ts) y m d n st h g t q = bins-tied l (all-tied l) b ts y st m d h g t q
