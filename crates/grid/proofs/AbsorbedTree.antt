@@ -9,6 +9,7 @@ use borrow.Author.Tests.{ne-eqb, eqb-false, ltb-true, ltb-false}
 use lib.Dec.{ltb, eqb}
 use lib.ListN.{length, getD}
 use lib.Ieee.{Float, nan, binary64, mul}
+use Rattle.real.specs.Paper.{Paper, gives, refuses}
 use Rattle.real.proofs.Truth.{both}
 use Rattle.accumulator.specs.declared.StatisticsAccumulator.{StatisticsAccumulator}
 use Rattle.accumulator.specs.Record.{wellFormed}
@@ -21,23 +22,23 @@ use Rattle.plan.specs.Plan.{Tree, Trees, nothing, axes, bins}
 use Rattle.plan.specs.Needs.{axesReals, axesCounts, axesTaken, binsTaken, after, childAt, before, untaken, needsOf}
 use Rattle.plan.specs.Table.{link}
 use Rattle.plan.specs.Walk.{axesRow, binsRow}
-use Rattle.plan.specs.Paper.{gives}
-use Rattle.plan.specs.Calls.{sizesOf}
 use Rattle.plan.proofs.Tables.{Words}
 use Rattle.plan.proofs.Rereads.{taken-words}
 use Rattle.plan.proofs.Records.{Stands, Upto, axes-record, bins-record, child-record, grid-link, before-next, passed-stands}
 use Rattle.model.specs.Grid as model
 use Rattle.model.specs.Sound.{sound, formedGrid, formedChild, keptGrid, keptChild}
-use Rattle.model.specs.Train.{trainGrid, trainBin, trainChild}
+use Rattle.model.specs.Train.{trainGrid, trainBin, trainChild, trainOf}
 use Rattle.grid.specs.declared.Sample.{Sample}
 use Rattle.grid.specs.Memory.{Memory, recordAt}
-use Rattle.grid.specs.Sampled.{soundChild}
+use Rattle.grid.specs.Sampled.{soundChild, sampleOf}
 use Rattle.grid.specs.Tree.{axesGridAt, headAt, binIn, childIn, binsIn, nodeAt, gridAt}
-use Rattle.grid.specs.Absorbed.{pathLeft, weightsLeft, placesIn, Takes, TakesChild, joinedAt, absorbedChild, absorbedBin, absorbedBins, absorbedNode, absorbed}
-use Rattle.grid.specs.State.{rootOf}
+use Rattle.grid.specs.Absorbed.{pathLeft, weightsLeft, placesIn, Takes, TakesChild, joinedAt, absorbedChild, absorbedBin, absorbedBins, absorbedNode, absorbed, objectionOf}
+use Rattle.grid.specs.State.{rootOf, stateFault}
+use Rattle.grid.specs.Calls.{onState, TrainEnd, trainEnd, trainedBy, trainCallOf}
 use Rattle.grid.proofs.Same.{Same, Alike, same-alike, same-sym, same-on}
 use Rattle.grid.proofs.Laid.{stands-laid, laid-axes}
 use Rattle.grid.proofs.Sounds.{node-axes}
+use Rattle.grid.proofs.States.{clear}
 use Rattle.grid.proofs.Samples.{sound-in, sound-below}
 use Rattle.grid.proofs.Fitting.{one-left}
 use Rattle.grid.proofs.FoundedOwn.{Within, within-same, within-on}
@@ -46,6 +47,7 @@ use Rattle.grid.proofs.Alike.{grid-alike}
 use Rattle.grid.proofs.Turns.{before-upto, linked-grid}
 use Rattle.grid.proofs.Accepts.{formed, head-sound, spot-sound, takes-below, bins-told, grid-told, takes-grid}
 use Rattle.grid.proofs.Absorbs.{absorbed-axes}
+use Rattle.grid.proofs.Objections.{whole, grants, takes-root, train-done}
 use Rattle.grid.proofs.Formed.{grid-formed, sound-formed, sound-trained}
 use Rattle.grid.proofs.AbsorbedOwn.{with-kept, axes-within, axes-grid-read, above, own-within, head-read, spot-read, chance-read, other-read, Still, bins-absorbed}
 
@@ -394,3 +396,50 @@ module _ (xs : List ℕ) (s : Sample) (e : Float) (k : ℕ) where
   all-tied (suc l) nothing y m d n st h g t q = absurd (n refl)
   all-tied (suc l) (axes a es) y m d n st h g t q = axes-tied (suc l) a es y m d st h g t q
   all-tied (suc l) (bins b ts) y m d n st h g t q = bins-tied l (all-tied l) b ts y st m d h g t q
+
+-- ---- the whole call
+
+-- the grid of an answer
+abbrev gridOf : Paper model.Grid → model.Grid → model.Grid
+gridOf (gives g) h = g
+gridOf (refuses n) h = h
+
+module _ (table : List ℕ) (m : Memory) (s : Sample) (e : Float) (k : ℕ) where
+  abbrev root : model.Grid
+  root = rootOf table (m .reals) (m .counts)
+
+  abbrev called : TrainEnd
+  called = trainCallOf table m s e k
+
+  -- where the model gives a grid, the answer is 0, that grid is read afterwards, and it is well formed
+  pub record Trains (g : model.Grid) : Type 0 where
+    pub answer : called .answer ≡ 0
+    pub reads : rootOf table (called .state .reals) (called .state .counts) ≡ g
+    pub well : sound g ≡ true
+
+  pub train-trains : (g : model.Grid) → Words table → stateFault table (m .reals) (m .counts) ≡ 0 → trainOf root (sampleOf s) e k ≡ gives g → Trains g
+  unfolding needsOf objectionOf
+  train-trains g large fault given =
+      let c = clear table (m .reals) (m .counts) large fault in
+      let none : objectionOf (trainOf root (sampleOf s) e k) ≡ 0 = ap objectionOf given in
+      let q = grants root s e k none in
+      let p = passed-stands table (c .needs) large (c .planned) in
+      let rr : c .needs .reals ≡ after (p .tree) untaken .reals = ap (λ (n : Needs). n .reals) (p .needs) in
+      let cc : c .needs .counts ≡ after (p .tree) untaken .counts = ap (λ (n : Needs). n .counts) (p .needs) in
+      let tied = all-tied table s e k 4 (p .tree) untaken m 0 (p .grid) (p .stands) (omega (arith, c .reals-fit)) (omega (arith, c .counts-fit)) (takes-root root s e k (c .well) none) (q .kept) in
+      let done : trainEnd 0 (absorbed 4 table s e k 0 0 m) ≡ called = train-done table m s e k (absorbed 4 table s e k 0 0 m) fault none refl in
+      let same : trainGrid root (pathLeft s 0) (weightsLeft s 0) (placesIn s) e k ≡ g = whole root s e k ∙ ap (λ (a : Paper model.Grid). gridOf a root) (sym (q .gave) ∙ given) in
+      record {
+        answer = sym (ap (λ (o : TrainEnd). o .answer) done);
+        reads = sym (ap (λ (o : TrainEnd). rootOf table (o .state .reals) (o .state .counts)) done) ∙ tied .reads ∙ same;
+        well = sym (ap sound same) ∙ sound-trained root (pathLeft s 0) (weightsLeft s 0) (placesIn s) e k (c .well) (q .kept);
+      }
+
+-- where the answer is a refusal, nothing was written
+pub train-stays : (table : List ℕ) (m : Memory) (s : Sample) (e : Float) (k : ℕ) → (trainCallOf table m s e k .answer ≡ 0 → ⊥) → trainCallOf table m s e k .state ≡ m
+unfolding trainCallOf trainedBy
+train-stays table m s e k n = stays (onState (stateFault table (m .reals) (m .counts)) (trainOf (rootOf table (m .reals) (m .counts)) (sampleOf s) e k)) n
+  where
+    stays : (p : Paper model.Grid) → (trainedBy table m s e k p .answer ≡ 0 → ⊥) → trainedBy table m s e k p .state ≡ m
+    stays (gives g) z = absurd (z refl)
+    stays (refuses j) z = refl

@@ -81,16 +81,9 @@ five-weights table reals counts s e = omega (arith, few-weights 4 table reals co
 -- ---- the order of the refusals
 
 -- the whole sample is what is left of it at the top
-pub whole : (g : Grid) (s : Sample) → faultOf g (pathLeft s 0) (weightsLeft s 0) (placesIn s) ≡ faultOf g (sampleOf s .path) (sampleOf s .weights) (sampleOf s .coordinates)
+pub whole : (g : Grid) (s : Sample) (e : Float) (k : ℕ) → trainGrid g (pathLeft s 0) (weightsLeft s 0) (placesIn s) e k ≡ trainGrid g (sampleOf s .path) (sampleOf s .weights) (sampleOf s .coordinates) e k
 unfolding sampleOf
-whole g s =
-    let a : s .levels - 0 ≡ s .levels = omega arith in
-    let b : s .given - 0 ≡ s .given = omega arith in
-    rw (a, b)
-
-pub whole-kept : (g : Grid) (s : Sample) (e : Float) (k : ℕ) → keptGrid (trainGrid g (pathLeft s 0) (weightsLeft s 0) (placesIn s) e k) ≡ keptGrid (trainGrid g (sampleOf s .path) (sampleOf s .weights) (sampleOf s .coordinates) e k)
-unfolding sampleOf
-whole-kept g s e k =
+whole g s e k =
     let a : s .levels - 0 ≡ s .levels = omega arith in
     let b : s .given - 0 ≡ s .given = omega arith in
     rw (a, b)
