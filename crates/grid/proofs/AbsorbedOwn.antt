@@ -1,8 +1,8 @@
 -- What taking a sample in leaves of a grid's own: which cells it touches, and what is read of them then.
-use mathlib.Core.Path.{_≡_, refl, sym, ap, ap₂, _∙_, subst}
+use mathlib.Core.Path.{_≡_, refl, sym, ap, _∙_, subst}
 use mathlib.Core.Logic.{_≢_}
-use mathlib.Core.Bool.{Bool, true, false, _&&_}
-use mathlib.Core.List.{List, [], _∷_}
+use mathlib.Core.Bool.{Bool, true, false}
+use mathlib.Core.List.{List}
 use Prim.Native.Nat.{ℕ, zero, suc, _+_, _*_, _≤_, _<_}
 use native.Mathlib.Omega.{arith}
 use borrow.Author.Tests.{ltb-true, ltb-false}
@@ -13,20 +13,19 @@ use Rattle.real.proofs.Truth.{both}
 use Rattle.accumulator.specs.declared.StatisticsAccumulator.{StatisticsAccumulator}
 use Rattle.accumulator.specs.Record.{wellFormed}
 use Rattle.accumulator.specs.Steps.{addedOf}
-use Rattle.model.specs.Axes.{Axis}
-use Rattle.model.specs.Grid.{Grid, Bin, Child, axes, withBin}
+use Rattle.model.specs.Grid.{Grid, axes, withBin}
 use Rattle.model.specs.Draw.{weightAt}
-use Rattle.model.specs.Sound.{sound, formedGrid, keptGrid, formedAxisList}
+use Rattle.model.specs.Sound.{formedGrid, keptGrid, formedAxisList}
 use Rattle.model.specs.Train.{numbered, trainAll, trainAxes, trainGrid, trainBin, trainChild}
 use Rattle.grid.specs.declared.Sample.{Sample}
 use Rattle.grid.specs.Layout.{axesFrom}
-use Rattle.grid.specs.Memory.{Memory, memory, Asked, recordAt, stored}
+use Rattle.grid.specs.Memory.{Memory, Asked, recordAt, stored}
 use Rattle.grid.specs.Drawn.{axesAt}
 use Rattle.grid.specs.Tree.{axesPlanAt, axesPlace, axesGridAt, binIn, childIn, binsIn, AxesLaid}
 use Rattle.grid.specs.Trained.{binsOn, trainedAt, trainedOver, Cell, cellsFit}
 use Rattle.grid.specs.Absorbed.{pathLeft, weightsLeft, placesIn, Takes, withSample, joinedAt, absorbedAxes}
-use Rattle.grid.proofs.Same.{Same, same-on, same-sym}
-use Rattle.grid.proofs.Reading.{Holding, record-same, record-stored, axes-same}
+use Rattle.grid.proofs.Same.{Same, same-sym}
+use Rattle.grid.proofs.Reading.{record-same, record-stored, axes-same}
 use Rattle.grid.proofs.Over.{over-below, over-above}
 use Rattle.grid.proofs.Trains.{trained-frames, trained-local}
 use Rattle.grid.proofs.Trained.{all-trained}

@@ -1,8 +1,8 @@
 -- A sample taken in and read back: on a table in which a plan's tree stands, the memory afterwards holds the model's trained grid.
 use mathlib.Core.Path.{_≡_, refl, sym, ap, ap₂, _∙_, subst}
 use mathlib.Core.Logic.{_≢_}
-use mathlib.Core.Bool.{Bool, true, false, _&&_, cond}
-use mathlib.Core.List.{List, _∷_}
+use mathlib.Core.Bool.{Bool, true, false, cond}
+use mathlib.Core.List.{List}
 use Prim.Native.Nat.{ℕ, zero, suc, _+_, _-_, _*_, _≤_, _<_}
 use native.Mathlib.Omega.{arith}
 use borrow.Author.Tests.{ne-eqb, eqb-false, ltb-true, ltb-false}
@@ -49,7 +49,7 @@ use Rattle.grid.proofs.Accepts.{formed, head-sound, spot-sound, takes-b
 use Rattle.grid.proofs.Absorbs.{absorbed-axes}
 use Rattle.grid.proofs.Objections.{whole, grants, takes-root, train-done}
 use Rattle.grid.proofs.Formed.{grid-formed, sound-formed, sound-trained}
-use Rattle.grid.proofs.AbsorbedOwn.{with-kept, axes-within, axes-grid-read, above, own-within, head-read, spot-read, chance-read, other-read, Still, bins-absorbed}
+use Rattle.grid.proofs.AbsorbedOwn.{with-kept, axes-within, axes-grid-read, above, own-within, head-read, spot-read, chance-read, other-read, bins-absorbed}
 
 module _ (xs : List ℕ) (s : Sample) (e : Float) (k : ℕ) where
   -- the model's step below d bins grids, and the memory's

@@ -1,5 +1,5 @@
 -- A sample taken in: each step of the code as the definitions have it.
-use mathlib.Core.Path.{_≡_, refl, sym, ap, ap₂, _∙_}
+use mathlib.Core.Path.{_≡_, refl, ap₂, _∙_}
 use mathlib.Core.List.{List}
 use Prim.Native.Nat.{ℕ, zero, suc, _+_, _-_, _*_, _≤_}
 use native.Mathlib.Omega.{arith}
@@ -9,7 +9,7 @@ use lib.Ieee.{Float, nan, binary64, mul}
 use Rattle.accumulator.specs.declared.StatisticsAccumulator.{StatisticsAccumulator}
 use Rattle.grid.specs.declared.Sample.{Sample}
 use Rattle.grid.specs.declared.axes.AxesAt.{AxesAt}
-use Rattle.grid.specs.Memory.{Memory, memory, stored}
+use Rattle.grid.specs.Memory.{Memory, stored}
 use Rattle.grid.specs.Drawn.{axesAt}
 use Rattle.grid.specs.Tree.{axesPlace}
 use Rattle.grid.specs.Trained.{binsOn, trainedOver}

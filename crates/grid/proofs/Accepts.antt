@@ -4,39 +4,35 @@ use mathlib.Core.Bool.{Bool, true, false, not, _&&_, cond, and-assoc, and-true}
 use mathlib.Core.List.{List, [], _∷_}
 use Prim.Native.Nat.{ℕ, zero, suc, _+_, _-_, _*_, _^_, _≤_, _<_}
 use native.Mathlib.Omega.{arith}
-use borrow.Author.Tests.{ltb-true, ltb-false, leb-true, eqb-true, not-false, ne-eqb}
+use borrow.Author.Tests.{ltb-true, ltb-false, leb-true, eqb-true, ne-eqb}
 use lib.Dec.{leb, ltb, eqb}
 use lib.ListN.{length, take, drop, getD, set, length-drop}
 use lib.Seq.{length-take-le}
 use lib.Ieee.{Float, nan, binary64, add, mul}
 use Rattle.real.specs.Finite.{finiteOf}
-use Rattle.real.specs.Total.{allFinite}
 use Rattle.real.proofs.Truth.{both}
 use Rattle.accumulator.specs.declared.StatisticsAccumulator.{StatisticsAccumulator}
-use Rattle.accumulator.specs.Record.{fresh, bounded, wellFormed}
+use Rattle.accumulator.specs.Record.{fresh, wellFormed}
 use Rattle.accumulator.specs.Steps.{zeroCount, addedOf}
-use Rattle.axis.specs.Edges.{inUnit, binOf, InBin}
+use Rattle.axis.specs.Edges.{inUnit, binOf}
 use Rattle.axis.specs.Edges as Edges
-use Rattle.axis.specs.Scans.{allBounded}
 use Rattle.axis.proofs.Bins.{bin-rule}
-use Rattle.model.specs.Axes.{Axis}
-use Rattle.model.specs.Grid.{Grid, Head, Bin, Child, axes, bins, nothing, grid, withHead, withBin}
+use Rattle.model.specs.Grid.{Grid, Head, axes, bins, grid, withHead, withBin}
 use Rattle.model.specs.Draw.{weightAt}
 use Rattle.model.specs.Sound.{chance, sound, formedGrid, allSound, keptAxis, keptAxisList, keptGrid, keptBins, keptChild}
 use Rattle.model.specs.Train.{faultOf, faultOfChild, trainAxis, trainAll, trainAxes, trainGrid, trainBin, trainChild}
 use Rattle.grid.specs.declared.Sample.{Sample}
 use Rattle.grid.specs.declared.axes.AxesAt.{AxesAt}
-use Rattle.grid.specs.Layout.{stretch, axisReals, axisCounts, binRecord, binAt, binsFrom, axisAt, axesFrom}
+use Rattle.grid.specs.Layout.{stretch, axisReals, axisCounts, binAt, binsFrom, axisAt, axesFrom}
 use Rattle.grid.specs.Memory.{memory, Asked, recordAt}
 use Rattle.grid.specs.Drawn.{Standing, axesAt, Stands}
-use Rattle.grid.specs.Tree.{axesPlace, axesGridAt, headAt, binIn, childIn, binsIn, gridAt, AxesLaid}
+use Rattle.grid.specs.Tree.{axesPlace, axesGridAt, binIn, childIn, binsIn, AxesLaid}
 use Rattle.grid.specs.Judged.{soundBin}
 use Rattle.grid.specs.Sampled.{entries, soundChild}
 use Rattle.grid.specs.Trained.{allInUnit, binsOn, Cell, cellFits, cellsFit, formFault, CellsOf}
 use Rattle.grid.specs.Absorbed.{pathLeft, weightsLeft, placesIn, Takes, TakesChild}
 use Rattle.grid.proofs.Judges.{sound-bin}
 use Rattle.grid.proofs.Reading.{length-axes, length-bins, getD-all}
-use Rattle.grid.proofs.Sounds.{sound-bins}
 use Rattle.grid.proofs.Samples.{sound-in, sound-below, child-sound, sound-stands}
 use Rattle.grid.proofs.Fitting.{none-left, one-left, many-left, axes-form, link-grid, bins-none, bins-past, bins-bare, bins-below}
 use Rattle.grid.proofs.Standing.{begins}

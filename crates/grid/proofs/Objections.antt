@@ -1,31 +1,30 @@
 -- What stands against a sample, in its order, against the model's answer; and the call on the whole state.
-use mathlib.Core.Path.{_≡_, refl, sym, ap, ap₂, _∙_, subst}
+use mathlib.Core.Path.{_≡_, refl, sym, ap, _∙_}
 use mathlib.Core.Bool.{Bool, true, false, not, _&&_, cond, and-false}
 use mathlib.Core.List.{List, [], _∷_}
 use Prim.Native.Nat.{ℕ, zero, suc, _+_, _-_, _^_, _≤_, _<_}
 use native.Mathlib.Omega.{arith}
-use borrow.Author.Tests.{ne-eqb, eqb-true, eqb-false, not-false, le-leb, lt-leb, not-true}
+use borrow.Author.Tests.{ne-eqb, eqb-true, eqb-false, le-leb, lt-leb}
 use lib.Dec.{leb, ltb, eqb}
 use lib.ListN.{length, getD}
 use lib.Ieee.{Float, nan}
 use Rattle.real.specs.Finite.{finiteOf}
 use Rattle.real.specs.Total.{allFinite}
 use Rattle.real.specs.Paper.{Paper, gives, refuses}
-use Rattle.real.proofs.Truth.{both}
-use Rattle.model.specs.Grid.{Grid, Head, Bins, axes, bins, nothing, grid, many}
+use Rattle.model.specs.Grid.{Grid, Head, axes, bins, nothing, grid, many}
 use Rattle.model.specs.Draw as model
 use Rattle.model.specs.Sound.{sound, keptGrid}
 use Rattle.model.specs.Train.{faultOf, faultOfBin, faultOfChild, trainGrid, numbered, trainOf}
 use Rattle.grid.specs.declared.Sample.{Sample}
-use Rattle.grid.specs.Memory.{Memory, memory}
+use Rattle.grid.specs.Memory.{Memory}
 use Rattle.grid.specs.Tree.{axesGridAt, headAt, childIn, binsIn, nodeAt, gridAt}
 use Rattle.grid.specs.Sampled.{entries, sampleOf}
-use Rattle.grid.specs.Trained.{formFault, nothingFault}
+use Rattle.grid.specs.Trained.{nothingFault}
 use Rattle.grid.specs.State.{rootOf, stateFault}
 use Rattle.grid.specs.Absorbed.{pathLeft, weightsLeft, placesIn, Takes, absorbed, objectionOf}
-use Rattle.grid.specs.Calls.{TrainEnd, trainEnd, trainedBy, trainCallOf}
+use Rattle.grid.specs.Calls.{trainEnd, trainedBy, trainCallOf}
 use Rattle.grid.proofs.States.{refused-first, answered-last}
-use Rattle.grid.proofs.Fitting.{many-left, axes-form, nothing-form, link-none, link-grid}
+use Rattle.grid.proofs.Fitting.{many-left, axes-form, nothing-form}
 use Rattle.grid.proofs.Accepts.{form-is}
 
 -- ---- a sample of a grid's form has a weight for each level at most, and one more

@@ -100,14 +100,9 @@ fn bins_accept(
     let c = table[w + 6] as usize;
     let value = (weight * reals[r + 14 + bin]) * evaluation;
     let own = adding::fits_with(reals, counts, r, c, evaluation * weight, number);
-    let inner = adding::fits_with(
-        reals,
-        counts,
-        r + 14 + n + 14 * bin,
-        c + 7 + 7 * bin,
-        value,
-        number,
-    );
+    let inner_r = r + 14 + n + 14 * bin;
+    let inner_c = c + 7 + 7 * bin;
+    let inner = adding::fits_with(reals, counts, inner_r, inner_c, value, number);
     let link = table[w + 7 + bin] as usize;
     let below = child_accepts(
         table,

@@ -1,3 +1,4 @@
+-- Nothing stands against the state nor against the sample, so the grid takes it; else nothing is written.
 use mathlib.Core.Path.{sym, _∙_}
 use native.Mathlib.Omega.{arith}
 use Rattle.grid.specs.Memory.{memory}

@@ -1,4 +1,5 @@
-use mathlib.Core.Path.{sym, ap, _∙_, subst}
+-- Both records are read before what hangs below is written, so all is the definition's step on memory as it was.
+use mathlib.Core.Path.{_∙_, subst}
 use native.Mathlib.Omega.{arith}
 use Prim.Native.Nat.{_+_, _-_, _*_}
 use lib.ListN.{length, getD}

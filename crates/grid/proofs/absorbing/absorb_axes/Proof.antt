@@ -1,4 +1,4 @@
-use mathlib.Core.Path.{_∙_}
+-- The bins and the record are found before the axes are written; a well-formed grid and the sample's form give what the axes ask.
 use native.Mathlib.Omega.{arith}
 use Rattle.grid.specs.Memory.{memory}
 use Rattle.grid.proofs.Accepts.{axes-placed, spots-found, cells-of}

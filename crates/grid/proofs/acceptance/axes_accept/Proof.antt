@@ -1,3 +1,4 @@
+-- Of well-formed axes only the bins that the sample joins may fail, and the grid's own accumulator.
 use mathlib.Core.Path.{ap₂, _∙_}
 use mathlib.Core.Bool.{_&&_}
 use mathlib.Core.List.{List}

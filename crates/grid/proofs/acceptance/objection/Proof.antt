@@ -1,3 +1,4 @@
+-- Each test is the model's, in the model's order; the form that was passed bounds the weights and gives what the judge of 8 asks.
 use mathlib.Core.Path.{sym, ap, ap₂, _∙_}
 use mathlib.Core.Bool.{Bool, _&&_}
 use native.Mathlib.Omega.{arith}

@@ -1,3 +1,4 @@
+-- A well-formed record refuses a value exactly where the record after it would not be well formed.
 use mathlib.Core.Path.{sym, ap, _∙_}
 use Rattle.accumulator.specs.declared.StatisticsAccumulator.{StatisticsAccumulator}
 use Rattle.accumulator.specs.Calls.{addSampleOf}

@@ -1,3 +1,4 @@
+-- The accumulator's own answer, or the record as it was.
 use mathlib.Core.Path.{sym, ap, _∙_}
 use Rattle.accumulator.specs.declared.StatisticsAccumulator.{StatisticsAccumulator}
 use Rattle.accumulator.specs.Calls.{addSampleOf}
