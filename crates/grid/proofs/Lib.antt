@@ -46,3 +46,4 @@ pub mod Clones
 pub mod Cloned
 pub mod Turns
 pub mod Adapts
+pub mod Spares

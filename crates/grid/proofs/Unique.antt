@@ -27,6 +27,9 @@ use Rattle.grid.proofs.live_estimate_of_bin.Reads as live-of-bin-reads
 use Rattle.grid.proofs.summary.Kinds as summary-kinds
 use Rattle.grid.proofs.summary.Reads as summary-reads
 use Rattle.grid.proofs.probe.Kinds as probe-kinds
+use Rattle.grid.proofs.update.Kinds as update-kinds
+use Rattle.grid.proofs.update.Reads as update-reads
+use Rattle.grid.specs.Calls.{UpdateEnd}
 use Rattle.grid.proofs.probe.Reads as probe-reads
 use Rattle.grid.proofs.train.Kinds as train-kinds
 use Rattle.grid.proofs.train.Reads as train-reads
@@ -97,3 +100,13 @@ pub train-unique : (κs : Lfts 3) (a : Dens κs train-kinds.ps) (r r′ : ℕ) (
 train-unique κs a r r′ s s′ p q =
     let e = p ∙ sym q in
     (ap (λ (x : TrainEnd). x .answer) e, ap (λ (x : TrainEnd). x .state .reals) e, ap (λ (x : TrainEnd). x .state .counts) e)
+
+pub update-total : (κs : Lfts 5) (a : Dens κs update-kinds.ps) → update-reads.Pre κs a
+update-total κs a = tt
+
+-- the answer, and every entry of the state; the spare is left open
+pub update-unique : (κs : Lfts 5) (a : Dens κs update-kinds.ps) (r r′ : ℕ) (s s′ : AtExit (endedOf 5 update-kinds.ps update-kinds.r) κs)
+    → update-reads.Post κs a r s → update-reads.Post κs a r′ s′ → (r ≡ r′) × (now (s .1 .0) ≡ now (s′ .1 .0)) × (now (s .1 .1 .0) ≡ now (s′ .1 .1 .0))
+update-unique κs a r r′ s s′ p q =
+    let e = p ∙ sym q in
+    (ap (λ (x : UpdateEnd). x .answer) e, ap (λ (x : UpdateEnd). x .state .reals) e, ap (λ (x : UpdateEnd). x .state .counts) e)

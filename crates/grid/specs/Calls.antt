@@ -1,6 +1,6 @@
 -- What each public call answers: the refusals in their order, then the answer; and what it leaves in lent memory.
 use Prim.Native.Nat.{ℕ}
-use mathlib.Core.Bool.{not, cond}
+use mathlib.Core.Bool.{not, _&&_, cond}
 use mathlib.Core.List.{List, _++_}
 use lib.Dec.{eqb, ltb}
 use lib.ListN.{length, take, drop}
@@ -20,6 +20,8 @@ use Rattle.plan.specs.declared.Needs.{Needs}
 use Rattle.plan.specs.Calls.{measureOf, readPlanOf, sizesOf}
 use Rattle.grid.specs.Memory.{Memory, memory}
 use Rattle.grid.specs.Founded.{laidGrid}
+use Rattle.grid.specs.Adapted.{updatedIn}
+use Rattle.model.specs.Update.{rateFits}
 use Rattle.grid.specs.declared.Region.{Region}
 use Rattle.grid.specs.declared.Sample.{Sample}
 use Rattle.grid.specs.Sampled.{entries, laidDrawing, sampleOf}
@@ -138,3 +140,43 @@ trainedBy table m s e number (refuses n) = trainEnd n m
 unfoldable pub trainCallOf : List ℕ → Memory → Sample → Float → ℕ → TrainEnd
 trainCallOf table m s e number =
     trainedBy table m s e number (onState (stateFault table (m .reals) (m .counts)) (trainOf (rootOf table (m .reals) (m .counts)) (sampleOf s) e number))
+
+-- ---- update
+
+-- the answer, 0 or a refusal, and the two lists afterwards
+pub record UpdateEnd : Type 0 where
+  pub answer : ℕ
+  pub state : Memory
+
+abbrev pub updateEnd : ℕ → Memory → UpdateEnd
+updateEnd n s = record { answer = n; state = s }
+
+-- of memory that is just the plan's: 8 anywhere, then 9 anywhere, else what the update leaves
+unfoldable pub renewedOver : List ℕ → Float → Float → Memory → UpdateEnd
+renewedOver table binsRate axesRate s =
+    let o = updatedIn 4 table binsRate axesRate 0 s in
+    cond (o .eight) (updateEnd 8 s) (cond (o .nine) (updateEnd 9 s) (updateEnd 0 (o .after)))
+
+-- the plan's part of memory, and memory with another in its place
+unfoldable pub frontOf : Needs → Memory → Memory
+frontOf n s = memory (take (n .reals) (s .reals)) (take (n .counts) (s .counts))
+
+unfoldable pub inFront : Needs → Memory → Memory → Memory
+inFront n front s = memory (front .reals ++ drop (n .reals) (s .reals)) (front .counts ++ drop (n .counts) (s .counts))
+
+-- 10 for the spare of R reals and C counts too, 12, 3, 8, 9
+unfoldable pub updatedBy : List ℕ → Float → Float → ℕ → ℕ → Memory → Needs → UpdateEnd
+updatedBy table binsRate axesRate R C s n =
+    let fault = judgedTo table (s .reals) (s .counts) R C n in
+    let e = renewedOver table binsRate axesRate (frontOf n s) in
+    cond (not (eqb fault 0)) (updateEnd fault s)
+    (cond (not (rateFits binsRate && rateFits axesRate)) (updateEnd 3 s)
+    (updateEnd (e .answer) (inFront n (e .state) s)))
+
+abbrev pub updateBy : List ℕ → Float → Float → ℕ → ℕ → Memory → plan.Paper Needs → UpdateEnd
+updateBy table binsRate axesRate R C s (plan.gives n) = updatedBy table binsRate axesRate R C s n
+updateBy table binsRate axesRate R C s (plan.refuses k) = updateEnd 12 s
+updateBy table binsRate axesRate R C s (plan.refusesAt k at) = updateEnd 12 s
+
+unfoldable pub updateOf : List ℕ → Float → Float → ℕ → ℕ → Memory → UpdateEnd
+updateOf table binsRate axesRate R C s = updateBy table binsRate axesRate R C s (sizesOf table)

@@ -23,14 +23,16 @@ mod renewal;
 mod sampling;
 mod state;
 mod training;
+mod updating;
 
 ghost use mathlib.Core.Path.{_≡_};
+ghost use lib.ListN.{length};
 ghost use Rattle.accumulator.specs.Calls.{paperEstimated, paperSummed};
 ghost use Rattle.plan.specs.Paper.{gives, planRead, paperRead};
 ghost use Rattle.plan.specs.Calls.{measureOf};
 ghost use Rattle.grid.specs.Memory.{memory};
 ghost use Rattle.axis.specs.Calls.{paperProbed};
-ghost use Rattle.grid.specs.Calls.{drawnAs, drawOf, probeOf, summaryOf, liveOf, liveOfBin, freshEnd, foundedOf, freshOf, cloneEnd, cloneOf, trainEnd, trainCallOf};
+ghost use Rattle.grid.specs.Calls.{drawnAs, drawOf, probeOf, summaryOf, liveOf, liveOfBin, freshEnd, foundedOf, freshOf, cloneEnd, cloneOf, updateEnd, updateOf, trainEnd, trainCallOf};
 use accumulator::Estimated;
 use accumulator::Summed;
 use plan::Needs;
@@ -222,4 +224,33 @@ pub fn train(
     }
     absorbing::absorb_grid(table, reals, counts, 4, 0, s, 0, evaluation, number);
     0
+}
+
+// Processes the waiting samples and adapts axes and probabilities, worked out on a spare of the state's size. 0, or refused: 12, 10, 12, the
+// spare's room behind the state's; 3 for a rate; 8 anywhere, then 9 anywhere. Nothing of the state is written then.
+pub fn update(
+    table: &[u64],
+    reals: &mut [f64],
+    counts: &mut [u64],
+    spare_reals: &mut [f64],
+    spare_counts: &mut [u64],
+    bins_rate: f64,
+    axes_rate: f64,
+) -> u64
+    ensures { λ n. ⌜ updateEnd n (memory (now (reals .exit)) (now (counts .exit))) ≡
+        updateOf (now (table .entry)) «bins_rate» «axes_rate» (length (now («spare_reals» .entry))) (length (now («spare_counts» .entry))) (memory (now (reals .entry)) (now (counts .entry))) ⌝ }
+{
+    match plan::sizes(table) {
+        Sized::Plan(needs) => updating::update_state(
+            table,
+            reals,
+            counts,
+            spare_reals,
+            spare_counts,
+            bins_rate,
+            axes_rate,
+            needs,
+        ),
+        Sized::Refused(_) => 12,
+    }
 }

@@ -29,7 +29,7 @@ pub struct Found {
 }
 
 // Copies reals over as many others.
-fn copy_reals(to: &mut [f64], from: &[f64])
+pub fn copy_reals(to: &mut [f64], from: &[f64])
     requires { ⌜ length (now to) ≡ length (now from) ⌝ }
     ensures { λ _. ⌜ now (to .exit) ≡ now (from .entry) ⌝ }
 {
@@ -41,7 +41,7 @@ fn copy_reals(to: &mut [f64], from: &[f64])
 }
 
 // Copies counts over as many others.
-fn copy_counts(to: &mut [u64], from: &[u64])
+pub fn copy_counts(to: &mut [u64], from: &[u64])
     requires { ⌜ length (now to) ≡ length (now from) ⌝ }
     ensures { λ _. ⌜ now (to .exit) ≡ now (from .entry) ⌝ }
 {
