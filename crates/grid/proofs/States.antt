@@ -2,7 +2,7 @@
 use mathlib.Core.Path.{_≡_, refl, sym, ap, _∙_}
 use mathlib.Core.Bool.{Bool, true, false, not, cond}
 use mathlib.Core.List.{List}
-use Prim.Native.Nat.{ℕ}
+use Prim.Native.Nat.{ℕ, _≤_}
 use native.Mathlib.Omega.{arith}
 use borrow.Author.Tests.{ltb-false, not-false, ne-eqb}
 use lib.Dec.{ltb}
@@ -27,6 +27,10 @@ use Rattle.grid.proofs.Sounds.{node-axes, node-bins}
 pub record Clear (table : List ℕ) (reals : List Float) (counts : List ℕ) : Type 0 where
   pub laid : Laid 4 table (length reals) (length counts) 0
   pub well : sound (rootOf table reals counts) ≡ true
+  pub needs : Needs
+  pub planned : sizesOf table ≡ plan.gives needs
+  pub reals-fit : needs .reals ≤ length reals
+  pub counts-fit : needs .counts ≤ length counts
 
 pub passes : (b : Bool) (n rest : ℕ) → (n ≡ 0 → ⊥) → cond b n rest ≡ 0 → (b ≡ false) × (rest ≡ 0)
 passes true n rest z e = absurd (z e)
@@ -41,6 +45,10 @@ clear-by table reals counts (plan.gives n) large e f =
     record {
       laid = root-laid table n (length reals) (length counts) large e (ltb-false (length reals) (n .reals) (a .0)) (ltb-false (length counts) (n .counts) (b .0));
       well = not-false (sound (rootOf table reals counts)) (c .0);
+      needs = n;
+      planned = e;
+      reals-fit = ltb-false (length reals) (n .reals) (a .0);
+      counts-fit = ltb-false (length counts) (n .counts) (b .0);
     }
 clear-by table reals counts (plan.refuses k) large e f = absurd (omega (arith, f))
 clear-by table reals counts (plan.refusesAt k at) large e f = absurd (omega (arith, f))

@@ -14,6 +14,7 @@ pub mod Sampled
 pub mod Probed
 pub mod State
 pub mod Founded
+pub mod Absorbed
 pub mod Bins
 pub mod Turns
 pub mod Adapted
