@@ -1,5 +1,6 @@
 // The calls of the oracle's list, plan by plan (oracle/README.md, "grid"): the plan is laid, then come the calls, each behind the number
 // of its words.
+ghost use mathlib.Core.Path.{_≡_};
 ghost use Prim.Native.Nat.{_+_, _<_, _≤_};
 ghost use lib.ListN.{length};
 use crate::list;
@@ -226,6 +227,16 @@ fn replay_calls(
     Replayed { agreed, all }
 }
 
+fn is_laid(answer: Read) -> bool {
+    match answer {
+        Read::Plan { end: _, needs: _ } => true,
+        Read::Refused {
+            number: _,
+            offset: _,
+        } => false,
+    }
+}
+
 // One plan: whether it is laid, where the kind is 0, else its calls.
 fn replay_plan(
     list: &[u8],
@@ -242,13 +253,7 @@ fn replay_plan(
     let size = list::below(list, at + 1, 2048);
     list::load(list, at + 2, room);
     let answer = grid::fresh(&room[..size], table, reals, counts);
-    let agreed = match answer {
-        Read::Plan { end: _, needs: _ } => 1,
-        Read::Refused {
-            number: _,
-            offset: _,
-        } => 0,
-    };
+    let agreed = one_if(is_laid(answer));
     if kind == 0 {
         return Replayed { agreed, all: 1 };
     }

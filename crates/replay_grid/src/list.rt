@@ -73,38 +73,52 @@ pub fn path_at(list: &[u8], at: usize) -> [usize; 4]
     ]
 }
 
-// The coordinates of a probe, behind their number, and their marks.
-fn coordinates_at(list: &[u8], at: usize) -> Coordinates
+// Eight doubles.
+fn doubles_at(list: &[u8], at: usize) -> [f64; 8]
     requires { ⌜ at < 1048576 ⌝ }
 {
+    [
+        double(word(list, at)),
+        double(word(list, at + 1)),
+        double(word(list, at + 2)),
+        double(word(list, at + 3)),
+        double(word(list, at + 4)),
+        double(word(list, at + 5)),
+        double(word(list, at + 6)),
+        double(word(list, at + 7)),
+    ]
+}
+
+// Eight marks, each 1 or 0.
+fn marks_at(list: &[u8], at: usize) -> [bool; 8]
+    requires { ⌜ at < 1048576 ⌝ }
+{
+    [
+        word(list, at) == 1,
+        word(list, at + 1) == 1,
+        word(list, at + 2) == 1,
+        word(list, at + 3) == 1,
+        word(list, at + 4) == 1,
+        word(list, at + 5) == 1,
+        word(list, at + 6) == 1,
+        word(list, at + 7) == 1,
+    ]
+}
+
+// The coordinates of a probe, behind their number, and their marks.
+fn coordinates_at(list: &[u8], at: usize) -> Coordinates
+    requires { ⌜ at < 1048100 ⌝ }
+{
     Coordinates {
-        at: [
-            double(word(list, at + 1)),
-            double(word(list, at + 2)),
-            double(word(list, at + 3)),
-            double(word(list, at + 4)),
-            double(word(list, at + 5)),
-            double(word(list, at + 6)),
-            double(word(list, at + 7)),
-            double(word(list, at + 8)),
-        ],
-        free: [
-            word(list, at + 9) == 1,
-            word(list, at + 10) == 1,
-            word(list, at + 11) == 1,
-            word(list, at + 12) == 1,
-            word(list, at + 13) == 1,
-            word(list, at + 14) == 1,
-            word(list, at + 15) == 1,
-            word(list, at + 16) == 1,
-        ],
+        at: doubles_at(list, at + 1),
+        free: marks_at(list, at + 9),
         many: word(list, at) as usize,
     }
 }
 
 // What a probe asks for.
 pub fn region_at(list: &[u8], at: usize) -> Region
-    requires { ⌜ at < 1048576 ⌝ }
+    requires { ⌜ at < 1048000 ⌝ }
 {
     Region {
         path: path_at(list, at),

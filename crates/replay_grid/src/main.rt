@@ -49,6 +49,18 @@ fn lines(
     );
 }
 
+// The list read into `text`, and its lines.
+fn replay(
+    text: &mut [u8],
+    room: &mut [u8; 2048],
+    table: &mut [u64; 8192],
+    reals: &mut [f64; 16384],
+    counts: &mut [u64; 8192],
+) {
+    let got = io::read_full(STDIN_FILENO, text);
+    lines(&text[..got], room, table, reals, counts);
+}
+
 // The rooms come as references to arrays, so that the proof sees their lengths and not their zeros.
 fn run(
     text: &mut [u8; 1048576],
@@ -57,8 +69,7 @@ fn run(
     reals: &mut [f64; 16384],
     counts: &mut [u64; 8192],
 ) {
-    let got = io::read_full(STDIN_FILENO, text);
-    lines(&text[..got], room, table, reals, counts);
+    replay(text, room, table, reals, counts);
 }
 
 fn main() {
