@@ -2,368 +2,54 @@
 -- the memory after it holds the model's grid.
 use mathlib.Core.Path.{_≡_, refl, sym, ap, ap₂, _∙_, subst}
 use mathlib.Core.Logic.{_≢_}
-use mathlib.Core.Bool.{Bool, true, false, not, _&&_, _||_, cond, true≢false, or-false}
-use mathlib.Core.List.{List, [], _∷_, map}
-use Prim.Native.Nat.{ℕ, zero, suc, _+_, _-_, _*_, _≤_, _<_}
+use mathlib.Core.Bool.{Bool, true, false, _&&_, true≢false, or-false, cond, not, _||_}
+use mathlib.Core.List.{List}
+use Prim.Native.Nat.{ℕ, zero, suc, _+_, _*_, _≤_, _<_}
 use native.Mathlib.Omega.{arith}
-use borrow.Author.Tests.{ne-eqb, eqb-true, eqb-false}
-use lib.Dec.{eqb}
-use lib.ListN.{length, getD, length-map}
-use lib.Ieee.{Float, nan, binary64, ofBits, div, eq}
-use Rattle.real.specs.Numbers.{zero64}
+use borrow.Author.Tests.{ne-eqb}
+use lib.ListN.{length, getD}
+use lib.Ieee.{Float, nan, eq}
 use Rattle.real.proofs.Truth.{both}
 use Rattle.accumulator.specs.declared.StatisticsAccumulator.{StatisticsAccumulator}
 use Rattle.accumulator.specs.Record.{wellFormed}
 use Rattle.accumulator.specs.Update.{updatedOf}
-use Rattle.accumulator.specs.Calls as account
-use Rattle.plan.specs.Numbers.{wordsAt}
-use Rattle.model.specs.Axes.{Axis, AxesGrid}
 use Rattle.model.specs.Grid as model
 use Rattle.model.specs.Sound.{sound}
-use Rattle.real.specs.Total.{totalOf}
-use Rattle.recut.specs.Chances.{allChances, highest, raisedTo, shareOf, adaptedTo}
-use Rattle.model.specs.Update.{Outcome, updateAll, updateAxes, allIdle, raws, withProbabilities, nested, updateGrid, updateBins, updateChild}
-use Rattle.grid.specs.Layout.{axesFrom}
-use Rattle.grid.specs.Memory.{Memory, memory, put, recordAt, stored}
-use Rattle.grid.specs.Judged.{axesFit, AllUpto}
-use Rattle.grid.specs.Tree.{axesPlanAt, axesPlace, axesGridAt, headAt, binIn, childIn, binsIn, AxesLaid}
+use Rattle.model.specs.Update.{Outcome, updateGrid, adaptedBins, allIdle, raws, withProbabilities, updateBins}
+use Rattle.grid.specs.Memory.{Memory, recordAt}
+use Rattle.grid.specs.Tree.{headAt, binIn, childIn, binsIn}
 use Rattle.grid.specs.Founded.{freshChildren}
-use Rattle.grid.specs.Renewed.{planOf, finding, updateAllAt}
-use Rattle.grid.specs.Adapted.{followed, accountStepped, accountUpdated, accountsUpdated, ruleAt, axesUpdated, averagesAt, idleIn, rawsIn, chancesLaid, chancesAdapted}
-use Rattle.grid.proofs.Same.{Same, same-refl, same-on, same-sym, same-within, length-put, getD-put-in, same-put-below, same-put-above}
-use Rattle.grid.proofs.Reading.{record-same, record-stored, axes-same}
-use Rattle.grid.proofs.Judges.{fit-stands}
-use Rattle.grid.proofs.Sounds.{numbers-upto, sound-axes}
-use Rattle.grid.proofs.Renewals.{within-all}
-use Rattle.grid.proofs.Updates.{standing-ready, readAxes, updates-below, updates-above, updated-axes, updates-holding}
-use Rattle.grid.proofs.FoundedOwn.{Within, within-same, within-on, stored-within}
-use Rattle.grid.proofs.Turns.{Turned, no-either, childAfter, childrenAfter}
+use Rattle.grid.specs.Adapted.{accountsUpdated, followed, binsAdapted, chancesAdapted, accountUpdated, idleIn, averagesAt, nodeUpdated, updatedIn}
+use Rattle.grid.proofs.Same.{Same, same-on, same-sym, same-within, same-refl}
+use Rattle.grid.proofs.Reading.{record-same}
+use Rattle.grid.proofs.FoundedOwn.{Within, within-on, within-same}
+use Rattle.grid.proofs.Turns.{Turned, childrenAfter, no-either}
 use Rattle.plan.specs.declared.Tally.{Tally}
 use Rattle.plan.specs.declared.BinsPlan.{BinsPlan}
-use Rattle.plan.specs.declared.AxesPlan as planned
-use Rattle.plan.specs.Plan.{Tree, Trees, nothing, axes, bins}
-use Rattle.plan.specs.Needs.{axesReals, axesCounts, axesTaken, binsTaken, after, untaken, needsOf}
-use Rattle.plan.specs.Walk.{axesRow, binsRow}
-use Rattle.plan.proofs.Records.{Stands, axes-record, bins-record}
+use Rattle.plan.specs.Plan.{Tree, Trees, nothing, bins, axes}
+use Rattle.plan.specs.Needs.{binsTaken, after, axesReals, axesCounts, axesTaken, untaken, needsOf}
+use Rattle.plan.specs.Walk.{binsRow, axesRow}
+use Rattle.plan.proofs.Records.{Stands, bins-record, axes-record, passed-stands}
 use Rattle.model.specs.Sound.{chance, formedGrid, keptGrid}
 use Rattle.grid.specs.Judged.{soundBin, soundBins}
 use Rattle.grid.specs.Tree.{gridAt, nodeAt}
 use Rattle.grid.specs.Turns.{childrenTurned}
-use Rattle.grid.specs.Adapted.{binsAdapted, nodeUpdated, updatedIn}
+use Rattle.grid.specs.Adapted.{updatedIn}
 use Rattle.grid.proofs.Sounds.{sound-more, sound-bins, child-grid, node-axes}
-use Rattle.grid.proofs.Laid.{stands-laid, laid-axes}
-use Rattle.grid.proofs.Trees.{axes-differ, before-none, taken-reals, taken-counts, below}
+use Rattle.grid.proofs.Trees.{before-none, taken-reals, taken-counts, below, axes-differ}
 use Rattle.grid.proofs.Turns.{children-turned}
+use Rattle.recut.specs.Chances.{allChances, adaptedTo}
+use Rattle.grid.specs.Renewed.{finding}
+use Rattle.real.specs.Numbers.{zero64}
+use Rattle.plan.specs.declared.Needs.{Needs}
+use Rattle.plan.specs.Paper.{gives}
+use Rattle.plan.specs.Calls.{sizesOf}
+use Rattle.plan.proofs.Tables.{Words}
+use Rattle.grid.specs.State.{rootOf}
+use Rattle.grid.proofs.Laid.{stands-laid, laid-axes}
 use Rattle.grid.proofs.Adapts.{grid-updated-axes}
-
--- ---- an accumulator
-
-unfoldable accountAfter : StatisticsAccumulator → Outcome StatisticsAccumulator
-accountAfter a = record { eight = not (wellFormed (updatedOf false a)); nine = false; after = updatedOf false a }
-
-account-turned : (r c : ℕ) (s : Memory) → r + 14 ≤ length (s .reals) → c + 7 ≤ length (s .counts) → wellFormed (recordAt (s .reals) (s .counts) r c) ≡ true
-    → Turned r (r + 14) c (c + 7) s (accountUpdated r c s) (λ (a : List Float) (b : List ℕ). recordAt a b r c) (accountAfter (recordAt (s .reals) (s .counts) r c))
-unfolding accountUpdated accountStepped account.updateOf accountAfter stored
-account-turned r c s h k well = pick (wellFormed next) refl
-  where
-    own : StatisticsAccumulator
-    own = recordAt (s .reals) (s .counts) r c
-
-    next : StatisticsAccumulator
-    next = updatedOf false own
-
-    pick : (b : Bool) → wellFormed next ≡ b → Turned r (r + 14) c (c + 7) s (accountUpdated r c s) (λ (a : List Float) (b : List ℕ). recordAt a b r c) (accountAfter own)
-    pick true e =
-        rw (well, e) (record {
-          within = stored-within r c next s;
-          eight = refl;
-          nine = λ q. refl;
-          reads = λ q a b x y. sym (record-same r c (stored r c next s .reals) a (stored r c next s .counts) b x y) ∙ record-stored r c (s .reals) (s .counts) next h k;
-        })
-    pick false e = rw (well, e) (record { within = within-same r (r + 14) c (c + 7) s; eight = refl; nine = λ q. absurd (true≢false q); reads = λ q. absurd (true≢false q) })
-
--- ---- an axes grid
-
-module _ (table : List ℕ) (rate : Float) (w : ℕ) (s : Memory) (laid : AxesLaid table (length (s .reals)) (length (s .counts)) w)
-    (well : sound (model.axes (axesGridAt table (s .reals) (s .counts) w)) ≡ true) where
-  abbrev R : ℕ
-  R = getD table (w + 9) 0
-
-  abbrev C : ℕ
-  C = getD table (w + 10) 0
-
-  abbrev K : ℕ
-  K = getD table (w + 2) 0
-
-  abbrev M : ℕ
-  M = getD table (w + 7) 0
-
-  abbrev values : List ℕ
-  values = wordsAt table (w + 11) (getD table (w + 8) 0)
-
-  abbrev axes-step : Outcome Memory
-  axes-step = updateAllAt (ruleAt table w) values rate M K (R + 14) (C + 7) s
-
-  abbrev numbers : List ℕ
-  numbers = getD table (w + 3) 0 ∷ values
-
-  fits : (axesFit numbers M (s .reals) (s .counts) K (R + 14) (C + 7) ≡ true) × (wellFormed (recordAt (s .reals) (s .counts) R C) ≡ true)
-  fits = both (axesFit numbers M (s .reals) (s .counts) K (R + 14) (C + 7)) (wellFormed (recordAt (s .reals) (s .counts) R C)) (sound-axes table (s .reals) (s .counts) w laid ∙ well)
-
-  pub axes-turned : Turned R (R + 14 + K * (6 * M + 1)) C (C + 7 + K * (3 * M + 2)) s (axesUpdated table rate w s) (λ (a : List Float) (b : List ℕ). model.axes (axesGridAt table a b w))
-      (updateAxes rate (axesGridAt table (s .reals) (s .counts) w))
-  unfolding axesUpdated followed updateAxes axesGridAt axesPlace axesPlanAt ruleAt planOf readAxes accountAfter AllUpto
-  axes-turned =
-      let upto = numbers-upto table (length (s .reals)) (length (s .counts)) w laid in
-      let standing = fit-stands M (s .reals) (s .counts) numbers K (R + 14) (C + 7) upto (laid .room) (laid .places) (fits .0) in
-      let ready = standing-ready M (s .reals) (s .counts) K (R + 14) (C + 7) standing in
-      let each : (i : ℕ) → i < length values → getD values i 0 ≤ M = λ i h. upto (suc i) (omega arith) .1 in
-      let bound = within-all M (ruleAt table w) values (laid .fits) each in
-      let s₁ = axes-step .after in
-      let tied = updated-axes (ruleAt table w) values rate M bound (ofBits binary64 (getD table (w + 6) 0)) K (R + 14) (C + 7) s ready in
-      let inside : Within (R + 14) (R + 14 + K * (6 * M + 1)) (C + 7) (C + 7 + K * (3 * M + 2)) s s₁ =
-      record {
-        low = λ lo hi h. updates-below (ruleAt table w) values rate M bound K (R + 14) (C + 7) s ready lo hi 0 0 h (omega arith) .0;
-        high = λ lo hi h. updates-above (ruleAt table w) values rate M bound K (R + 14) (C + 7) s ready lo hi (C + 7 + K * (3 * M + 2)) 0 h (omega arith) .0;
-        few = λ lo hi h. updates-below (ruleAt table w) values rate M bound K (R + 14) (C + 7) s ready 0 0 lo hi (omega arith) h .1;
-        many = λ lo hi h. updates-above (ruleAt table w) values rate M bound K (R + 14) (C + 7) s ready (R + 14 + K * (6 * M + 1)) 0 lo hi (omega arith) h .1;
-      } in
-      let size : length (s₁ .reals) ≡ length (s .reals) = inside .low 0 0 (omega arith) .size in
-      let sizes : length (s₁ .counts) ≡ length (s .counts) = inside .few 0 0 (omega arith) .size in
-      let own : recordAt (s₁ .reals) (s₁ .counts) R C ≡ recordAt (s .reals) (s .counts) R C = record-same R C (s₁ .reals) (s .reals) (s₁ .counts) (s .counts) (inside .low R (R + 14) (omega arith)) (inside .few C (C + 7) (omega arith)) in
-      let a = account-turned R C s₁ (omega (arith, laid .room)) (omega (arith, laid .places)) (ap wellFormed own ∙ fits .1) in
-      let s₂ = accountUpdated R C s₁ .after in
-      let eights : accountUpdated R C s₁ .eight ≡ not (wellFormed (updatedOf false (recordAt (s .reals) (s .counts) R C))) = a .eight ∙ ap (λ (x : StatisticsAccumulator). not (wellFormed (updatedOf false x))) own in
-      let before : not (wellFormed (updatedOf false (recordAt (s .reals) (s .counts) R C))) ≡ false → not (wellFormed (updatedOf false (recordAt (s₁ .reals) (s₁ .counts) R C))) ≡ false =
-      λ e. ap (λ (x : StatisticsAccumulator). not (wellFormed (updatedOf false x))) own ∙ e in
-      rw (fits .0) (record {
-        within = within-on R (R + 14 + K * (6 * M + 1)) C (C + 7 + K * (3 * M + 2)) (R + 14) (R + 14 + K * (6 * M + 1)) (C + 7) (C + 7 + K * (3 * M + 2)) R (R + 14) C (C + 7) s s₁ s₂
-            (omega arith) (omega arith) (omega arith) (omega arith) (omega arith) (omega arith) (omega arith) (omega arith) inside (a .within);
-        eight = ap₂ _||_ (ap (λ (o : Outcome (List Axis)). o .eight) tied) eights;
-        nine = λ e. let n = no-either (updateAll (axesPlanAt table w) rate (axesFrom M (s .reals) (s .counts) K (R + 14) (C + 7)) .eight) (not (wellFormed (updatedOf false (recordAt (s .reals) (s .counts) R C)))) e in ap₂ _||_ (ap (λ (o : Outcome (List Axis)). o .nine) tied) (a .nine (before (n .1))) ∙ or-false _;
-        reads = λ e x y p q.
-            let n = no-either (updateAll (axesPlanAt table w) rate (axesFrom M (s .reals) (s .counts) K (R + 14) (C + 7)) .eight) (not (wellFormed (updatedOf false (recordAt (s .reals) (s .counts) R C)))) e in
-            let mine = a .reads (before (n .1)) x y (same-within nan R (R + 14 + K * (6 * M + 1)) R (R + 14) (s₂ .reals) x (omega arith) (omega arith) p)
-            (same-within 0 C (C + 7 + K * (3 * M + 2)) C (C + 7) (s₂ .counts) y (omega arith) (omega arith) q) ∙ ap (updatedOf false) own in
-            let on : Same nan (R + 14) (R + 14 + K * (6 * M + 1)) (s₁ .reals) x =
-            same-on nan _ _ (s₁ .reals) (s₂ .reals) x (same-sym nan _ _ (s₂ .reals) (s₁ .reals) (a .within .high (R + 14) (R + 14 + K * (6 * M + 1)) (omega arith)))
-            (same-within nan R (R + 14 + K * (6 * M + 1)) (R + 14) (R + 14 + K * (6 * M + 1)) (s₂ .reals) x (omega arith) (omega arith) p) in
-            let up : Same 0 (C + 7) (C + 7 + K * (3 * M + 2)) (s₁ .counts) y =
-            same-on 0 _ _ (s₁ .counts) (s₂ .counts) y (same-sym 0 _ _ (s₂ .counts) (s₁ .counts) (a .within .many (C + 7) (C + 7 + K * (3 * M + 2)) (omega arith)))
-            (same-within 0 C (C + 7 + K * (3 * M + 2)) (C + 7) (C + 7 + K * (3 * M + 2)) (s₂ .counts) y (omega arith) (omega arith) q) in
-            let all = sym (axes-same M (s₁ .reals) x (s₁ .counts) y K (R + 14) (C + 7) (updates-holding (ruleAt table w) values rate M bound K (R + 14) (C + 7) s ready) on up) ∙ ap (λ (o : Outcome (List Axis)). o .after) tied in
-            rw (mine, all);
-      })
-
--- ---- the accumulators of a bins grid's bins
-
--- what holds at i and beyond it holds from i on
-from-first : (P : ℕ → Type 0) (i j : ℕ) → i ≤ j → P i → (i + 1 ≤ j → P j) → P j
-from-first P i j h p q = pick (eqb j i) refl
-  where
-    pick : (b : Bool) → eqb j i ≡ b → P j
-    pick true e = subst P (sym (eqb-true j i e)) p
-    pick false e = q (let n = eqb-false j i e in omega (arith, h, n))
-
--- whether one of k accumulators from i on may not be kept
-unfoldable badOf : (ℕ → StatisticsAccumulator) → ℕ → ℕ → Bool
-badOf B i zero = false
-badOf B i (suc k) = not (wellFormed (updatedOf false (B i))) || badOf B (i + 1) k
-
-module _ (table : List ℕ) (w : ℕ) where
-  abbrev BR : ℕ
-  BR = getD table (w + 5) 0
-
-  abbrev BC : ℕ
-  BC = getD table (w + 6) 0
-
-  abbrev BN : ℕ
-  BN = getD table (w + 2) 0
-
-  abbrev spot : ℕ → ℕ
-  spot i = BR + 14 + BN + 14 * i
-
-  abbrev place : ℕ → ℕ
-  place i = BC + 7 + 7 * i
-
-  -- what the accumulators from bin i on came to: each is the model's where none is refused
-  record Accounts (B : ℕ → StatisticsAccumulator) (i k : ℕ) (s : Memory) (o : Outcome Memory) : Type 0 where
-    within : Within (spot i) (BR + 14 + 15 * BN) (place i) (BC + 7 + 7 * BN) s (o .after)
-    eight : o .eight ≡ badOf B i k
-    nine : badOf B i k ≡ false → o .nine ≡ false
-    reads : badOf B i k ≡ false → (j : ℕ) → i ≤ j → j < BN → (a : List Float) (b : List ℕ) → Same nan (spot i) (BR + 14 + 15 * BN) (o .after .reals) a
-        → Same 0 (place i) (BC + 7 + 7 * BN) (o .after .counts) b → recordAt a b (spot j) (place j) ≡ updatedOf false (B j)
-
-  accounts-turned : (B : ℕ → StatisticsAccumulator) (k i : ℕ) (s : Memory) → i + k ≡ BN → BR + 14 + 15 * BN ≤ length (s .reals) → BC + 7 + 7 * BN ≤ length (s .counts)
-      → ((j : ℕ) → i ≤ j → j < BN → recordAt (s .reals) (s .counts) (spot j) (place j) ≡ B j) → ((j : ℕ) → i ≤ j → j < BN → wellFormed (B j) ≡ true)
-      → Accounts B i k s (accountsUpdated table w i k s)
-  unfolding accountsUpdated followed badOf accountAfter
-  accounts-turned B zero i s e h k same well =
-      record { within = within-same (spot i) (BR + 14 + 15 * BN) (place i) (BC + 7 + 7 * BN) s; eight = refl; nine = λ q. refl; reads = λ q j x y. absurd (omega arith) }
-  accounts-turned B (suc k) i s e h l same well =
-      let mine = same i (omega arith) (omega arith) in
-      let a = account-turned (spot i) (place i) s (omega arith) (omega arith) (ap wellFormed mine ∙ well i (omega arith) (omega arith)) in
-      let s₁ = accountUpdated (spot i) (place i) s .after in
-      let size : length (s₁ .reals) ≡ length (s .reals) = a .within .low 0 0 (omega arith) .size in
-      let sizes : length (s₁ .counts) ≡ length (s .counts) = a .within .few 0 0 (omega arith) .size in
-      let still : (j : ℕ) → i + 1 ≤ j → j < BN → recordAt (s₁ .reals) (s₁ .counts) (spot j) (place j) ≡ B j =
-      λ j x y. record-same (spot j) (place j) (s₁ .reals) (s .reals) (s₁ .counts) (s .counts) (a .within .high (spot j) (spot j + 14) (omega arith)) (a .within .many (place j) (place j + 7) (omega arith)) ∙ same j (omega arith) y in
-      let r = accounts-turned B k (i + 1) s₁ (omega arith) (omega arith) (omega arith) still (λ j x. well j (omega arith)) in
-      let last = accountsUpdated table w (i + 1) k s₁ .after in
-      let eights : accountUpdated (spot i) (place i) s .eight ≡ not (wellFormed (updatedOf false (B i))) = a .eight ∙ ap (λ (x : StatisticsAccumulator). not (wellFormed (updatedOf false x))) mine in
-      record {
-        within = within-on (spot i) (BR + 14 + 15 * BN) (place i) (BC + 7 + 7 * BN) (spot i) (spot i + 14) (place i) (place i + 7) (spot (i + 1)) (BR + 14 + 15 * BN) (place (i + 1)) (BC + 7 + 7 * BN) s s₁ last
-            (omega arith) (omega arith) (omega arith) (omega arith) (omega arith) (omega arith) (omega arith) (omega arith) (a .within) (r .within);
-        eight = ap₂ _||_ eights (r .eight);
-        nine = λ q. let n = no-either (not (wellFormed (updatedOf false (B i)))) (badOf B (i + 1) k) q in ap₂ _||_ (a .nine (ap (λ (x : StatisticsAccumulator). not (wellFormed (updatedOf false x))) mine ∙ n .0)) (r .nine (n .1));
-        reads = λ q j x y u v p z.
-            let n = no-either (not (wellFormed (updatedOf false (B i)))) (badOf B (i + 1) k) q in
-            let first : recordAt u v (spot i) (place i) ≡ updatedOf false (B i) =
-            a .reads (ap (λ (x : StatisticsAccumulator). not (wellFormed (updatedOf false x))) mine ∙ n .0) u v
-            (same-on nan (spot i) (spot i + 14) (s₁ .reals) (last .reals) u (same-sym nan (spot i) (spot i + 14) (last .reals) (s₁ .reals) (r .within .low (spot i) (spot i + 14) (omega arith)))
-            (same-within nan (spot i) (BR + 14 + 15 * BN) (spot i) (spot i + 14) (last .reals) u (omega arith) (omega arith) p))
-            (same-on 0 (place i) (place i + 7) (s₁ .counts) (last .counts) v (same-sym 0 (place i) (place i + 7) (last .counts) (s₁ .counts) (r .within .few (place i) (place i + 7) (omega arith)))
-            (same-within 0 (place i) (BC + 7 + 7 * BN) (place i) (place i + 7) (last .counts) v (omega arith) (omega arith) z)) ∙ ap (updatedOf false) mine in
-            let others : i + 1 ≤ j → recordAt u v (spot j) (place j) ≡ updatedOf false (B j) =
-            λ g. r .reads (n .1) j g y u v (same-within nan (spot i) (BR + 14 + 15 * BN) (spot (i + 1)) (BR + 14 + 15 * BN) (last .reals) u (omega arith) (omega arith) p)
-            (same-within 0 (place i) (BC + 7 + 7 * BN) (place (i + 1)) (BC + 7 + 7 * BN) (last .counts) v (omega arith) (omega arith) z) in
-            from-first (λ (m : ℕ). recordAt u v (spot m) (place m) ≡ updatedOf false (B m)) i j x first others;
-      }
-
-  -- ---- its own: probabilities and accumulator
-
-  abbrev ratio : Float
-  ratio = ofBits binary64 (getD table (w + 3) 0)
-
-  abbrev chances : Memory → List Float
-  chances s = adaptedTo ratio (rawsIn table s w 0 BN)
-
-  raws-length : (s : Memory) (i k : ℕ) → length (rawsIn table s w i k) ≡ k
-  unfolding rawsIn
-  raws-length s i zero = refl
-  raws-length s i (suc k) = ap suc (raws-length s (i + 1) k)
-
-  chances-length : (s : Memory) → length (chances s) ≡ BN
-  unfolding adaptedTo
-  chances-length s =
-      let rs = rawsIn table s w 0 BN in
-      let qs = map (raisedTo (div binary64 (highest zero64 rs) ratio)) rs in
-      length-map qs (shareOf (totalOf zero64 qs)) ∙ length-map rs (raisedTo (div binary64 (highest zero64 rs) ratio)) ∙ raws-length s 0 BN
-
-  record Own (own : StatisticsAccumulator) (ps : List Float) (s : Memory) (o : Outcome Memory) : Type 0 where
-    within : Within BR (BR + 14 + BN) BC (BC + 7) s (o .after)
-    eight : o .eight ≡ not (wellFormed (updatedOf false own))
-    nine : not (wellFormed (updatedOf false own)) ≡ false → o .nine ≡ not (allChances ps)
-    reads : not (wellFormed (updatedOf false own)) ≡ false → (a : List Float) (b : List ℕ) → Same nan BR (BR + 14 + BN) (o .after .reals) a → Same 0 BC (BC + 7) (o .after .counts) b
-        → recordAt a b BR BC ≡ updatedOf false own
-    shares : (a : List Float) → Same nan BR (BR + 14 + BN) (o .after .reals) a → (q : ℕ) → q < BN → getD a (BR + 14 + q) nan ≡ getD ps q nan
-
-  own-turned : (own : StatisticsAccumulator) (s : Memory) → BR + 14 + 15 * BN ≤ length (s .reals) → BC + 7 + 7 * BN ≤ length (s .counts) → recordAt (s .reals) (s .counts) BR BC ≡ own → wellFormed own ≡ true
-      → Own own (chances s) s (followed (chancesAdapted table w s) (accountUpdated BR BC))
-  unfolding followed chancesAdapted chancesLaid accountAfter
-  own-turned own s h k e well =
-      let ps = chances s in
-      let n = chances-length s in
-      let s₁ = memory (put (BR + 14) (length ps) ps (s .reals)) (s .counts) in
-      let size : length (s₁ .reals) ≡ length (s .reals) = length-put (BR + 14) (length ps) ps (s .reals) (omega arith) refl in
-      let laid : Within (BR + 14) (BR + 14 + BN) BC (BC + 7) s s₁ =
-      record {
-        low = λ lo hi x. same-put-above nan lo hi (BR + 14) (length ps) ps (s .reals) (omega arith) refl x;
-        high = λ lo hi x. same-put-below nan lo hi (BR + 14) (length ps) ps (s .reals) (omega arith) refl (omega arith);
-        few = λ lo hi x. same-refl 0 lo hi (s .counts);
-        many = λ lo hi x. same-refl 0 lo hi (s .counts);
-      } in
-      let mine : recordAt (s₁ .reals) (s₁ .counts) BR BC ≡ own = record-same BR BC (s₁ .reals) (s .reals) (s₁ .counts) (s .counts) (laid .low BR (BR + 14) (omega arith)) (same-refl 0 BC (BC + 7) (s .counts)) ∙ e in
-      let a = account-turned BR BC s₁ (omega arith) (omega arith) (ap wellFormed mine ∙ well) in
-      let s₂ = accountUpdated BR BC s₁ .after in
-      let keeps : not (wellFormed (updatedOf false own)) ≡ false → not (wellFormed (updatedOf false (recordAt (s₁ .reals) (s₁ .counts) BR BC))) ≡ false = λ x. ap (λ (z : StatisticsAccumulator). not (wellFormed (updatedOf false z))) mine ∙ x in
-      record {
-        within = within-on BR (BR + 14 + BN) BC (BC + 7) (BR + 14) (BR + 14 + BN) BC (BC + 7) BR (BR + 14) BC (BC + 7) s s₁ s₂ (omega arith) (omega arith) (omega arith) (omega arith) (omega arith) (omega arith) (omega arith) (omega arith) laid (a .within);
-        eight = a .eight ∙ ap (λ (z : StatisticsAccumulator). not (wellFormed (updatedOf false z))) mine;
-        nine = λ x. ap (λ (z : Bool). not (allChances ps) || z) (a .nine (keeps x)) ∙ or-false (not (allChances ps));
-        reads = λ x u v p q. a .reads (keeps x) u v (same-within nan BR (BR + 14 + BN) BR (BR + 14) (s₂ .reals) u (omega arith) (omega arith) p) q ∙ ap (updatedOf false) mine;
-        shares = λ u p q l.
-            sym (p .cells (BR + 14 + q) (omega arith) (omega arith)) ∙ a .within .high (BR + 14) (BR + 14 + BN) (omega arith) .cells (BR + 14 + q) (omega arith) (omega arith)
-            ∙ getD-put-in nan (BR + 14) (length ps) q ps (s .reals) (omega arith) (omega arith);
-      }
-
--- ---- bins over what hangs there
-
-unfoldable overlaid : (ℕ → model.Bin) → ℕ → List model.Child → model.Bins
-overlaid bin i [] = model.none
-overlaid bin i (c ∷ cs) = model.more (bin i) c (overlaid bin (i + 1) cs)
-
-overlaid-same : (bin bin′ : ℕ → model.Bin) (i n : ℕ) (cs : List model.Child) → i + length cs ≡ n → ((j : ℕ) → i ≤ j → j < n → bin j ≡ bin′ j) → overlaid bin i cs ≡ overlaid bin′ i cs
-unfolding overlaid
-overlaid-same bin bin′ i n [] e h = refl
-overlaid-same bin bin′ i n (c ∷ cs) e h = rw (h i (omega arith) (omega arith), overlaid-same bin bin′ (i + 1) n cs (omega arith) (λ j x. h j (omega arith)))
-
-overlaid-chances : (bin bin′ : ℕ → model.Bin) (i : ℕ) (cs : List model.Child) (ps : List Float) → length ps ≡ length cs
-    → ((q : ℕ) → q < length cs → bin′ (i + q) ≡ record { probability = getD ps q nan; own = bin (i + q) .own }) → withProbabilities (overlaid bin i cs) ps ≡ overlaid bin′ i cs
-unfolding overlaid withProbabilities
-overlaid-chances bin bin′ i [] ps e h = refl
-overlaid-chances bin bin′ i (c ∷ cs) [] e h = absurd (omega arith)
-overlaid-chances bin bin′ i (c ∷ cs) (p ∷ ps) e h =
-    let z : i + 0 ≡ i = omega arith in
-    let first : bin′ i ≡ record { probability = p; own = bin i .own } = subst (λ (j : ℕ). bin′ j ≡ record { probability = p; own = bin j .own }) z (h 0 (omega arith)) in
-    let rest = overlaid-chances bin bin′ (i + 1) cs ps (omega arith) (λ q x.
-    let y : i + suc q ≡ i + 1 + q = omega arith in
-    subst (λ (j : ℕ). bin′ j ≡ record { probability = getD ps q nan; own = bin j .own }) y (h (suc q) (omega arith))) in
-    rw (first, rest)
-
-or-shuffle : (a x b y : Bool) → ((a || x) || (b || y)) ≡ ((a || b) || (x || y))
-or-shuffle true x b y = refl
-or-shuffle false true true y = refl
-or-shuffle false true false y = refl
-or-shuffle false false b y = refl
-
-module _ (f : ℕ → model.Grid) (table : List ℕ) (reals : List Float) (counts : List ℕ) (w : ℕ) where
-  bins-overlaid : (i n : ℕ) → binsIn f table reals counts w i n ≡ overlaid (binIn table reals counts w) i (freshChildren f table w i n)
-  unfolding overlaid binsIn freshChildren
-  bins-overlaid i zero = refl
-  bins-overlaid i (suc n) = rw (bins-overlaid (i + 1) n)
-
-  idle-read : (i n : ℕ) → idleIn table (memory reals counts) w i n ≡ allIdle (averagesAt table w) (binsIn f table reals counts w i n)
-  unfolding idleIn binsIn allIdle
-  idle-read i zero = refl
-  idle-read i (suc n) = rw (idle-read (i + 1) n)
-
-  raws-read : (i n : ℕ) → rawsIn table (memory reals counts) w i n ≡ raws (averagesAt table w) (binsIn f table reals counts w i n)
-  unfolding rawsIn binsIn raws
-  raws-read i zero = refl
-  raws-read i (suc n) = rw (raws-read (i + 1) n)
-
-  module _ (binsRate axesRate : Float) where
-    abbrev step : ℕ → Outcome model.Grid
-    step at = updateGrid binsRate axesRate (f at)
-
-    abbrev after-bin : ℕ → model.Bin
-    after-bin j = model.withBin (binIn table reals counts w j) (updatedOf false (binIn table reals counts w j .own))
-
-    child-updated : (at : ℕ) → updateChild binsRate axesRate (childIn f at) ≡ childAfter step at
-    unfolding childIn childAfter updateChild
-    child-updated at = pick (eqb at 0)
-      where
-        pick : (b : Bool) → updateChild binsRate axesRate (cond b model.nothing (model.grid (f at))) ≡ cond b (record { eight = false; nine = false; after = model.nothing }) (nested (step at))
-        pick true = refl
-        pick false = refl
-
-    -- the bins' update is the children's and the accumulators'
-    bins-updated : (i n : ℕ) → updateBins binsRate axesRate (binsIn f table reals counts w i n) ≡ record {
-      eight = childrenAfter step table w i n .eight || badOf (λ (j : ℕ). binIn table reals counts w j .own) i n;
-      nine = childrenAfter step table w i n .nine;
-      after = overlaid after-bin i (childrenAfter step table w i n .after);
-    }
-    unfolding binsIn updateBins childrenAfter badOf overlaid
-    bins-updated i zero = refl
-    bins-updated i (suc n) =
-        rw (child-updated (getD table (w + 7 + i) 0), bins-updated (i + 1) n,
-        or-shuffle (childAfter step (getD table (w + 7 + i) 0) .eight) (not (wellFormed (updatedOf false (binIn table reals counts w i .own)))) (childrenAfter step table w (i + 1) n .eight) (badOf (λ (j : ℕ). binIn table reals counts w j .own) (i + 1) n))
-
-    after-length : (i n : ℕ) → length (childrenAfter step table w i n .after) ≡ n
-    unfolding childrenAfter
-    after-length i zero = refl
-    after-length i (suc n) = ap suc (after-length (i + 1) n)
+use Rattle.plan.specs.declared.AxesPlan as planned
+use Rattle.grid.proofs.AdaptedOwn.{from-first, badOf, BR, BC, BN, spot, place, Accounts, accounts-turned, overlaid, overlaid-same, bins-overlaid, after-length, overlaid-chances, idle-read, raws-read, bins-updated, after-bin, chances, chances-length, Own, own-turned, axes-turned}
 
 -- ---- a sound bins grid: its own, its bins and what hangs there
 
@@ -382,6 +68,35 @@ module _ (f : ℕ → model.Grid) (table : List ℕ) (reals : List Float) (count
 
   sound-hung : (b : model.Bin) (link : ℕ) → link ≢ 0 → soundBin b (childIn f link) ≡ true → sound (f link) ≡ true
   sound-hung b link z e = both (chance (b .probability) && wellFormed (b .own)) (sound (f link)) (sym (child-grid f b link z) ∙ e) .1
+
+-- the same bounds, step and grid under other names
+turned-at : {X : Type 0} {r e c d r₁ e₁ c₁ d₁ : ℕ} {s : Memory} {o o₁ : Outcome Memory} {read read₁ : List Float → List ℕ → X} {m m₁ : Outcome X} → r ≡ r₁ → e ≡ e₁ → c ≡ c₁ → d ≡ d₁ → o ≡ o₁
+    → ((a : List Float) (b : List ℕ) → read₁ a b ≡ read a b) → m ≡ m₁ → Turned r e c d s o read m → Turned r₁ e₁ c₁ d₁ s o₁ read₁ m₁
+turned-at {X} {r} {e} {c} {d} {r₁} {e₁} {c₁} {d₁} {s} {o} {o₁} {read} {read₁} {m} {m₁} i j k l p n q t =
+    let t₁ : Turned r e c d s o read₁ m = record { within = t .within; eight = t .eight; nine = t .nine; reads = λ z a b x y. n a b ∙ t .reads z a b x y } in
+    subst (λ (z : ℕ). Turned z e₁ c₁ d₁ s o₁ read₁ m₁) i
+    (subst (λ (z : ℕ). Turned r z c₁ d₁ s o₁ read₁ m₁) j
+    (subst (λ (z : ℕ). Turned r e z d₁ s o₁ read₁ m₁) k
+    (subst (λ (z : ℕ). Turned r e c z s o₁ read₁ m₁) l
+    (subst (λ (z : Outcome Memory). Turned r e c d s z read₁ m₁) p
+    (subst (λ (z : Outcome X). Turned r e c d s o read₁ z) q t₁)))))
+
+-- ---- an 8 found in the bins stays one
+
+adapted-eight : (rate : Float) (h : model.Head) (o : Outcome model.Bins) → o .eight ≡ true → adaptedBins rate h o .eight ≡ true
+unfolding adaptedBins
+adapted-eight rate h o e = pick (eq rate zero64 || allIdle (h .averages) (o .after))
+  where
+    ps : List Float
+    ps = adaptedTo (h .ratio) (raws (h .averages) (o .after))
+
+    a : StatisticsAccumulator
+    a = updatedOf false (h .own)
+
+    pick : (b : Bool) → cond {A = Outcome model.Grid} b (record { eight = o .eight; nine = o .nine; after = model.bins h (o .after) })
+        (record { eight = o .eight || not (wellFormed a); nine = o .nine || not (allChances ps); after = model.bins (model.withHead h a) (withProbabilities (o .after) ps) }) .eight ≡ true
+    pick true = e
+    pick false = rw e
 
 -- ---- the tree
 
@@ -417,6 +132,10 @@ module _ (xs : List ℕ) (binsRate axesRate : Float) where
 
     abbrev B : ℕ → StatisticsAccumulator
     B j = binIn xs (s .reals) (s .counts) w j .own
+
+    node-held : (getD xs w 0 ≡ 1 → ⊥) → gridAt (suc l) xs (s .reals) (s .counts) w ≡ model.bins head held
+    unfolding gridAt nodeAt
+    node-held k = rw (ne-eqb (getD xs w 0) 1 k)
 
     module _ (well : sound (model.bins head held) ≡ true) where
       parts : (wellFormed (head .own) ≡ true) × (soundBins held ≡ true)
@@ -466,3 +185,285 @@ module _ (xs : List ℕ) (binsRate axesRate : Float) where
           children-turned xs l (updatedIn l xs binsRate axesRate) (λ (at : ℕ) (g : model.Grid). updateGrid binsRate axesRate g) (λ (at : ℕ) (g : model.Grid). sound g ≡ true) formed deeper
           b ts y st G N 0 own s (omega (arith, p .number)) (before-none ts own) (p .up) (p .on) room places
           (λ j h k z. sound-hung G xs (s .reals) (s .counts) w (binIn xs (s .reals) (s .counts) w j) (getD xs (w + 7 + j) 0) z (each j (omega (arith, k, p .number)))) (λ j h k z. refl)
+
+      abbrev R : ℕ
+      R = BR xs w
+
+      abbrev C : ℕ
+      C = BC xs w
+
+      size₁ : (length (s₁ .reals) ≡ length (s .reals)) × (length (s₁ .counts) ≡ length (s .counts))
+      size₁ = (turned-children .within .low 0 0 (omega arith) .size, turned-children .within .few 0 0 (omega arith) .size)
+
+      turned-accounts : Accounts xs w B 0 N s₁ accounts
+      unfolding binIn
+      turned-accounts =
+          let p = laid in
+          let c = turned-children in
+          let e = p .ends in
+          let f = p .stops in
+          let g = p .up in
+          let h = p .on in
+          let n = size₁ in
+          accounts-turned xs w B N 0 s₁ (omega arith) (omega (arith, n .0)) (omega (arith, n .1))
+          (λ j x k. record-same (spot xs w j) (place xs w j) (s₁ .reals) (s .reals) (s₁ .counts) (s .counts) (c .within .low (spot xs w j) (spot xs w j + 14) (omega arith)) (c .within .few (place xs w j) (place xs w j + 7) (omega arith)))
+          (λ j x k. sound-own G xs (s .reals) (s .counts) w (binIn xs (s .reals) (s .counts) w j) (childIn G (getD xs (w + 7 + j) 0)) (each j k))
+
+      size₂ : (length (s₂ .reals) ≡ length (s .reals)) × (length (s₂ .counts) ≡ length (s .counts))
+      size₂ = (turned-accounts .within .low 0 0 (omega arith) .size ∙ size₁ .0, turned-accounts .within .few 0 0 (omega arith) .size ∙ size₁ .1)
+
+      -- what lies below the bins' accumulators is as it was
+      below-reals : (lo hi : ℕ) → hi ≤ R + 14 + N → Same nan lo hi (s₂ .reals) (s .reals)
+      below-reals lo hi h =
+          let p = laid .ends in
+          same-on nan lo hi (s₂ .reals) (s₁ .reals) (s .reals) (turned-accounts .within .low lo hi (omega arith)) (turned-children .within .low lo hi (omega arith))
+
+      below-counts : (lo hi : ℕ) → hi ≤ C + 7 → Same 0 lo hi (s₂ .counts) (s .counts)
+      below-counts lo hi h =
+          let p = laid .stops in
+          same-on 0 lo hi (s₂ .counts) (s₁ .counts) (s .counts) (turned-accounts .within .few lo hi (omega arith)) (turned-children .within .few lo hi (omega arith))
+
+      own-there : recordAt (s₂ .reals) (s₂ .counts) R C ≡ head .own
+      unfolding headAt
+      own-there = record-same R C (s₂ .reals) (s .reals) (s₂ .counts) (s .counts) (below-reals R (R + 14) (omega arith)) (below-counts C (C + 7) (omega arith))
+
+      within-all-of : (f : Memory) → Within R (R + 14 + N) C (C + 7) s₂ f → Within (y .reals) (end .reals) (y .counts) (end .counts) s f
+      within-all-of f i =
+          let p = laid in
+          let e = p .ends in
+          let g = p .stops in
+          let u = p .up in
+          let v = p .on in
+          let rr = p .reals in
+          let cc = p .counts in
+          within-on (y .reals) (end .reals) (y .counts) (end .counts) R (end .reals) C (end .counts) R (R + 14 + N) C (C + 7) s s₂ f (omega arith) (omega arith) (omega arith) (omega arith) (omega arith) (omega arith) (omega arith) (omega arith)
+          (within-on R (end .reals) C (end .counts) (own .reals) (end .reals) (own .counts) (end .counts) (spot xs w 0) (R + 14 + 15 * N) (place xs w 0) (C + 7 + 7 * N) s s₁ s₂ (omega arith) (omega arith) (omega arith) (omega arith)
+          (omega arith) (omega arith) (omega arith) (omega arith) (turned-children .within) (turned-accounts .within)) i
+
+      -- bins with these probabilities, updated, over what hangs there after its own update
+      abbrev turned-bins : (ℕ → Float) → model.Bins
+      turned-bins ps = overlaid (λ (j : ℕ). record { probability = ps j; own = updatedOf false (B j) }) 0 (hung .after)
+
+      module _ (f : Memory) (inside : Within R (R + 14 + N) C (C + 7) s₂ f) (a : List Float) (z : List ℕ) (p : Same nan (y .reals) (end .reals) (f .reals) a) (q : Same 0 (y .counts) (end .counts) (f .counts) z)
+          (fine : hung .eight ≡ false) (good : badOf B 0 N ≡ false) where
+        children-there : freshChildren (gridAt l xs a z) xs w 0 N ≡ hung .after
+        children-there =
+            let e = laid .ends in
+            let g = laid .stops in
+            let rr = laid .reals in
+            let cc = laid .counts in
+            turned-children .reads fine a z
+            (same-on nan (own .reals) (end .reals) (s₁ .reals) (s₂ .reals) a (same-sym nan (own .reals) (end .reals) (s₂ .reals) (s₁ .reals) (turned-accounts .within .high (own .reals) (end .reals) (omega arith)))
+            (same-on nan (own .reals) (end .reals) (s₂ .reals) (f .reals) a (same-sym nan (own .reals) (end .reals) (f .reals) (s₂ .reals) (inside .high (own .reals) (end .reals) (omega arith)))
+            (same-within nan (y .reals) (end .reals) (own .reals) (end .reals) (f .reals) a (omega arith) (omega arith) p)))
+            (same-on 0 (own .counts) (end .counts) (s₁ .counts) (s₂ .counts) z (same-sym 0 (own .counts) (end .counts) (s₂ .counts) (s₁ .counts) (turned-accounts .within .many (own .counts) (end .counts) (omega arith)))
+            (same-on 0 (own .counts) (end .counts) (s₂ .counts) (f .counts) z (same-sym 0 (own .counts) (end .counts) (f .counts) (s₂ .counts) (inside .many (own .counts) (end .counts) (omega arith)))
+            (same-within 0 (y .counts) (end .counts) (own .counts) (end .counts) (f .counts) z (omega arith) (omega arith) q)))
+
+        accounts-there : (j : ℕ) → j < N → recordAt a z (spot xs w j) (place xs w j) ≡ updatedOf false (B j)
+        accounts-there j h =
+            let e = laid .ends in
+            let g = laid .stops in
+            let u = laid .up in
+            let v = laid .on in
+            let rr = laid .reals in
+            let cc = laid .counts in
+            turned-accounts .reads good j (omega arith) h a z
+            (same-on nan (spot xs w 0) (R + 14 + 15 * N) (s₂ .reals) (f .reals) a (same-sym nan (spot xs w 0) (R + 14 + 15 * N) (f .reals) (s₂ .reals) (inside .high (spot xs w 0) (R + 14 + 15 * N) (omega arith)))
+            (same-within nan (y .reals) (end .reals) (spot xs w 0) (R + 14 + 15 * N) (f .reals) a (omega arith) (omega arith) p))
+            (same-on 0 (place xs w 0) (C + 7 + 7 * N) (s₂ .counts) (f .counts) z (same-sym 0 (place xs w 0) (C + 7 + 7 * N) (f .counts) (s₂ .counts) (inside .many (place xs w 0) (C + 7 + 7 * N) (omega arith)))
+            (same-within 0 (y .counts) (end .counts) (place xs w 0) (C + 7 + 7 * N) (f .counts) z (omega arith) (omega arith) q))
+
+        bins-there : (ps : ℕ → Float) → ((j : ℕ) → j < N → getD a (R + 14 + j) nan ≡ ps j) → binsIn (gridAt l xs a z) xs a z w 0 N ≡ turned-bins ps
+        unfolding binIn
+        bins-there ps g =
+            bins-overlaid (gridAt l xs a z) xs a z w 0 N ∙ ap (overlaid (binIn xs a z w) 0) children-there
+            ∙ overlaid-same (binIn xs a z w) (λ (j : ℕ). record { probability = ps j; own = updatedOf false (B j) }) 0 N (hung .after) (omega (arith, after-length G xs (s .reals) (s .counts) w binsRate axesRate 0 N))
+            (λ j x k. ap₂ (λ (c : Float) (r : StatisticsAccumulator). record { probability = c; own = r }) (g j k) (accounts-there j k))
+
+        node-there : (o : StatisticsAccumulator) (ps : ℕ → Float) → recordAt a z R C ≡ o → ((j : ℕ) → j < N → getD a (R + 14 + j) nan ≡ ps j)
+            → gridAt (suc l) xs a z w ≡ model.bins (model.withHead head o) (turned-bins ps)
+        unfolding gridAt nodeAt headAt model.withHead
+        node-there o ps e g =
+            let k : getD xs w 0 ≡ 1 → ⊥ = λ x. absurd (omega (arith, bins-record xs (suc l) b ts y st .kind)) in
+            rw (ne-eqb (getD xs w 0) 1 k, e, bins-there ps g)
+
+      abbrev updated : Outcome model.Bins
+      updated = updateBins binsRate axesRate held
+
+      split : updated ≡ record { eight = hung .eight || badOf B 0 N; nine = hung .nine; after = overlaid (after-bin G xs (s .reals) (s .counts) w binsRate axesRate) 0 (hung .after) }
+      split = bins-updated G xs (s .reals) (s .counts) w binsRate axesRate 0 N
+
+      eights : (children .eight || accounts .eight) ≡ updated .eight
+      eights = ap₂ _||_ (turned-children .eight) (turned-accounts .eight) ∙ sym (ap (λ (o : Outcome model.Bins). o .eight) split)
+
+      abbrev model-after : Outcome model.Grid
+      model-after = adaptedBins binsRate head updated
+
+      abbrev step-after : Outcome Memory
+      step-after = followed (followed children (accountsUpdated xs w 0 N)) (binsAdapted xs binsRate w)
+
+      abbrev Whole : Outcome Memory → Outcome model.Grid → Type 0
+      Whole o m = Turned (y .reals) (end .reals) (y .counts) (end .counts) s o (λ (a : List Float) (z : List ℕ). gridAt (suc l) xs a z w) m
+
+      -- the probabilities as they were
+      abbrev chance-of : ℕ → Float
+      chance-of j = binIn xs (s .reals) (s .counts) w j .probability
+
+      own-step : Own xs w (head .own) (chances xs w s₂) s₂ (followed (chancesAdapted xs w s₂) (accountUpdated R C))
+      own-step =
+          let e = laid .ends in
+          let g = laid .stops in
+          let u = laid .up in
+          let v = laid .on in
+          own-turned xs w (head .own) s₂ (omega (arith, size₂ .0)) (omega (arith, size₂ .1)) own-there (parts .0)
+
+      -- an 8 was found below: the rest may come to what it will
+      found-below : updated .eight ≡ true → Whole step-after model-after
+      unfolding followed binsAdapted
+      found-below e =
+          let m : model-after .eight ≡ true = adapted-eight binsRate head updated e in
+          record {
+            within = within-all-of _ (step-within (eq binsRate zero64 || idleIn xs s₂ w 0 N));
+            eight = ap (λ (x : Bool). x || binsAdapted xs binsRate w s₂ .eight) (eights ∙ e) ∙ sym m;
+            nine = λ q. absurd (true≢false (sym m ∙ q));
+            reads = λ q. absurd (true≢false (sym m ∙ q));
+          }
+        where
+          step-within : (b : Bool) → Within R (R + 14 + N) C (C + 7) s₂ (cond b (finding false false s₂) (followed (chancesAdapted xs w s₂) (accountUpdated R C)) .after)
+          step-within true = within-same R (R + 14 + N) C (C + 7) s₂
+          step-within false = own-step .within
+
+      module _ (none : updated .eight ≡ false) where
+        clean : (hung .eight ≡ false) × (badOf B 0 N ≡ false)
+        clean = no-either (hung .eight) (badOf B 0 N) (sym (ap (λ (o : Outcome model.Bins). o .eight) split) ∙ none)
+
+        there : binsIn (gridAt l xs (s₂ .reals) (s₂ .counts)) xs (s₂ .reals) (s₂ .counts) w 0 N ≡ updated .after
+        unfolding binIn model.withBin
+        there =
+            bins-there s₂ (within-same R (R + 14 + N) C (C + 7) s₂) (s₂ .reals) (s₂ .counts) (same-refl nan (y .reals) (end .reals) (s₂ .reals)) (same-refl 0 (y .counts) (end .counts) (s₂ .counts)) (clean .0) (clean .1)
+            chance-of (λ j h. below-reals (R + 14 + j) (R + 14 + j + 1) (omega arith) .cells (R + 14 + j) (omega arith) (omega arith)) ∙ sym (ap (λ (o : Outcome model.Bins). o .after) split)
+
+        early : (eq binsRate zero64 || idleIn xs s₂ w 0 N) ≡ (eq binsRate zero64 || allIdle (head .averages) (updated .after))
+        unfolding headAt
+        early = ap (λ (b : Bool). eq binsRate zero64 || b) (idle-read (gridAt l xs (s₂ .reals) (s₂ .counts)) xs (s₂ .reals) (s₂ .counts) w 0 N ∙ ap (allIdle (averagesAt xs w)) there)
+
+        shared : chances xs w s₂ ≡ adaptedTo (head .ratio) (raws (head .averages) (updated .after))
+        unfolding headAt
+        shared = ap (adaptedTo (head .ratio)) (raws-read (gridAt l xs (s₂ .reals) (s₂ .counts)) xs (s₂ .reals) (s₂ .counts) w 0 N ∙ ap (raws (averagesAt xs w)) there)
+
+        nines : (children .nine || accounts .nine) ≡ updated .nine
+        nines = ap₂ _||_ (turned-children .nine (clean .0)) (turned-accounts .nine (clean .1)) ∙ or-false (hung .nine) ∙ sym (ap (λ (o : Outcome model.Bins). o .nine) split)
+
+        -- an early return
+        returned : (eq binsRate zero64 || allIdle (head .averages) (updated .after)) ≡ true → Whole step-after model-after
+        unfolding followed binsAdapted adaptedBins binIn model.withBin model.withHead
+        returned e =
+            rw (early, e) (record {
+              within = within-all-of s₂ (within-same R (R + 14 + N) C (C + 7) s₂);
+              eight = or-false (children .eight || accounts .eight) ∙ eights;
+              nine = λ q. or-false (children .nine || accounts .nine) ∙ nines;
+              reads = λ q a z x v.
+                  let rr = laid .reals in
+                  let cc = laid .counts in
+                  let e₁ = laid .ends in
+                  let e₂ = laid .stops in
+                  let u₁ = laid .up in
+                  let u₂ = laid .on in
+                  node-there s₂ (within-same R (R + 14 + N) C (C + 7) s₂) a z x v (clean .0) (clean .1) (head .own) chance-of
+                  (record-same R C a (s₂ .reals) z (s₂ .counts) (same-sym nan R (R + 14) (s₂ .reals) a (same-within nan (y .reals) (end .reals) R (R + 14) (s₂ .reals) a (omega arith) (omega arith) x))
+                  (same-sym 0 C (C + 7) (s₂ .counts) z (same-within 0 (y .counts) (end .counts) C (C + 7) (s₂ .counts) z (omega arith) (omega arith) v)) ∙ own-there)
+                  (λ j h. sym (x .cells (R + 14 + j) (omega arith) (omega arith)) ∙ below-reals (R + 14 + j) (R + 14 + j + 1) (omega arith) .cells (R + 14 + j) (omega arith) (omega arith))
+                  ∙ ap (model.bins head) (sym (ap (λ (o : Outcome model.Bins). o .after) split));
+            })
+
+        -- probabilities and own accumulator
+        adapted : (eq binsRate zero64 || allIdle (head .averages) (updated .after)) ≡ false → Whole step-after model-after
+        unfolding followed binsAdapted adaptedBins binIn model.withBin
+        adapted e =
+            let f = followed (chancesAdapted xs w s₂) (accountUpdated R C) .after in
+            let ps = chances xs w s₂ in
+            rw (early, e) (record {
+              within = within-all-of f (own-step .within);
+              eight = ap₂ _||_ eights (own-step .eight);
+              nine = λ q. ap₂ _||_ nines (own-step .nine (no-either (updated .eight) (not (wellFormed (updatedOf false (head .own)))) q .1) ∙ ap (λ (z : List Float). not (allChances z)) shared);
+              reads = λ q a z x v.
+                  let rr = laid .reals in
+                  let cc = laid .counts in
+                  let e₁ = laid .ends in
+                  let e₂ = laid .stops in
+                  let u₁ = laid .up in
+                  let u₂ = laid .on in
+                  let low = same-within nan (y .reals) (end .reals) R (R + 14 + N) (f .reals) a (omega arith) (omega arith) x in
+                  node-there f (own-step .within) a z x v (clean .0) (clean .1) (updatedOf false (head .own)) (λ (j : ℕ). getD ps j nan)
+                  (own-step .reads (no-either (updated .eight) (not (wellFormed (updatedOf false (head .own)))) q .1) a z low (same-within 0 (y .counts) (end .counts) C (C + 7) (f .counts) z (omega arith) (omega arith) v))
+                  (λ j h. own-step .shares a low j h)
+                  ∙ ap (model.bins (model.withHead head (updatedOf false (head .own)))) (chances-in ∙ ap₂ withProbabilities (sym (ap (λ (o : Outcome model.Bins). o .after) split)) shared);
+            })
+          where
+            chances-in : turned-bins (λ (j : ℕ). getD (chances xs w s₂) j nan) ≡ withProbabilities (overlaid (after-bin G xs (s .reals) (s .counts) w binsRate axesRate) 0 (hung .after)) (chances xs w s₂)
+            chances-in =
+                let ps = chances xs w s₂ in
+                sym (overlaid-chances (after-bin G xs (s .reals) (s .counts) w binsRate axesRate) (λ (j : ℕ). record { probability = getD ps j nan; own = updatedOf false (B j) }) 0 (hung .after) ps
+                (chances-length xs w s₂ ∙ sym (after-length G xs (s .reals) (s .counts) w binsRate axesRate 0 N))
+                (λ q h. let z : 0 + q ≡ q = omega arith in ap (λ (m : ℕ). record { probability = getD ps m nan; own = updatedOf false (B (0 + q)) }) z))
+
+      bins-whole : Whole step-after model-after
+      bins-whole = pick (updated .eight) refl
+        where
+          chosen : updated .eight ≡ false → (b : Bool) → (eq binsRate zero64 || allIdle (head .averages) (updated .after)) ≡ b → Whole step-after model-after
+          chosen n true e = returned n e
+          chosen n false e = adapted n e
+
+          pick : (b : Bool) → updated .eight ≡ b → Whole step-after model-after
+          pick true e = found-below e
+          pick false e = chosen e (eq binsRate zero64 || allIdle (head .averages) (updated .after)) refl
+
+    bins-turned : sound (gridAt (suc l) xs (s .reals) (s .counts) w) ≡ true
+        → Turned (y .reals) (end .reals) (y .counts) (end .counts) s (updatedIn (suc l) xs binsRate axesRate w s) (λ (a : List Float) (z : List ℕ). gridAt (suc l) xs a z w)
+        (updateGrid binsRate axesRate (gridAt (suc l) xs (s .reals) (s .counts) w))
+    unfolding updatedIn nodeUpdated updateGrid
+    bins-turned well =
+        let k : getD xs w 0 ≡ 1 → ⊥ = λ x. absurd (omega (arith, bins-record xs (suc l) b ts y st .kind)) in
+        let node = node-held k in
+        let one = bins-whole (sym (ap sound node) ∙ well) in
+        rw (ne-eqb (getD xs w 0) 1 k) (subst (λ (g : model.Grid). Turned (y .reals) (end .reals) (y .counts) (end .counts) s
+        (followed (followed (childrenTurned (updatedIn l xs binsRate axesRate) xs w 0 N s) (accountsUpdated xs w 0 N)) (binsAdapted xs binsRate w)) (λ (a : List Float) (z : List ℕ). gridAt (suc l) xs a z w)
+        (updateGrid binsRate axesRate g)) (sym node) one)
+
+  axes-updates : (l : ℕ) (a : planned.AxesPlan) (es : List ℕ) (y : Tally) (s : Memory) → Stands xs l (axes a es) y → after (axes a es) y .reals ≤ length (s .reals) → after (axes a es) y .counts ≤ length (s .counts)
+      → sound (gridAt l xs (s .reals) (s .counts) (y .words)) ≡ true
+      → Turned (y .reals) (after (axes a es) y .reals) (y .counts) (after (axes a es) y .counts) s (updatedIn l xs binsRate axesRate (y .words) s) (λ (u : List Float) (v : List ℕ). gridAt l xs u v (y .words))
+      (updateGrid binsRate axesRate (gridAt l xs (s .reals) (s .counts) (y .words)))
+  unfolding after axesTaken axesReals axesCounts axesRow updateGrid
+  axes-updates l a es y s st h k well =
+      let w = y .words in
+      let m = axes-record xs l a es y st in
+      let lies = laid-axes l xs (length (s .reals)) (length (s .counts)) w (stands-laid xs (length (s .reals)) (length (s .counts)) l (axes a es) y (axes-differ a es) st h k) (m .kind) in
+      let axs : getD xs (w + 2) 0 ≡ a .axes = ap (λ (b : planned.AxesPlan). b .axes) (m .numbers) in
+      let mst : getD xs (w + 7) 0 ≡ a .most = ap (λ (b : planned.AxesPlan). b .most) (m .numbers) in
+      let rr = m .reals in
+      let cc = m .counts in
+      let er : getD xs (w + 9) 0 + 14 + getD xs (w + 2) 0 * (6 * getD xs (w + 7) 0 + 1) ≡ after (axes a es) y .reals = rw (axs, mst, rr) (omega arith) in
+      let ec : getD xs (w + 10) 0 + 7 + getD xs (w + 2) 0 * (3 * getD xs (w + 7) 0 + 2) ≡ after (axes a es) y .counts = rw (axs, mst, cc) (omega arith) in
+      let t = axes-turned xs axesRate w s lies (sym (ap sound (node-axes l xs (s .reals) (s .counts) w (m .kind))) ∙ well) in
+      turned-at rr er cc ec (grid-updated-axes l xs binsRate axesRate w s (m .kind)) (λ u v. node-axes l xs u v w (m .kind)) (ap (updateGrid binsRate axesRate) (sym (node-axes l xs (s .reals) (s .counts) w (m .kind)))) t
+
+  updates : (l : ℕ) → Deep l
+  updates zero nothing y s g st h k w = absurd (g refl)
+  updates zero (axes a es) y s g st h k w = axes-updates zero a es y s st h k w
+  updates zero (bins b ts) y s g st h k w = absurd (omega (arith, bins-record xs zero b ts y st .ranges .level))
+  updates (suc l) nothing y s g st h k w = absurd (g refl)
+  updates (suc l) (axes a es) y s g st h k w = axes-updates (suc l) a es y s st h k w
+  updates (suc l) (bins b ts) y s g st h k w = bins-turned l (updates l) b ts y st s h k w
+
+-- the root's grid, of a table that passed: what is found is the model's, and where there is no 8 what is read is the model's
+pub root-updated : (xs : List ℕ) (n : Needs) (binsRate axesRate : Float) (s : Memory) → Words xs → sizesOf xs ≡ gives n → n .reals ≤ length (s .reals) → n .counts ≤ length (s .counts)
+    → sound (rootOf xs (s .reals) (s .counts)) ≡ true
+    → Turned 0 (n .reals) 0 (n .counts) s (updatedIn 4 xs binsRate axesRate 0 s) (λ (a : List Float) (z : List ℕ). rootOf xs a z) (updateGrid binsRate axesRate (rootOf xs (s .reals) (s .counts)))
+unfolding needsOf
+root-updated xs n binsRate axesRate s large e h k well =
+    let r = passed-stands xs n large e in
+    let rr : n .reals ≡ after (r .tree) untaken .reals = ap (λ (m : Needs). m .reals) (r .needs) in
+    let cc : n .counts ≡ after (r .tree) untaken .counts = ap (λ (m : Needs). m .counts) (r .needs) in
+    turned-at refl (sym rr) refl (sym cc) refl (λ a z. refl) refl (updates xs binsRate axesRate 4 (r .tree) untaken s (r .grid) (r .stands) (omega arith) (omega arith) well)

@@ -47,4 +47,5 @@ pub mod Cloned
 pub mod Turns
 pub mod Adapts
 pub mod Spares
+pub mod AdaptedOwn
 pub mod AdaptedTree
