@@ -49,3 +49,4 @@ pub mod Adapts
 pub mod Spares
 pub mod AdaptedOwn
 pub mod AdaptedTree
+pub mod Reformed
