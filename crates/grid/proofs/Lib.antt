@@ -50,3 +50,4 @@ pub mod Spares
 pub mod AdaptedOwn
 pub mod AdaptedTree
 pub mod Reformed
+pub mod UpdatedState

@@ -166,14 +166,16 @@ module _ (plan : AxesPlan) (rate : Float) (ax : Axis) (f : formedAxis plan ax �
   unfolding Both keptAxis gatheredAxis gatheredOf joinedCounts
   gathered-both e =
       let n = length-map (ax .bins) clearedOf in
-      let p = both (allFinite (g .importances)) (allBounded (g .counters)) e in
-      (is-formed plan g (record {
-        number = rw n (form .number);
-        edges = rw n (form .edges);
-        importances = pairs-length _ (ax .importances) _ ∙ form .importances ∙ sym n;
-        counters = pairs-length _ (ax .counters) _ ∙ form .counters ∙ sym n;
-        rising = form .rising;
-      }), all-two (all-cleared (ax .bins) (parts .0)) (all-two (p .0) (all-two (p .1) (parts .1))))
+      let p = both (allFinite (g .importances)) (allBounded (g .counters)) e in (
+        is-formed plan g (record {
+          number = rw n (form .number);
+          edges = rw n (form .edges);
+          importances = pairs-length _ (ax .importances) _ ∙ form .importances ∙ sym n;
+          counters = pairs-length _ (ax .counters) _ ∙ form .counters ∙ sym n;
+          rising = form .rising;
+        }),
+        all-two (all-cleared (ax .bins) (parts .0)) (all-two (p .0) (all-two (p .1) (parts .1))),
+      )
 
   reset-both : Both plan (emptyAxis (g .edges) (length (g .bins)) (g .recuts))
   unfolding Both gatheredAxis
