@@ -28,6 +28,7 @@ pub mod Trains
 pub mod Trained
 pub mod Fitting
 pub mod Plans
+pub mod Matches
 pub mod Unique
 pub mod Founds
 pub mod FoundedOwn

@@ -14,4 +14,5 @@ pub mod Sampled
 pub mod Probed
 pub mod State
 pub mod Founded
+pub mod Matched
 pub mod Calls

@@ -11,6 +11,7 @@ mod judge;
 mod judging;
 mod laying;
 mod layout;
+mod matching;
 mod merging;
 mod onward;
 mod probing;
