@@ -29,6 +29,7 @@ pub mod Trained
 pub mod Fitting
 pub mod Plans
 pub mod Matches
+pub mod Unites
 pub mod Unique
 pub mod Founds
 pub mod FoundedOwn

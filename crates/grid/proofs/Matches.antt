@@ -250,12 +250,20 @@ module _ (l : ℕ) (table : List ℕ) (reals : List Float) (counts : List ℕ) (
 
 -- ---- is_mergeable leaves 8 out
 
-pub mergeable : (g o : Grid) (n : ℕ) → n ≡ gridObstacle g o → cond (eqb n 8) 0 n ≡ mergeFault g o
-unfolding gridObstacle mergeFault obstacle
-mergeable g o n e = ap (λ (k : ℕ). cond (eqb k 8) 0 k) e ∙ told (sameShape g o) (equalGrid g o) (keptGrid (mergeGrid g o))
-  where
-    told : (a b c : Bool) → cond (eqb (obstacle a b c) 8) 0 (obstacle a b c) ≡ cond (not a) 4 (cond (not b) 11 0)
-    told false b c = refl
-    told true false c = refl
-    told true true false = refl
-    told true true true = refl
+module _ (g o : Grid) (n : ℕ) (e : n ≡ gridObstacle g o) where
+  left-out : (a b c : Bool) → cond (eqb (obstacle a b c) 8) 0 (obstacle a b c) ≡ cond (not a) 4 (cond (not b) 11 0)
+  unfolding obstacle
+  left-out false b c = refl
+  left-out true false c = refl
+  left-out true true false = refl
+  left-out true true true = refl
+
+  mergeable : cond (eqb n 8) 0 n ≡ mergeFault g o
+  unfolding gridObstacle mergeFault
+  mergeable = ap (λ (k : ℕ). cond (eqb k 8) 0 k) e ∙ left-out (sameShape g o) (equalGrid g o) (keptGrid (mergeGrid g o))
+
+  pub mergeable-kept : n ≡ 8 → 0 ≡ mergeFault g o
+  mergeable-kept z = sym (ap (λ (k : ℕ). cond (eqb k 8) 0 k) z) ∙ mergeable
+
+  pub mergeable-else : (n ≡ 8 → ⊥) → n ≡ mergeFault g o
+  mergeable-else z = sym (ap (λ (b : Bool). cond b 0 n) (ne-eqb n 8 z)) ∙ mergeable

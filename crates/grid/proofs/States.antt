@@ -5,7 +5,7 @@ use mathlib.Core.List.{List}
 use Prim.Native.Nat.{ℕ}
 use native.Mathlib.Omega.{arith}
 use borrow.Author.Tests.{ltb-false, not-false, ne-eqb}
-use lib.Dec.{ltb}
+use lib.Dec.{eqb, ltb}
 use lib.ListN.{length, getD}
 use lib.Ieee.{Float}
 use Rattle.plan.specs.declared.Needs.{Needs}
@@ -130,6 +130,13 @@ refused-first fault p n = rw (ne-eqb fault 0 n)
 
 pub answered-last : {A : Type 0} (fault : ℕ) (p : Paper A) → fault ≡ 0 → onState fault p ≡ p
 answered-last fault p e = rw e
+
+-- the same of what is not a paper's answer
+pub stopped : {A : Type 0} (fault : ℕ) (a b : A) → (fault ≡ 0 → ⊥) → cond (not (eqb fault 0)) a b ≡ a
+stopped fault a b n = rw (ne-eqb fault 0 n)
+
+pub went-on : {A : Type 0} (fault : ℕ) (a b : A) → fault ≡ 0 → cond (not (eqb fault 0)) a b ≡ b
+went-on fault a b e = rw e
 
 -- ---- the root's own accumulator
 

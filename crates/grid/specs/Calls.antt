@@ -20,7 +20,10 @@ use Rattle.grid.specs.Founded.{laidGrid}
 use Rattle.grid.specs.declared.Region.{Region}
 use Rattle.grid.specs.Sampled.{laidDrawing}
 use Rattle.grid.specs.Probed.{coordinatesOf, pathFrom}
-use Rattle.grid.specs.State.{rootOf, ownOf, stateFault}
+use Rattle.model.specs.Grid.{Grid}
+use Rattle.model.specs.Merge.{mergeFault, mergeOf}
+use Rattle.grid.specs.State.{rootOf, ownOf, stateFault, pairFault}
+use Rattle.grid.specs.United.{unitedGrid}
 
 -- an answer on a state that may be refused
 abbrev pub onState : {A : Type 0} → ℕ → Paper A → Paper A
@@ -76,3 +79,30 @@ freshOf bs table s = freshBy bs (measureOf bs) table s
 -- the model's answer, from the top of the path
 unfoldable pub probeOf : List ℕ → List Float → List ℕ → Region → Paper Float
 probeOf table reals counts p = onState (stateFault table reals counts) (probeGrid (rootOf table reals counts) (pathFrom p 0) (coordinatesOf (p .coordinates)))
+
+-- ---- is_mergeable and merge
+
+-- 0, or the refusal's number
+unfoldable pub mergeableOf : List ℕ → List Float → List ℕ → List ℕ → List Float → List ℕ → ℕ
+mergeableOf table reals counts other theirs tallies =
+    let fault = pairFault table reals counts other theirs tallies in
+    cond (not (eqb fault 0)) fault (mergeFault (rootOf table reals counts) (rootOf other theirs tallies))
+
+-- the number, 0 for none, and the two lists afterwards
+pub record MergeEnd : Type 0 where
+  pub answer : ℕ
+  pub state : Memory
+
+abbrev pub mergeEnd : ℕ → Memory → MergeEnd
+mergeEnd n s = record { answer = n; state = s }
+
+-- the model's answer decides whether anything is written
+unfoldable pub unitedBy : Paper Grid → Memory → Memory → MergeEnd
+unitedBy (gives g) after s = mergeEnd 0 after
+unitedBy (refuses n) after s = mergeEnd n s
+
+unfoldable pub mergeIntoOf : List ℕ → Memory → List ℕ → Memory → MergeEnd
+mergeIntoOf table s other others =
+    let fault = pairFault table (s .reals) (s .counts) other (others .reals) (others .counts) in
+    cond (not (eqb fault 0)) (mergeEnd fault s)
+    (unitedBy (mergeOf (rootOf table (s .reals) (s .counts)) (rootOf other (others .reals) (others .counts))) (unitedGrid table other others 4 0 0 s) s)

@@ -15,4 +15,5 @@ pub mod Probed
 pub mod State
 pub mod Founded
 pub mod Matched
+pub mod United
 pub mod Calls

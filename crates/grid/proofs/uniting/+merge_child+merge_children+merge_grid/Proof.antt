@@ -1,0 +1,590 @@
+use Prim.Native.Nat.{ℕ, _<_}
+use borrow.Fn.Kinds.{In}
+use borrow.Fn.PlainCycle.{Measures, is, falls, and}
+use Rattle.grid.proofs.uniting.merge_child.Reads as merge-child
+use Rattle.grid.proofs.uniting.merge_child.Kinds as merge-child-kinds
+use Rattle.grid.proofs.uniting.+merge_child+merge_children+merge_grid.Lts-merge_child as merge-child-lts
+use Rattle.grid.proofs.uniting.merge_children.Reads as merge-children
+use Rattle.grid.proofs.uniting.merge_children.Kinds as merge-children-kinds
+use Rattle.grid.proofs.uniting.+merge_child+merge_children+merge_grid.Lts-merge_children as merge-children-lts
+use Rattle.grid.proofs.uniting.merge_grid.Reads as merge-grid
+use Rattle.grid.proofs.uniting.merge_grid.Kinds as merge-grid-kinds
+use Rattle.grid.proofs.uniting.+merge_child+merge_children+merge_grid.Lts-merge_grid as merge-grid-lts
+use Rattle.grid.proofs.uniting.merge_axes_grid.Reads as merge-axes-grid-reads
+use Rattle.grid.proofs.uniting.merge_own.Reads as merge-own-reads
+use Rattle.grid.proofs.uniting.+merge_child+merge_children+merge_grid.{statement}
+use Rattle.grid.proofs.uniting.+merge_child+merge_children+merge_grid.Tie.{close}
+
+abbrev μ-merge-child : Measures 6 merge-child-kinds.ps ℕ
+μ-merge-child κs a = ?
+
+abbrev μ-merge-children : Measures 6 merge-children-kinds.ps ℕ
+μ-merge-children κs a = ?
+
+abbrev μ-merge-grid : Measures 6 merge-grid-kinds.ps ℕ
+μ-merge-grid κs a = ?
+
+abbrev merge-child-at : ℕ → In 6 merge-child-kinds.ps
+merge-child-at t =
+    and 6 merge-child-kinds.ps (is 6 merge-child-kinds.ps μ-merge-child t) merge-child.Pre
+
+abbrev merge-child-below : ℕ → In 6 merge-child-kinds.ps
+merge-child-below t =
+    and 6 merge-child-kinds.ps (falls 6 merge-child-kinds.ps _<_ μ-merge-child t) merge-child.Pre
+
+abbrev merge-children-at : ℕ → In 6 merge-children-kinds.ps
+merge-children-at t =
+    and
+    6
+    merge-children-kinds.ps
+    (is 6 merge-children-kinds.ps μ-merge-children t)
+    merge-children.Pre
+
+abbrev merge-children-below : ℕ → In 6 merge-children-kinds.ps
+merge-children-below t =
+    and
+    6
+    merge-children-kinds.ps
+    (falls 6 merge-children-kinds.ps _<_ μ-merge-children t)
+    merge-children.Pre
+
+abbrev merge-grid-at : ℕ → In 6 merge-grid-kinds.ps
+merge-grid-at t =
+    and 6 merge-grid-kinds.ps (is 6 merge-grid-kinds.ps μ-merge-grid t) merge-grid.Pre
+
+abbrev merge-grid-below : ℕ → In 6 merge-grid-kinds.ps
+merge-grid-below t =
+    and 6 merge-grid-kinds.ps (falls 6 merge-grid-kinds.ps _<_ μ-merge-grid t) merge-grid.Pre
+
+-- src/uniting.rt:124:9
+merge-child-returns :
+    (t : ℕ) →
+    merge-child-lts.Need-returns
+    (merge-grid-below t, merge-grid.Post)
+    (merge-child-at t)
+    merge-child.Post
+merge-child-returns t c = ?
+
+-- src/uniting.rt:127:9
+merge-child-returns-2 : (t : ℕ) → merge-child-lts.Need-returns-2 (
+  merge-grid-below t,
+  merge-grid.Post,
+) (merge-child-at t) merge-child.Post
+merge-child-returns-2 t c = ?
+
+-- src/uniting.rt:129:5
+merge-child-merge-grid-requires : (t : ℕ) → merge-child-lts.Need-merge-grid-requires (
+  merge-grid-below t,
+  merge-grid.Post,
+) (merge-child-at t) merge-child.Post
+merge-child-merge-grid-requires t c κs = ?
+
+-- src/uniting.rt:107:1
+merge-child-same-length : (t : ℕ) → merge-child-lts.Need-same-length (
+  merge-grid-below t,
+  merge-grid.Post,
+) (merge-child-at t) merge-child.Post
+merge-child-same-length t c = ?
+
+-- src/uniting.rt:107:1
+merge-child-same-length-2 : (t : ℕ) → merge-child-lts.Need-same-length-2 (
+  merge-grid-below t,
+  merge-grid.Post,
+) (merge-child-at t) merge-child.Post
+merge-child-same-length-2 t c = ?
+
+-- src/uniting.rt:107:1
+merge-child-returns-3 : (t : ℕ) → merge-child-lts.Need-returns-3 (
+  merge-grid-below t,
+  merge-grid.Post,
+) (merge-child-at t) merge-child.Post
+merge-child-returns-3 t c = ?
+
+abbrev merge-children-Inv-loop : merge-children-lts.InvT-loop
+merge-children-Inv-loop table reals₀ counts₀ level w other theirs tallies v n i₀ reals counts i = ?
+
+abbrev merge-children-μ-loop : merge-children-lts.MeasureT-loop
+merge-children-μ-loop table reals₀ counts₀ level w other theirs tallies v n i₀ reals counts i = ?
+
+-- src/uniting.rt:151:19
+merge-children-add-n : (t : ℕ) → merge-children-lts.Need-add-n (
+  merge-child-below t,
+  merge-child.Post,
+) (merge-children-at t) merge-children.Post merge-children-Inv-loop merge-children-μ-loop
+merge-children-add-n t c = ?
+
+-- src/uniting.rt:151:13
+merge-children-mul-n : (t : ℕ) → merge-children-lts.Need-mul-n (
+  merge-child-below t,
+  merge-child.Post,
+) (merge-children-at t) merge-children.Post merge-children-Inv-loop merge-children-μ-loop
+merge-children-mul-n t c = ?
+
+-- src/uniting.rt:151:13
+merge-children-shared-slice-read-n : (t : ℕ) → merge-children-lts.Need-shared-slice-read-n (
+  merge-child-below t,
+  merge-child.Post,
+) (merge-children-at t) merge-children.Post merge-children-Inv-loop merge-children-μ-loop
+merge-children-shared-slice-read-n t c = ?
+
+-- src/uniting.rt:153:5
+merge-children-loop-holds : (t : ℕ) → merge-children-lts.Need-loop-holds (
+  merge-child-below t,
+  merge-child.Post,
+) (merge-children-at t) merge-children.Post merge-children-Inv-loop merge-children-μ-loop
+merge-children-loop-holds t c = ?
+
+-- src/uniting.rt:154:26
+merge-children-add-link : (t : ℕ) → merge-children-lts.Need-add-link (
+  merge-child-below t,
+  merge-child.Post,
+) (merge-children-at t) merge-children.Post merge-children-Inv-loop merge-children-μ-loop
+merge-children-add-link t c = ?
+
+-- src/uniting.rt:154:26
+merge-children-add-link-2 : (t : ℕ) → merge-children-lts.Need-add-link-2 (
+  merge-child-below t,
+  merge-child.Post,
+) (merge-children-at t) merge-children.Post merge-children-Inv-loop merge-children-μ-loop
+merge-children-add-link-2 t c = ?
+
+-- src/uniting.rt:154:20
+merge-children-mul-link : (t : ℕ) → merge-children-lts.Need-mul-link (
+  merge-child-below t,
+  merge-child.Post,
+) (merge-children-at t) merge-children.Post merge-children-Inv-loop merge-children-μ-loop
+merge-children-mul-link t c = ?
+
+-- src/uniting.rt:154:20
+merge-children-shared-slice-read-link : (t : ℕ) → merge-children-lts.Need-shared-slice-read-link (
+  merge-child-below t,
+  merge-child.Post,
+) (merge-children-at t) merge-children.Post merge-children-Inv-loop merge-children-μ-loop
+merge-children-shared-slice-read-link t c = ?
+
+-- src/uniting.rt:155:25
+merge-children-add-far : (t : ℕ) → merge-children-lts.Need-add-far (
+  merge-child-below t,
+  merge-child.Post,
+) (merge-children-at t) merge-children.Post merge-children-Inv-loop merge-children-μ-loop
+merge-children-add-far t c = ?
+
+-- src/uniting.rt:155:25
+merge-children-add-far-2 : (t : ℕ) → merge-children-lts.Need-add-far-2 (
+  merge-child-below t,
+  merge-child.Post,
+) (merge-children-at t) merge-children.Post merge-children-Inv-loop merge-children-μ-loop
+merge-children-add-far-2 t c = ?
+
+-- src/uniting.rt:155:19
+merge-children-mul-far : (t : ℕ) → merge-children-lts.Need-mul-far (
+  merge-child-below t,
+  merge-child.Post,
+) (merge-children-at t) merge-children.Post merge-children-Inv-loop merge-children-μ-loop
+merge-children-mul-far t c = ?
+
+-- src/uniting.rt:155:19
+merge-children-shared-slice-read-far : (t : ℕ) → merge-children-lts.Need-shared-slice-read-far (
+  merge-child-below t,
+  merge-child.Post,
+) (merge-children-at t) merge-children.Post merge-children-Inv-loop merge-children-μ-loop
+merge-children-shared-slice-read-far t c = ?
+
+-- src/uniting.rt:156:9
+merge-children-merge-child-requires : (t : ℕ) → merge-children-lts.Need-merge-child-requires (
+  merge-child-below t,
+  merge-child.Post,
+) (merge-children-at t) merge-children.Post merge-children-Inv-loop merge-children-μ-loop
+merge-children-merge-child-requires t c κs = ?
+
+-- src/uniting.rt:157:9
+merge-children-add-i : (t : ℕ) → merge-children-lts.Need-add-i (
+  merge-child-below t,
+  merge-child.Post,
+) (merge-children-at t) merge-children.Post merge-children-Inv-loop merge-children-μ-loop
+merge-children-add-i t c = ?
+
+-- src/uniting.rt:153:5
+merge-children-loop-less : (t : ℕ) → merge-children-lts.Need-loop-less (
+  merge-child-below t,
+  merge-child.Post,
+) (merge-children-at t) merge-children.Post merge-children-Inv-loop merge-children-μ-loop
+merge-children-loop-less t c = ?
+
+-- src/uniting.rt:153:5
+merge-children-loop-again : (t : ℕ) → merge-children-lts.Need-loop-again (
+  merge-child-below t,
+  merge-child.Post,
+) (merge-children-at t) merge-children.Post merge-children-Inv-loop merge-children-μ-loop
+merge-children-loop-again t c = ?
+
+-- src/uniting.rt:133:1
+merge-children-same-length : (t : ℕ) → merge-children-lts.Need-same-length (
+  merge-child-below t,
+  merge-child.Post,
+) (merge-children-at t) merge-children.Post merge-children-Inv-loop merge-children-μ-loop
+merge-children-same-length t c = ?
+
+-- src/uniting.rt:133:1
+merge-children-same-length-2 : (t : ℕ) → merge-children-lts.Need-same-length-2 (
+  merge-child-below t,
+  merge-child.Post,
+) (merge-children-at t) merge-children.Post merge-children-Inv-loop merge-children-μ-loop
+merge-children-same-length-2 t c = ?
+
+-- src/uniting.rt:133:1
+merge-children-returns : (t : ℕ) → merge-children-lts.Need-returns (
+  merge-child-below t,
+  merge-child.Post,
+) (merge-children-at t) merge-children.Post merge-children-Inv-loop merge-children-μ-loop
+merge-children-returns t c = ?
+
+-- src/uniting.rt:177:8
+merge-grid-mul-if1 : (t : ℕ) → merge-grid-lts.Need-mul-if1 (
+  merge-axes-grid-reads.Asked,
+  merge-axes-grid-reads.Learnt,
+  merge-own-reads.Asked,
+  merge-own-reads.Learnt,
+  merge-children-below t,
+  merge-children.Post,
+) (merge-grid-at t) merge-grid.Post
+merge-grid-mul-if1 t c = ?
+
+-- src/uniting.rt:177:8
+merge-grid-shared-slice-read-if1 : (t : ℕ) → merge-grid-lts.Need-shared-slice-read-if1 (
+  merge-axes-grid-reads.Asked,
+  merge-axes-grid-reads.Learnt,
+  merge-own-reads.Asked,
+  merge-own-reads.Learnt,
+  merge-children-below t,
+  merge-children.Post,
+) (merge-grid-at t) merge-grid.Post
+merge-grid-shared-slice-read-if1 t c = ?
+
+-- src/uniting.rt:178:12
+merge-grid-mul-if2 : (t : ℕ) → merge-grid-lts.Need-mul-if2 (
+  merge-axes-grid-reads.Asked,
+  merge-axes-grid-reads.Learnt,
+  merge-own-reads.Asked,
+  merge-own-reads.Learnt,
+  merge-children-below t,
+  merge-children.Post,
+) (merge-grid-at t) merge-grid.Post
+merge-grid-mul-if2 t c = ?
+
+-- src/uniting.rt:178:12
+merge-grid-shared-slice-read-if2 : (t : ℕ) → merge-grid-lts.Need-shared-slice-read-if2 (
+  merge-axes-grid-reads.Asked,
+  merge-axes-grid-reads.Learnt,
+  merge-own-reads.Asked,
+  merge-own-reads.Learnt,
+  merge-children-below t,
+  merge-children.Post,
+) (merge-grid-at t) merge-grid.Post
+merge-grid-shared-slice-read-if2 t c = ?
+
+-- src/uniting.rt:179:13
+merge-grid-returns : (t : ℕ) → merge-grid-lts.Need-returns (
+  merge-axes-grid-reads.Asked,
+  merge-axes-grid-reads.Learnt,
+  merge-own-reads.Asked,
+  merge-own-reads.Learnt,
+  merge-children-below t,
+  merge-children.Post,
+) (merge-grid-at t) merge-grid.Post
+merge-grid-returns t c = ?
+
+-- src/uniting.rt:181:9
+merge-grid-merge-axes-grid-requires : (t : ℕ) → merge-grid-lts.Need-merge-axes-grid-requires (
+  merge-axes-grid-reads.Asked,
+  merge-axes-grid-reads.Learnt,
+  merge-own-reads.Asked,
+  merge-own-reads.Learnt,
+  merge-children-below t,
+  merge-children.Post,
+) (merge-grid-at t) merge-grid.Post
+merge-grid-merge-axes-grid-requires t c κs = ?
+
+-- src/uniting.rt:182:9
+merge-grid-same-length : (t : ℕ) → merge-grid-lts.Need-same-length (
+  merge-axes-grid-reads.Asked,
+  merge-axes-grid-reads.Learnt,
+  merge-own-reads.Asked,
+  merge-own-reads.Learnt,
+  merge-children-below t,
+  merge-children.Post,
+) (merge-grid-at t) merge-grid.Post
+merge-grid-same-length t c = ?
+
+-- src/uniting.rt:182:9
+merge-grid-same-length-2 : (t : ℕ) → merge-grid-lts.Need-same-length-2 (
+  merge-axes-grid-reads.Asked,
+  merge-axes-grid-reads.Learnt,
+  merge-own-reads.Asked,
+  merge-own-reads.Learnt,
+  merge-children-below t,
+  merge-children.Post,
+) (merge-grid-at t) merge-grid.Post
+merge-grid-same-length-2 t c = ?
+
+-- src/uniting.rt:182:9
+merge-grid-returns-2 : (t : ℕ) → merge-grid-lts.Need-returns-2 (
+  merge-axes-grid-reads.Asked,
+  merge-axes-grid-reads.Learnt,
+  merge-own-reads.Asked,
+  merge-own-reads.Learnt,
+  merge-children-below t,
+  merge-children.Post,
+) (merge-grid-at t) merge-grid.Post
+merge-grid-returns-2 t c = ?
+
+-- src/uniting.rt:184:8
+merge-grid-mul-if3 : (t : ℕ) → merge-grid-lts.Need-mul-if3 (
+  merge-axes-grid-reads.Asked,
+  merge-axes-grid-reads.Learnt,
+  merge-own-reads.Asked,
+  merge-own-reads.Learnt,
+  merge-children-below t,
+  merge-children.Post,
+) (merge-grid-at t) merge-grid.Post
+merge-grid-mul-if3 t c = ?
+
+-- src/uniting.rt:184:8
+merge-grid-shared-slice-read-if3 : (t : ℕ) → merge-grid-lts.Need-shared-slice-read-if3 (
+  merge-axes-grid-reads.Asked,
+  merge-axes-grid-reads.Learnt,
+  merge-own-reads.Asked,
+  merge-own-reads.Learnt,
+  merge-children-below t,
+  merge-children.Post,
+) (merge-grid-at t) merge-grid.Post
+merge-grid-shared-slice-read-if3 t c = ?
+
+-- src/uniting.rt:185:9
+merge-grid-returns-3 : (t : ℕ) → merge-grid-lts.Need-returns-3 (
+  merge-axes-grid-reads.Asked,
+  merge-axes-grid-reads.Learnt,
+  merge-own-reads.Asked,
+  merge-own-reads.Learnt,
+  merge-children-below t,
+  merge-children.Post,
+) (merge-grid-at t) merge-grid.Post
+merge-grid-returns-3 t c = ?
+
+-- src/uniting.rt:187:14
+merge-grid-add-if4 : (t : ℕ) → merge-grid-lts.Need-add-if4 (
+  merge-axes-grid-reads.Asked,
+  merge-axes-grid-reads.Learnt,
+  merge-own-reads.Asked,
+  merge-own-reads.Learnt,
+  merge-children-below t,
+  merge-children.Post,
+) (merge-grid-at t) merge-grid.Post
+merge-grid-add-if4 t c = ?
+
+-- src/uniting.rt:187:8
+merge-grid-mul-if4 : (t : ℕ) → merge-grid-lts.Need-mul-if4 (
+  merge-axes-grid-reads.Asked,
+  merge-axes-grid-reads.Learnt,
+  merge-own-reads.Asked,
+  merge-own-reads.Learnt,
+  merge-children-below t,
+  merge-children.Post,
+) (merge-grid-at t) merge-grid.Post
+merge-grid-mul-if4 t c = ?
+
+-- src/uniting.rt:187:8
+merge-grid-shared-slice-read-if4 : (t : ℕ) → merge-grid-lts.Need-shared-slice-read-if4 (
+  merge-axes-grid-reads.Asked,
+  merge-axes-grid-reads.Learnt,
+  merge-own-reads.Asked,
+  merge-own-reads.Learnt,
+  merge-children-below t,
+  merge-children.Post,
+) (merge-grid-at t) merge-grid.Post
+merge-grid-shared-slice-read-if4 t c = ?
+
+-- src/uniting.rt:187:30
+merge-grid-add-if4-2 : (t : ℕ) → merge-grid-lts.Need-add-if4-2 (
+  merge-axes-grid-reads.Asked,
+  merge-axes-grid-reads.Learnt,
+  merge-own-reads.Asked,
+  merge-own-reads.Learnt,
+  merge-children-below t,
+  merge-children.Post,
+) (merge-grid-at t) merge-grid.Post
+merge-grid-add-if4-2 t c = ?
+
+-- src/uniting.rt:187:24
+merge-grid-mul-if4-2 : (t : ℕ) → merge-grid-lts.Need-mul-if4-2 (
+  merge-axes-grid-reads.Asked,
+  merge-axes-grid-reads.Learnt,
+  merge-own-reads.Asked,
+  merge-own-reads.Learnt,
+  merge-children-below t,
+  merge-children.Post,
+) (merge-grid-at t) merge-grid.Post
+merge-grid-mul-if4-2 t c = ?
+
+-- src/uniting.rt:187:24
+merge-grid-shared-slice-read-if4-2 : (t : ℕ) → merge-grid-lts.Need-shared-slice-read-if4-2 (
+  merge-axes-grid-reads.Asked,
+  merge-axes-grid-reads.Learnt,
+  merge-own-reads.Asked,
+  merge-own-reads.Learnt,
+  merge-children-below t,
+  merge-children.Post,
+) (merge-grid-at t) merge-grid.Post
+merge-grid-shared-slice-read-if4-2 t c = ?
+
+-- src/uniting.rt:188:9
+merge-grid-returns-4 : (t : ℕ) → merge-grid-lts.Need-returns-4 (
+  merge-axes-grid-reads.Asked,
+  merge-axes-grid-reads.Learnt,
+  merge-own-reads.Asked,
+  merge-own-reads.Learnt,
+  merge-children-below t,
+  merge-children.Post,
+) (merge-grid-at t) merge-grid.Post
+merge-grid-returns-4 t c = ?
+
+-- src/uniting.rt:190:17
+merge-grid-sub-below : (t : ℕ) → merge-grid-lts.Need-sub-below (
+  merge-axes-grid-reads.Asked,
+  merge-axes-grid-reads.Learnt,
+  merge-own-reads.Asked,
+  merge-own-reads.Learnt,
+  merge-children-below t,
+  merge-children.Post,
+) (merge-grid-at t) merge-grid.Post
+merge-grid-sub-below t c = ?
+
+-- src/uniting.rt:191:5
+merge-grid-merge-own-requires : (t : ℕ) → merge-grid-lts.Need-merge-own-requires (
+  merge-axes-grid-reads.Asked,
+  merge-axes-grid-reads.Learnt,
+  merge-own-reads.Asked,
+  merge-own-reads.Learnt,
+  merge-children-below t,
+  merge-children.Post,
+) (merge-grid-at t) merge-grid.Post
+merge-grid-merge-own-requires t c κs = ?
+
+-- src/uniting.rt:192:5
+merge-grid-merge-children-requires : (t : ℕ) → merge-grid-lts.Need-merge-children-requires (
+  merge-axes-grid-reads.Asked,
+  merge-axes-grid-reads.Learnt,
+  merge-own-reads.Asked,
+  merge-own-reads.Learnt,
+  merge-children-below t,
+  merge-children.Post,
+) (merge-grid-at t) merge-grid.Post
+merge-grid-merge-children-requires t c κs = ?
+
+-- src/uniting.rt:162:1
+merge-grid-same-length-3 : (t : ℕ) → merge-grid-lts.Need-same-length-3 (
+  merge-axes-grid-reads.Asked,
+  merge-axes-grid-reads.Learnt,
+  merge-own-reads.Asked,
+  merge-own-reads.Learnt,
+  merge-children-below t,
+  merge-children.Post,
+) (merge-grid-at t) merge-grid.Post
+merge-grid-same-length-3 t c = ?
+
+-- src/uniting.rt:162:1
+merge-grid-same-length-4 : (t : ℕ) → merge-grid-lts.Need-same-length-4 (
+  merge-axes-grid-reads.Asked,
+  merge-axes-grid-reads.Learnt,
+  merge-own-reads.Asked,
+  merge-own-reads.Learnt,
+  merge-children-below t,
+  merge-children.Post,
+) (merge-grid-at t) merge-grid.Post
+merge-grid-same-length-4 t c = ?
+
+-- src/uniting.rt:162:1
+merge-grid-returns-5 : (t : ℕ) → merge-grid-lts.Need-returns-5 (
+  merge-axes-grid-reads.Asked,
+  merge-axes-grid-reads.Learnt,
+  merge-own-reads.Asked,
+  merge-own-reads.Learnt,
+  merge-children-below t,
+  merge-children.Post,
+) (merge-grid-at t) merge-grid.Post
+merge-grid-returns-5 t c = ?
+
+pub +merge-child+merge-children+merge-grid-spec : {M : Type 1} → statement M
++merge-child+merge-children+merge-grid-spec =
+    close μ-merge-child μ-merge-children μ-merge-grid (λ t. merge-child-lts.spec (
+      merge-grid-below t,
+      merge-grid.Post,
+    )
+    (merge-child-at t)
+    merge-child.Post
+    (merge-child-returns t)
+    (merge-child-returns-2 t)
+    (merge-child-merge-grid-requires t)
+    (merge-child-same-length t)
+    (merge-child-same-length-2 t)
+    (merge-child-returns-3 t))
+    (λ t. merge-children-lts.spec
+    (merge-child-below t, merge-child.Post)
+    (merge-children-at t)
+    merge-children.Post
+    merge-children-Inv-loop
+    merge-children-μ-loop
+    (merge-children-add-n t)
+    (merge-children-mul-n t)
+    (merge-children-shared-slice-read-n t)
+    (merge-children-loop-holds t)
+    (merge-children-add-link t)
+    (merge-children-add-link-2 t)
+    (merge-children-mul-link t)
+    (merge-children-shared-slice-read-link t)
+    (merge-children-add-far t)
+    (merge-children-add-far-2 t)
+    (merge-children-mul-far t)
+    (merge-children-shared-slice-read-far t)
+    (merge-children-merge-child-requires t)
+    (merge-children-add-i t)
+    (merge-children-loop-less t)
+    (merge-children-loop-again t)
+    (merge-children-same-length t)
+    (merge-children-same-length-2 t)
+    (merge-children-returns t))
+    λ t. merge-grid-lts.spec (
+      merge-axes-grid-reads.Asked,
+      merge-axes-grid-reads.Learnt,
+      merge-own-reads.Asked,
+      merge-own-reads.Learnt,
+      merge-children-below t,
+      merge-children.Post,
+    )
+    (merge-grid-at t)
+    merge-grid.Post
+    (merge-grid-mul-if1 t)
+    (merge-grid-shared-slice-read-if1 t)
+    (merge-grid-mul-if2 t)
+    (merge-grid-shared-slice-read-if2 t)
+    (merge-grid-returns t)
+    (merge-grid-merge-axes-grid-requires t)
+    (merge-grid-same-length t)
+    (merge-grid-same-length-2 t)
+    (merge-grid-returns-2 t)
+    (merge-grid-mul-if3 t)
+    (merge-grid-shared-slice-read-if3 t)
+    (merge-grid-returns-3 t)
+    (merge-grid-add-if4 t)
+    (merge-grid-mul-if4 t)
+    (merge-grid-shared-slice-read-if4 t)
+    (merge-grid-add-if4-2 t)
+    (merge-grid-mul-if4-2 t)
+    (merge-grid-shared-slice-read-if4-2 t)
+    (merge-grid-returns-4 t)
+    (merge-grid-sub-below t)
+    (merge-grid-merge-own-requires t)
+    (merge-grid-merge-children-requires t)
+    (merge-grid-same-length-3 t)
+    (merge-grid-same-length-4 t)
+    (merge-grid-returns-5 t)
