@@ -180,7 +180,17 @@ fn bin_obstacle(
     let link = table[w + 7 + i] as usize;
     let far = other[v + 7 + i] as usize;
     let own = bin_own_obstacle(table, reals, counts, w, other, theirs, tallies, v, i);
-    let below = child_obstacle(table, reals, counts, level, link, other, theirs, tallies, far);
+    let below = child_obstacle(
+        table,
+        reals,
+        counts,
+        level,
+        link,
+        other,
+        theirs,
+        tallies,
+        far,
+    );
     worse(own, below)
 }
 
@@ -210,7 +220,17 @@ fn child_obstacle(
     if far == 0 {
         return 4;
     }
-    grid_obstacle(table, reals, counts, level, link, other, theirs, tallies, far)
+    grid_obstacle(
+        table,
+        reals,
+        counts,
+        level,
+        link,
+        other,
+        theirs,
+        tallies,
+        far,
+    )
 }
 
 // Two bins grids: the numbers of their bins, their accumulators, and bin by bin.
@@ -246,9 +266,7 @@ fn bins_obstacle(
     let mut found = found_of(true, fits);
     let mut i = 0;
     while i < n {
-        let here = bin_obstacle(
-            table, reals, counts, level, w, other, theirs, tallies, v, i,
-        );
+        let here = bin_obstacle(table, reals, counts, level, w, other, theirs, tallies, v, i);
         found = worse(found, here);
         i += 1;
     }
@@ -280,5 +298,15 @@ pub fn grid_obstacle(
     if other[v] == 1 {
         return 4;
     }
-    bins_obstacle(table, reals, counts, level - 1, w, other, theirs, tallies, v)
+    bins_obstacle(
+        table,
+        reals,
+        counts,
+        level - 1,
+        w,
+        other,
+        theirs,
+        tallies,
+        v,
+    )
 }

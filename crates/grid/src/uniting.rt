@@ -126,7 +126,17 @@ fn merge_child(
     if far == 0 {
         return;
     }
-    merge_grid(table, reals, counts, level, link, other, theirs, tallies, far);
+    merge_grid(
+        table,
+        reals,
+        counts,
+        level,
+        link,
+        other,
+        theirs,
+        tallies,
+        far,
+    );
 }
 
 // What hangs at the links of two bins grids, one after the other.
@@ -153,7 +163,17 @@ fn merge_children(
     while i < n {
         let link = table[w + 7 + i] as usize;
         let far = other[v + 7 + i] as usize;
-        merge_child(table, reals, counts, level, link, other, theirs, tallies, far);
+        merge_child(
+            table,
+            reals,
+            counts,
+            level,
+            link,
+            other,
+            theirs,
+            tallies,
+            far,
+        );
         i += 1;
     }
 }

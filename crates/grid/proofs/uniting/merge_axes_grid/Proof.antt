@@ -1,3 +1,8 @@
+use mathlib.Core.Path.{refl}
+use native.Mathlib.Omega.{arith}
+use lib.ListN.{length}
+use Rattle.grid.specs.Memory.{memory}
+use Rattle.grid.proofs.Unites.{spaced-at, axes-stay, axes-united}
 use borrow.Author.Needs.{needs}
 use Rattle.grid.proofs.uniting.merge_axes_grid.Statement.{statement}
 use Rattle.grid.proofs.uniting.merge_axes_grid.Tie as tie
@@ -65,7 +70,7 @@ axes-place-requires-2 c κs = search needs
 
 -- src/uniting.rt:59:9
 returns : tie.Need-returns
-returns c = ?
+returns c = axes-stay (c .before .before .before .before .before .before .before .before .before .before .before .before .before .before .before .args .table .now) (c .before .before .before .before .before .before .before .before .before .before .before .before .before .before .before .args .other .now) (memory (c .before .before .before .before .before .before .before .before .before .before .before .before .before .before .before .args .theirs .now) (c .before .before .before .before .before .before .before .before .before .before .before .before .before .before .before .args .tallies .now)) (c .before .before .before .before .before .before .before .before .before .before .before .before .before .before .before .args .w) (c .before .before .before .before .before .before .before .before .before .before .before .before .before .before .before .args .v) (c .before .before .before .before .axes-place .result) (c .before .before .before .axes-place2 .result) (memory (c .before .before .before .before .before .before .before .before .before .before .before .before .before .before .before .args .reals .now) (c .before .before .before .before .before .before .before .before .before .before .before .before .before .before .before .args .counts .now)) (c .before .before .before .before .axes-place .ensures) (c .before .before .before .axes-place2 .ensures) (c .if1 .taken)
 
 -- src/uniting.rt:61:5
 join-account-requires : tie.Need-join-account-requires
@@ -73,7 +78,7 @@ join-account-requires c κs = search needs
 
 -- src/uniting.rt:62:5
 merge-axes-requires : tie.Need-merge-axes-requires
-merge-axes-requires c κs = ?
+merge-axes-requires c κs = (spaced-at (c .before .before .before .before .before .before .before .before .before .before .before .before .before .before .before .before .before .before .before .before .before .before .before .before .args .table .now) (length (c .before .before .before .before .before .before .before .before .before .before .before .before .before .before .before .before .before .before .before .before .before .before .before .before .args .reals .now)) (length (c .before .before .before .before .before .before .before .before .before .before .before .before .before .before .before .before .before .before .before .before .before .before .before .before .args .counts .now)) (c .before .before .before .before .before .before .before .before .before .before .before .before .before .before .before .before .before .before .before .before .before .before .before .before .args .w) (length (c .before .before .before .before .before .before .join-account .last .0)) (length (c .before .before .before .before .before .before .join-account .last .1 .0)) (c .before .before .before .before .before .before .before .before .before .before .before .before .before .axes-place .result) (c .before .before .before .before .before .before .before .before .before .before .before .before .before .before .before .before .before .before .before .before .before .before .before .before .pre .0) (c .before .before .before .before .before .before .join-account .kept .0) (c .before .before .before .before .before .before .join-account .kept .1 .0) (c .before .before .before .before .before .before .before .before .before .before .before .before .before .axes-place .ensures), spaced-at (c .before .before .before .before .before .before .before .before .before .before .before .before .before .before .before .before .before .before .before .before .before .before .before .before .args .other .now) (length (c .before .before .before .before .before .before .before .before .before .before .before .before .before .before .before .before .before .before .before .before .before .before .before .before .args .theirs .now)) (length (c .before .before .before .before .before .before .before .before .before .before .before .before .before .before .before .before .before .before .before .before .before .before .before .before .args .tallies .now)) (c .before .before .before .before .before .before .before .before .before .before .before .before .before .before .before .before .before .before .before .before .before .before .before .before .args .v) (length (c .before .before .before .before .before .before .before .before .before .before .before .before .before .before .before .before .before .before .before .before .before .before .before .before .args .theirs .now)) (length (c .before .before .before .before .before .before .before .before .before .before .before .before .before .before .before .before .before .before .before .before .before .before .before .before .args .tallies .now)) (c .before .before .before .before .before .before .before .before .before .before .before .before .axes-place2 .result) (c .before .before .before .before .before .before .before .before .before .before .before .before .before .before .before .before .before .before .before .before .before .before .before .before .pre .1) refl refl (c .before .before .before .before .before .before .before .before .before .before .before .before .axes-place2 .ensures), omega (arith, c .before .before .before .before .before .before .before .before .before .if1 .left))
 
 -- src/uniting.rt:38:1
 same-length : tie.Need-same-length
@@ -85,7 +90,7 @@ same-length-2 c = search needs
 
 -- src/uniting.rt:38:1
 returns-2 : tie.Need-returns-2
-returns-2 c = ?
+returns-2 c = axes-united (c .before .before .before .before .before .before .before .before .before .before .before .before .before .before .before .before .before .before .before .before .before .before .before .before .before .before .before .before .before .args .table .now) (c .before .before .before .before .before .before .before .before .before .before .before .before .before .before .before .before .before .before .before .before .before .before .before .before .before .before .before .before .before .args .other .now) (memory (c .before .before .before .before .before .before .before .before .before .before .before .before .before .before .before .before .before .before .before .before .before .before .before .before .before .before .before .before .before .args .theirs .now) (c .before .before .before .before .before .before .before .before .before .before .before .before .before .before .before .before .before .before .before .before .before .before .before .before .before .before .before .before .before .args .tallies .now)) (c .before .before .before .before .before .before .before .before .before .before .before .before .before .before .before .before .before .before .before .before .before .before .before .before .before .before .before .before .before .args .w) (c .before .before .before .before .before .before .before .before .before .before .before .before .before .before .before .before .before .before .before .before .before .before .before .before .before .before .before .before .before .args .v) (c .before .before .before .before .before .before .before .before .before .before .before .before .before .before .before .before .before .before .axes-place .result) (c .before .before .before .before .before .before .before .before .before .before .before .before .before .before .before .before .before .axes-place2 .result) (memory (c .before .before .before .before .before .before .before .before .before .before .before .before .before .before .before .before .before .before .before .before .before .before .before .before .before .before .before .before .before .args .reals .now) (c .before .before .before .before .before .before .before .before .before .before .before .before .before .before .before .before .before .before .before .before .before .before .before .before .before .before .before .before .before .args .counts .now)) (memory (c .before .before .before .before .before .before .before .before .before .before .before .join-account .last .0) (c .before .before .before .before .before .before .before .before .before .before .before .join-account .last .1 .0)) (memory (c .before .before .before .before .merge-axes .last .0) (c .before .before .before .before .merge-axes .last .1 .0)) (c .before .before .before .before .before .before .before .before .before .before .before .before .before .before .before .before .before .before .axes-place .ensures) (c .before .before .before .before .before .before .before .before .before .before .before .before .before .before .before .before .before .axes-place2 .ensures) (c .before .before .before .before .before .before .before .before .before .before .before .before .before .before .if1 .left) (c .before .before .before .before .before .before .before .before .before .before .before .join-account .ensures) (c .before .before .before .before .merge-axes .ensures)
 
 pub merge-axes-grid-spec : {M : Type 1} → statement M
 merge-axes-grid-spec =

@@ -12,7 +12,7 @@ use Rattle.grid.proofs.uniting.merge_own.Lts as lts
 use Rattle.grid.proofs.uniting.join_account.Reads as join-account-reads
 
 abbrev Inv-loop : tie.InvT-loop
-Inv-loop table reals₀ counts₀ w other theirs tallies v r c n q d k i₀ reals counts i = 
+Inv-loop table reals₀ counts₀ w other theirs tallies v r c n q d k i₀ reals counts i =
     (i ≤ n) × (length reals ≡ length reals₀) × (length counts ≡ length counts₀) × (unitedBins table other (memory theirs tallies) w v i (n - i) (memory reals counts) ≡ unitedBins table other (memory theirs tallies) w v 0 n (memory reals₀ counts₀))
 
 abbrev μ-loop : tie.MeasureT-loop
