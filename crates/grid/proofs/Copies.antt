@@ -94,7 +94,7 @@ module _ (m : ℕ) where
   clear-frames r c u s p = cleared-apart m r c (getD (s .counts) c 0) s _ (p .held) (p .here) refl
 
   -- axes that stand there
-  roomed : (k r c : ℕ) (s : Memory) → Standing m (s .reals) (s .counts) k r c → Asked (Roomed m) m (replicate k tt) r c s × Holding m (s .counts) k c
+  pub roomed : (k r c : ℕ) (s : Memory) → Standing m (s .reals) (s .counts) k r c → Asked (Roomed m) m (replicate k tt) r c s × Holding m (s .counts) k c
   unfolding Asked Holding axisReals axisCounts
   roomed zero r c s t = (tt, tt)
   roomed (suc k) r c s t =

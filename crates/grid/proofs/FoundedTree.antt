@@ -29,6 +29,7 @@ use Rattle.grid.proofs.Same.{Same, same-refl, same-on, same-sym, same-w
 use Rattle.grid.proofs.Laid.{stands-laid, laid-axes}
 use Rattle.grid.proofs.Sounds.{node-axes}
 use Rattle.grid.proofs.Founds.{grid-axes}
+use Rattle.grid.proofs.Trees.{axes-differ, bins-differ, before-none, taken-reals, taken-counts, below}
 use Rattle.grid.proofs.FoundedOwn.{Within, within-same, within-on, axes-within, axes-grid-read, own-within, own-bins-read, own-record-read}
 
 -- what was laid from s on is t, which differs from s within these bounds only; where memory is t there, g is read
@@ -58,47 +59,16 @@ unfolding freshAt freshNode
 fresh-axes zero table w e = refl
 fresh-axes (suc l) table w e = rw e
 
--- whether a tree is there
-unfoldable present : Tree → Bool
-present nothing = false
-present (axes a es) = true
-present (bins b ts) = true
-
 length-children : (f : ℕ → model.Grid) (table : List ℕ) (w i n : ℕ) → length (freshChildren f table w i n) ≡ n
 unfolding freshChildren
 length-children f table w i zero = refl
 length-children f table w i (suc n) = ap suc (length-children f table w (i + 1) n)
-
-before-none : (ts : Trees) (y : Tally) → y ≡ before ts 0 y
-unfolding before
-before-none none y = refl
-before-none (more t ts) y = refl
-
-taken-reals : (b : BinsPlan) (y : Tally) → binsTaken b y .reals ≡ y .reals + (14 + 15 * b .bins)
-unfolding binsTaken binsReals
-taken-reals b y = refl
-
-taken-counts : (b : BinsPlan) (y : Tally) → binsTaken b y .counts ≡ y .counts + (7 + 7 * b .bins)
-unfolding binsTaken binsCounts
-taken-counts b y = refl
-
-below : (b : BinsPlan) (ts : Trees) (y : Tally) → Upto (binsTaken b y) (after (bins b ts) y)
-unfolding after
-below b ts y = upto-all ts (binsTaken b y)
 
 module _ (xs : List ℕ) where
   -- at a level: whatever stands there
   abbrev pub Founded : ℕ → Type 0
   Founded l = (t : Tree) (y : Tally) (s : Memory) → (t ≡ nothing → ⊥) → Stands xs l t y → after t y .reals ≤ length (s .reals) → after t y .counts ≤ length (s .counts)
       → Found (y .reals) (after t y .reals) (y .counts) (after t y .counts) s (laidGrid l xs (y .words) s) (λ (a : List Float) (b : List ℕ). gridAt l xs a b (y .words)) (freshAt l xs (y .words))
-
-  axes-differ : (a : AxesPlan) (es : List ℕ) → axes a es ≡ nothing → ⊥
-  unfolding present
-  axes-differ a es e = absurd (false≢true (sym (ap present e)))
-
-  bins-differ : (b : BinsPlan) (ts : Trees) → bins b ts ≡ nothing → ⊥
-  unfolding present
-  bins-differ b ts e = absurd (false≢true (sym (ap present e)))
 
   axes-found : (l : ℕ) (a : AxesPlan) (es : List ℕ) (y : Tally) (s : Memory) → Stands xs l (axes a es) y → after (axes a es) y .reals ≤ length (s .reals) → after (axes a es) y .counts ≤ length (s .counts)
       → Found (y .reals) (after (axes a es) y .reals) (y .counts) (after (axes a es) y .counts) s (laidGrid l xs (y .words) s) (λ (a : List Float) (b : List ℕ). gridAt l xs a b (y .words)) (freshAt l xs (y .words))

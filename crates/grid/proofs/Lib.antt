@@ -32,5 +32,14 @@ pub mod Matches
 pub mod Unites
 pub mod Unique
 pub mod Founds
+pub mod Trees
+pub mod Alike
 pub mod FoundedOwn
 pub mod FoundedTree
+pub mod Named
+pub mod Clones
+pub mod Cloned
+pub mod Turns
+pub mod Adapts
+pub mod Spares
+pub mod UnitedOwn

@@ -54,7 +54,7 @@ unfolding probeGrid
 bins-ended h bs p d xs k = ap (λ (is : List ℕ). probeGrid (bins h bs) is xs) (path-out p d k)
 
 module _ (f : ℕ → Grid) (table : List ℕ) (reals : List Float) (counts : List ℕ) (w : ℕ) where
-  many-bins : (i n : ℕ) → many (binsIn f table reals counts w i n) ≡ n
+  pub many-bins : (i n : ℕ) → many (binsIn f table reals counts w i n) ≡ n
   unfolding many binsIn
   many-bins i zero = refl
   many-bins i (suc n) = ap suc (many-bins (i + 1) n)

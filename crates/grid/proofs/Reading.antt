@@ -10,14 +10,14 @@ use Rattle.accumulator.specs.declared.StatisticsAccumulator.{StatisticsAccumula
 use Rattle.model.specs.Axes.{Axis}
 use Rattle.grid.specs.Layout.{axisReals, axisCounts, binAt, binsFrom, axisAt, axesFrom}
 use Rattle.grid.specs.Memory.{memory, realsOf, countsOf, recordAt}
-use Rattle.grid.proofs.Same.{Same, same-within, stretch-same, getD-sets}
+use Rattle.grid.proofs.Same.{Same, Alike, same-alike, alike-within, getD-sets}
 
 -- ---- accumulators
 
-pub record-same : (r c : ℕ) (reals reals′ : List Float) (counts counts′ : List ℕ) → Same nan r (r + 14) reals reals′ → Same 0 c (c + 7) counts counts′
+pub record-alike : (r c : ℕ) (reals reals′ : List Float) (counts counts′ : List ℕ) → Alike nan r (r + 14) reals reals′ → Alike 0 c (c + 7) counts counts′
     → recordAt reals counts r c ≡ recordAt reals′ counts′ r c
 unfolding recordAt
-record-same r c reals reals′ counts counts′ s t =
+record-alike r c reals reals′ counts counts′ s t =
     let x : (i : ℕ) → i < 14 → getD reals (r + i) nan ≡ getD reals′ (r + i) nan = λ i h. s .cells (r + i) (omega arith) (omega arith) in
     let n : (i : ℕ) → i < 7 → getD counts (c + i) 0 ≡ getD counts′ (c + i) 0 = λ i h. t .cells (c + i) (omega arith) (omega arith) in
     let first : getD reals r nan ≡ getD reals′ r nan = s .cells r (omega arith) (omega arith) in
@@ -45,6 +45,11 @@ record-same r c reals reals′ counts counts′ s t =
       n 5 (omega arith),
       n 6 (omega arith),
     )
+
+pub record-same : (r c : ℕ) (reals reals′ : List Float) (counts counts′ : List ℕ) → Same nan r (r + 14) reals reals′ → Same 0 c (c + 7) counts counts′
+    → recordAt reals counts r c ≡ recordAt reals′ counts′ r c
+record-same r c reals reals′ counts counts′ s t =
+    record-alike r c reals reals′ counts counts′ (same-alike nan r (r + 14) reals reals′ s) (same-alike 0 c (c + 7) counts counts′ t)
 
 pub record-stored : (r c : ℕ) (reals : List Float) (counts : List ℕ) (a : StatisticsAccumulator) → r + 14 ≤ length reals → c + 7 ≤ length counts
     → recordAt (sets reals r (realsOf a)) (sets counts c (countsOf a)) r c ≡ a
@@ -108,11 +113,11 @@ module _ (m : ℕ) (reals : List Float) (counts : List ℕ) where
   getD-all d r c n q h = let e : 0 + q ≡ q = omega arith in getD-bins d r c 0 n q h ∙ ap (binAt m reals counts r c) e
 
 module _ (m : ℕ) (reals reals′ : List Float) (counts counts′ : List ℕ) where
-  bins-same : (r c i n : ℕ) → i + n ≤ m → Same nan r (r + (6 * m + 1)) reals reals′ → Same 0 c (c + (3 * m + 2)) counts counts′
+  bins-alike : (r c i n : ℕ) → i + n ≤ m → Alike nan r (r + (6 * m + 1)) reals reals′ → Alike 0 c (c + (3 * m + 2)) counts counts′
       → binsFrom m reals counts r c i n ≡ binsFrom m reals′ counts′ r c i n
   unfolding binsFrom binAt
-  bins-same r c i zero h s t = refl
-  bins-same r c i (suc n) h s t =
+  bins-alike r c i zero h s t = refl
+  bins-alike r c i (suc n) h s t =
       rw (
         s .cells (r + (2 * m + 1) + i) (omega arith) (omega arith),
         s .cells (r + (3 * m + 1) + i) (omega arith) (omega arith),
@@ -120,32 +125,40 @@ module _ (m : ℕ) (reals reals′ : List Float) (counts counts′ : List ℕ) w
         s .cells (r + (5 * m + 1) + i) (omega arith) (omega arith),
         t .cells (c + 2 + i) (omega arith) (omega arith),
         t .cells (c + (m + 2) + i) (omega arith) (omega arith),
-        bins-same r c (i + 1) n (omega arith) s t,
+        bins-alike r c (i + 1) n (omega arith) s t,
       )
 
-  pub axis-same : (r c : ℕ) → getD counts c 0 ≤ m → Same nan r (r + axisReals m) reals reals′ → Same 0 c (c + axisCounts m) counts counts′
+  pub axis-alike : (r c : ℕ) → getD counts c 0 ≤ m → Alike nan r (r + axisReals m) reals reals′ → Alike 0 c (c + axisCounts m) counts counts′
       → axisAt m reals counts r c ≡ axisAt m reals′ counts′ r c
   unfolding axisAt axisReals axisCounts
-  axis-same r c h s t =
+  axis-alike r c h s t =
       let held : getD counts c 0 ≡ getD counts′ c 0 = t .cells c (omega arith) (omega arith) in
-      let e = stretch-same nan r (r + (6 * m + 1)) r (getD counts c 0 + 1) reals reals′ s (omega arith) (omega arith) in
-      let b = bins-same r c 0 (getD counts c 0) (omega arith) s t in
-      let q = stretch-same nan r (r + (6 * m + 1)) (r + (m + 1)) (getD counts c 0) reals reals′ s (omega arith) (omega arith) in
-      let k = stretch-same 0 c (c + (3 * m + 2)) (c + (2 * m + 2)) (getD counts c 0) counts counts′ t (omega arith) (omega arith) in
+      let e = s .parts r (getD counts c 0 + 1) (omega arith) (omega arith) in
+      let b = bins-alike r c 0 (getD counts c 0) (omega arith) s t in
+      let q = s .parts (r + (m + 1)) (getD counts c 0) (omega arith) (omega arith) in
+      let k = t .parts (c + (2 * m + 2)) (getD counts c 0) (omega arith) (omega arith) in
       let u = t .cells (c + 1) (omega arith) (omega arith) in
       rw (e, b, q, k, u, held)
 
   -- k axes, each of which holds at most m bins
-  pub axes-same : (k r c : ℕ) → Holding m counts k c → Same nan r (r + k * (6 * m + 1)) reals reals′ → Same 0 c (c + k * (3 * m + 2)) counts counts′
+  pub axes-alike : (k r c : ℕ) → Holding m counts k c → Alike nan r (r + k * (6 * m + 1)) reals reals′ → Alike 0 c (c + k * (3 * m + 2)) counts counts′
       → axesFrom m reals counts k r c ≡ axesFrom m reals′ counts′ k r c
   unfolding axesFrom axisReals axisCounts Holding
-  axes-same zero r c h s t = refl
-  axes-same (suc k) r c h s t =
+  axes-alike zero r c h s t = refl
+  axes-alike (suc k) r c h s t =
       let e : r + suc k * (6 * m + 1) ≡ r + (6 * m + 1) + k * (6 * m + 1) = omega arith in
       let f : c + suc k * (3 * m + 2) ≡ c + (3 * m + 2) + k * (3 * m + 2) = omega arith in
-      let first = axis-same r c (h .0) (same-within nan r (r + suc k * (6 * m + 1)) r (r + (6 * m + 1)) reals reals′ (omega arith) (omega arith) s)
-      (same-within 0 c (c + suc k * (3 * m + 2)) c (c + (3 * m + 2)) counts counts′ (omega arith) (omega arith) t) in
-      let others = axes-same k (r + (6 * m + 1)) (c + (3 * m + 2)) (h .1)
-      (same-within nan r (r + suc k * (6 * m + 1)) (r + (6 * m + 1)) (r + (6 * m + 1) + k * (6 * m + 1)) reals reals′ (omega arith) (omega arith) s)
-      (same-within 0 c (c + suc k * (3 * m + 2)) (c + (3 * m + 2)) (c + (3 * m + 2) + k * (3 * m + 2)) counts counts′ (omega arith) (omega arith) t) in
+      let first = axis-alike r c (h .0) (alike-within nan r (r + suc k * (6 * m + 1)) r (r + (6 * m + 1)) reals reals′ (omega arith) (omega arith) s)
+      (alike-within 0 c (c + suc k * (3 * m + 2)) c (c + (3 * m + 2)) counts counts′ (omega arith) (omega arith) t) in
+      let others = axes-alike k (r + (6 * m + 1)) (c + (3 * m + 2)) (h .1)
+      (alike-within nan r (r + suc k * (6 * m + 1)) (r + (6 * m + 1)) (r + (6 * m + 1) + k * (6 * m + 1)) reals reals′ (omega arith) (omega arith) s)
+      (alike-within 0 c (c + suc k * (3 * m + 2)) (c + (3 * m + 2)) (c + (3 * m + 2) + k * (3 * m + 2)) counts counts′ (omega arith) (omega arith) t) in
       ap₂ (λ (a : Axis) (xs : List Axis). a ∷ xs) first others
+
+  pub axis-same : (r c : ℕ) → getD counts c 0 ≤ m → Same nan r (r + axisReals m) reals reals′ → Same 0 c (c + axisCounts m) counts counts′
+      → axisAt m reals counts r c ≡ axisAt m reals′ counts′ r c
+  axis-same r c h s t = axis-alike r c h (same-alike nan r (r + axisReals m) reals reals′ s) (same-alike 0 c (c + axisCounts m) counts counts′ t)
+
+  pub axes-same : (k r c : ℕ) → Holding m counts k c → Same nan r (r + k * (6 * m + 1)) reals reals′ → Same 0 c (c + k * (3 * m + 2)) counts counts′
+      → axesFrom m reals counts k r c ≡ axesFrom m reals′ counts′ k r c
+  axes-same k r c h s t = axes-alike k r c h (same-alike nan r (r + k * (6 * m + 1)) reals reals′ s) (same-alike 0 c (c + k * (3 * m + 2)) counts counts′ t)

@@ -131,3 +131,29 @@ module _ {A : Type 0} where
       ext-getD d (stretch at n xs) (stretch at n ys) (length-stretch at n xs ys (s .size)) (λ i j.
       let below : i < n = stretch-short at n i xs j in
       getD-stretch d at n i xs below ∙ s .cells (at + i) (omega arith) (omega arith) ∙ sym (getD-stretch d at n i ys below))
+
+  -- ---- lists that read alike from lo up to below hi, whatever lies past it
+
+  pub record Alike (d : A) (lo hi : ℕ) (xs ys : List A) : Type 0 where
+    pub cells : (p : ℕ) → lo ≤ p → p < hi → getD xs p d ≡ getD ys p d
+    pub parts : (at n : ℕ) → lo ≤ at → at + n ≤ hi → stretch at n xs ≡ stretch at n ys
+
+  pub same-alike : (d : A) (lo hi : ℕ) (xs ys : List A) → Same d lo hi xs ys → Alike d lo hi xs ys
+  same-alike d lo hi xs ys s = record { cells = s .cells; parts = λ at n h k. stretch-same d lo hi at n xs ys s h k }
+
+  length-inside : (at n hi : ℕ) (xs : List A) → hi ≤ length xs → at + n ≤ hi → length (stretch at n xs) ≡ n
+  unfolding stretch
+  length-inside at n hi xs h k = length-take-le n (drop at xs) (omega (arith, length-drop at xs))
+
+  pub inside-alike : (d : A) (lo hi : ℕ) (xs ys : List A) → hi ≤ length xs → hi ≤ length ys → ((p : ℕ) → lo ≤ p → p < hi → getD xs p d ≡ getD ys p d) → Alike d lo hi xs ys
+  inside-alike d lo hi xs ys h k e =
+      record {
+        cells = e;
+        parts = λ at n i j.
+            let size = length-inside at n hi xs h j in
+            ext-getD d (stretch at n xs) (stretch at n ys) (size ∙ sym (length-inside at n hi ys k j)) (λ q l.
+            getD-stretch d at n q xs (omega (arith, size)) ∙ e (at + q) (omega arith) (omega (arith, size)) ∙ sym (getD-stretch d at n q ys (omega (arith, size))));
+      }
+
+  pub alike-within : (d : A) (lo hi lo′ hi′ : ℕ) (xs ys : List A) → lo ≤ lo′ → hi′ ≤ hi → Alike d lo hi xs ys → Alike d lo′ hi′ xs ys
+  alike-within d lo hi lo′ hi′ xs ys h k s = record { cells = λ p i j. s .cells p (omega arith) (omega arith); parts = λ at n i j. s .parts at n (omega arith) (omega arith) }

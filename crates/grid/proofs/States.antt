@@ -28,7 +28,7 @@ pub record Clear (table : List ℕ) (reals : List Float) (counts : List ℕ) : T
   pub laid : Laid 4 table (length reals) (length counts) 0
   pub well : sound (rootOf table reals counts) ≡ true
 
-passes : (b : Bool) (n rest : ℕ) → (n ≡ 0 → ⊥) → cond b n rest ≡ 0 → (b ≡ false) × (rest ≡ 0)
+pub passes : (b : Bool) (n rest : ℕ) → (n ≡ 0 → ⊥) → cond b n rest ≡ 0 → (b ≡ false) × (rest ≡ 0)
 passes true n rest z e = absurd (z e)
 passes false n rest z e = (refl, e)
 

@@ -13,7 +13,9 @@ use Rattle.accumulator.specs.declared.Summed.{Summed}
 use Rattle.accumulator.proofs.Unique.{estimated-one, summed-one}
 use Rattle.plan.specs.declared.Read.{Read}
 use Rattle.plan.proofs.Unique.{paper-read-one}
-use Rattle.grid.specs.Calls.{FreshEnd, MergeEnd}
+use Rattle.grid.specs.Calls.{FreshEnd, CloneEnd, MergeEnd}
+use Rattle.grid.proofs.clone_without_samples.Kinds as clone-kinds
+use Rattle.grid.proofs.clone_without_samples.Reads as clone-reads
 use Rattle.grid.proofs.draw.Kinds as draw-kinds
 use Rattle.grid.proofs.draw.Reads as draw-reads
 use Rattle.grid.proofs.fresh.Kinds as fresh-kinds
@@ -24,9 +26,14 @@ use Rattle.grid.proofs.live_estimate.Kinds as live-kinds
 use Rattle.grid.proofs.live_estimate.Reads as live-reads
 use Rattle.grid.proofs.merge.Kinds as merge-kinds
 use Rattle.grid.proofs.merge.Reads as merge-reads
+use Rattle.grid.proofs.live_estimate_of_bin.Kinds as live-of-bin-kinds
+use Rattle.grid.proofs.live_estimate_of_bin.Reads as live-of-bin-reads
 use Rattle.grid.proofs.summary.Kinds as summary-kinds
 use Rattle.grid.proofs.summary.Reads as summary-reads
 use Rattle.grid.proofs.probe.Kinds as probe-kinds
+use Rattle.grid.proofs.update.Kinds as update-kinds
+use Rattle.grid.proofs.update.Reads as update-reads
+use Rattle.grid.specs.Calls.{UpdateEnd}
 use Rattle.grid.proofs.probe.Reads as probe-reads
 
 pub draw-total : (κs : Lfts 3) (a : Dens κs draw-kinds.ps) → draw-reads.Pre κs a
@@ -50,6 +57,13 @@ pub live-estimate-unique : (κs : Lfts 3) (a : Dens κs live-kinds.ps) (r r′ :
     → live-reads.Post κs a r s → live-reads.Post κs a r′ s′ → r ≡ r′
 live-estimate-unique κs a r r′ s s′ p q = estimated-one r r′ (p ∙ sym q)
 
+pub live-estimate-of-bin-total : (κs : Lfts 3) (a : Dens κs live-of-bin-kinds.ps) → live-of-bin-reads.Pre κs a
+live-estimate-of-bin-total κs a = tt
+
+pub live-estimate-of-bin-unique : (κs : Lfts 3) (a : Dens κs live-of-bin-kinds.ps) (r r′ : Estimated) (s s′ : AtExit (endedOf 3 live-of-bin-kinds.ps live-of-bin-kinds.r) κs)
+    → live-of-bin-reads.Post κs a r s → live-of-bin-reads.Post κs a r′ s′ → r ≡ r′
+live-estimate-of-bin-unique κs a r r′ s s′ p q = estimated-one r r′ (p ∙ sym q)
+
 pub fresh-total : (κs : Lfts 4) (a : Dens κs fresh-kinds.ps) → fresh-reads.Pre κs a
 fresh-total κs a = tt
 
@@ -61,12 +75,33 @@ fresh-unique κs a r r′ s s′ p q =
     let e = p ∙ sym q in
     (paper-read-one r r′ (ap (λ (x : FreshEnd). x .answer) e), ap (λ (x : FreshEnd). x .table) e, ap (λ (x : FreshEnd). x .state .reals) e, ap (λ (x : FreshEnd). x .state .counts) e)
 
+pub clone-without-samples-total : (κs : Lfts 5) (a : Dens κs clone-kinds.ps) → clone-reads.Pre κs a
+clone-without-samples-total κs a = tt
+
+-- the answer, and every entry of the destination
+pub clone-without-samples-unique : (κs : Lfts 5) (a : Dens κs clone-kinds.ps) (n n′ : ℕ) (s s′ : AtExit (endedOf 5 clone-kinds.ps clone-kinds.r) κs)
+    → clone-reads.Post κs a n s → clone-reads.Post κs a n′ s′
+    → (n ≡ n′) × (now (s .1 .1 .1 .0) ≡ now (s′ .1 .1 .1 .0)) × (now (s .1 .1 .1 .1 .0) ≡ now (s′ .1 .1 .1 .1 .0))
+clone-without-samples-unique κs a n n′ s s′ p q =
+    let e = p ∙ sym q in
+    (ap (λ (x : CloneEnd). x .answer) e, ap (λ (x : CloneEnd). x .copy .reals) e, ap (λ (x : CloneEnd). x .copy .counts) e)
+
 pub probe-total : (κs : Lfts 3) (a : Dens κs probe-kinds.ps) → probe-reads.Pre κs a
 probe-total κs a = tt
 
 pub probe-unique : (κs : Lfts 3) (a : Dens κs probe-kinds.ps) (r r′ : Probed) (s s′ : AtExit (endedOf 3 probe-kinds.ps probe-kinds.r) κs)
     → probe-reads.Post κs a r s → probe-reads.Post κs a r′ s′ → r ≡ r′
 probe-unique κs a r r′ s s′ p q = probed-one r r′ (p ∙ sym q)
+
+pub update-total : (κs : Lfts 5) (a : Dens κs update-kinds.ps) → update-reads.Pre κs a
+update-total κs a = tt
+
+-- the answer, and every entry of the state; the spare is left open
+pub update-unique : (κs : Lfts 5) (a : Dens κs update-kinds.ps) (r r′ : ℕ) (s s′ : AtExit (endedOf 5 update-kinds.ps update-kinds.r) κs)
+    → update-reads.Post κs a r s → update-reads.Post κs a r′ s′ → (r ≡ r′) × (now (s .1 .0) ≡ now (s′ .1 .0)) × (now (s .1 .1 .0) ≡ now (s′ .1 .1 .0))
+update-unique κs a r r′ s s′ p q =
+    let e = p ∙ sym q in
+    (ap (λ (x : UpdateEnd). x .answer) e, ap (λ (x : UpdateEnd). x .state .reals) e, ap (λ (x : UpdateEnd). x .state .counts) e)
 
 pub is-mergeable-total : (κs : Lfts 6) (a : Dens κs mergeable-kinds.ps) → mergeable-reads.Pre κs a
 is-mergeable-total κs a = tt

@@ -1,9 +1,9 @@
 -- What each public call answers: the refusals in their order, then the answer; and what it leaves in lent memory.
 use Prim.Native.Nat.{ℕ}
-use mathlib.Core.Bool.{not, cond}
-use mathlib.Core.List.{List}
+use mathlib.Core.Bool.{not, _&&_, cond}
+use mathlib.Core.List.{List, _++_}
 use lib.Dec.{eqb, ltb}
-use lib.ListN.{length}
+use lib.ListN.{length, take, drop}
 use lib.Ieee.{Float}
 use Rattle.real.specs.Paper.{Paper, gives, refuses}
 use Rattle.stream.specs.declared.MonteCarloRng.{MonteCarloRng}
@@ -14,16 +14,21 @@ use Rattle.model.specs.Draw.{Drawing, drawGrid, drawNothing}
 use Rattle.model.specs.Probe.{probeGrid}
 use Rattle.grid.specs.declared.Drawn.{Drawn}
 use Rattle.plan.specs.Paper as plan
-use Rattle.plan.specs.Calls.{measureOf, readPlanOf}
+use Rattle.plan.specs.declared.Needs.{Needs}
+use Rattle.plan.specs.Calls.{measureOf, readPlanOf, sizesOf}
 use Rattle.grid.specs.Memory.{Memory, memory}
 use Rattle.grid.specs.Founded.{laidGrid}
+use Rattle.grid.specs.Adapted.{updatedIn}
+use Rattle.model.specs.Update.{rateFits}
 use Rattle.grid.specs.declared.Region.{Region}
-use Rattle.grid.specs.Sampled.{laidDrawing}
+use Rattle.grid.specs.Sampled.{entries, laidDrawing}
+use Rattle.grid.specs.Bins.{estimateAlong}
 use Rattle.grid.specs.Probed.{coordinatesOf, pathFrom}
 use Rattle.model.specs.Grid.{Grid}
 use Rattle.model.specs.Merge.{mergeFault, mergeOf}
-use Rattle.grid.specs.State.{rootOf, ownOf, stateFault, pairFault}
+use Rattle.grid.specs.State.{rootOf, ownOf, judgedTo, stateFault, pairFault}
 use Rattle.grid.specs.United.{unitedGrid}
+use Rattle.grid.specs.Cleared.{clearedRoot}
 
 -- an answer on a state that may be refused
 abbrev pub onState : {A : Type 0} → ℕ → Paper A → Paper A
@@ -46,6 +51,10 @@ summaryOf table reals counts = onState (stateFault table reals counts) (summariz
 
 unfoldable pub liveOf : List ℕ → List Float → List ℕ → Paper Estimate
 liveOf table reals counts = onState (stateFault table reals counts) (liveEstimateOf (ownOf (rootOf table reals counts)))
+
+-- that of the bin at the end of a path; past the fourth index, which no grid asks for, the path has zeros
+unfoldable pub liveOfBin : List ℕ → List Float → List ℕ → List ℕ → ℕ → Paper Estimate
+liveOfBin table reals counts path levels = onState (stateFault table reals counts) (estimateAlong (rootOf table reals counts) (entries 0 path 0 levels))
 
 -- ---- fresh
 
@@ -74,11 +83,83 @@ freshBy bs (plan.refusesAt n at) table s = freshEnd (plan.refusesAt n at) table 
 unfoldable pub freshOf : List ℕ → List ℕ → Memory → FreshEnd
 freshOf bs table s = freshBy bs (measureOf bs) table s
 
+-- ---- clone_without_samples
+
+-- the answer, 0 or a refusal, and the destination afterwards
+pub record CloneEnd : Type 0 where
+  pub answer : ℕ
+  pub copy : Memory
+
+abbrev pub cloneEnd : ℕ → Memory → CloneEnd
+cloneEnd n s = record { answer = n; copy = s }
+
+-- the first n of other entries over one's own; the room past them stays
+unfoldable pub overFront : {A : Type 0} → ℕ → List A → List A → List A
+overFront n ys xs = take n ys ++ drop n xs
+
+-- a plan's reals and counts in front of the destination
+unfoldable pub copiedTo : Needs → Memory → Memory → Memory
+copiedTo n s to = memory (overFront (n .reals) (s .reals) (to .reals)) (overFront (n .counts) (s .counts) (to .counts))
+
+-- refused, the destination stays; else the grid is copied, and nothing waits in the copy's root
+unfoldable pub clonedBy : List ℕ → Memory → Memory → Needs → CloneEnd
+clonedBy table s to n =
+    let fault = judgedTo table (s .reals) (s .counts) (length (to .reals)) (length (to .counts)) n in
+    cond (not (eqb fault 0)) (cloneEnd fault to) (cloneEnd 0 (clearedRoot table (copiedTo n s to)))
+
+abbrev pub cloneBy : List ℕ → Memory → Memory → plan.Paper Needs → CloneEnd
+cloneBy table s to (plan.gives n) = clonedBy table s to n
+cloneBy table s to (plan.refuses k) = cloneEnd 12 to
+cloneBy table s to (plan.refusesAt k at) = cloneEnd 12 to
+
+unfoldable pub cloneOf : List ℕ → Memory → Memory → CloneEnd
+cloneOf table s to = cloneBy table s to (sizesOf table)
+
 -- ---- probe
 
 -- the model's answer, from the top of the path
 unfoldable pub probeOf : List ℕ → List Float → List ℕ → Region → Paper Float
 probeOf table reals counts p = onState (stateFault table reals counts) (probeGrid (rootOf table reals counts) (pathFrom p 0) (coordinatesOf (p .coordinates)))
+
+-- ---- update
+
+-- the answer, 0 or a refusal, and the two lists afterwards
+pub record UpdateEnd : Type 0 where
+  pub answer : ℕ
+  pub state : Memory
+
+abbrev pub updateEnd : ℕ → Memory → UpdateEnd
+updateEnd n s = record { answer = n; state = s }
+
+-- of memory that is just the plan's: 8 anywhere, then 9 anywhere, else what the update leaves
+unfoldable pub renewedOver : List ℕ → Float → Float → Memory → UpdateEnd
+renewedOver table binsRate axesRate s =
+    let o = updatedIn 4 table binsRate axesRate 0 s in
+    cond (o .eight) (updateEnd 8 s) (cond (o .nine) (updateEnd 9 s) (updateEnd 0 (o .after)))
+
+-- the plan's part of memory, and memory with another in its place
+unfoldable pub frontOf : Needs → Memory → Memory
+frontOf n s = memory (take (n .reals) (s .reals)) (take (n .counts) (s .counts))
+
+unfoldable pub inFront : Needs → Memory → Memory → Memory
+inFront n front s = memory (front .reals ++ drop (n .reals) (s .reals)) (front .counts ++ drop (n .counts) (s .counts))
+
+-- 10 for the spare of R reals and C counts too, 12, 3, 8, 9
+unfoldable pub updatedBy : List ℕ → Float → Float → ℕ → ℕ → Memory → Needs → UpdateEnd
+updatedBy table binsRate axesRate R C s n =
+    let fault = judgedTo table (s .reals) (s .counts) R C n in
+    let e = renewedOver table binsRate axesRate (frontOf n s) in
+    cond (not (eqb fault 0)) (updateEnd fault s)
+    (cond (not (rateFits binsRate && rateFits axesRate)) (updateEnd 3 s)
+    (updateEnd (e .answer) (inFront n (e .state) s)))
+
+abbrev pub updateBy : List ℕ → Float → Float → ℕ → ℕ → Memory → plan.Paper Needs → UpdateEnd
+updateBy table binsRate axesRate R C s (plan.gives n) = updatedBy table binsRate axesRate R C s n
+updateBy table binsRate axesRate R C s (plan.refuses k) = updateEnd 12 s
+updateBy table binsRate axesRate R C s (plan.refusesAt k at) = updateEnd 12 s
+
+unfoldable pub updateOf : List ℕ → Float → Float → ℕ → ℕ → Memory → UpdateEnd
+updateOf table binsRate axesRate R C s = updateBy table binsRate axesRate R C s (sizesOf table)
 
 -- ---- is_mergeable and merge
 

@@ -29,6 +29,15 @@ judgedBy table reals counts n =
     (cond (ltb (length counts) (n .counts)) 10
     (cond (not (sound (rootOf table reals counts))) 12 0))
 
+-- the same with a destination of R reals and C counts, which is judged behind the source's room and before its state
+unfoldable pub judgedTo : List ℕ → List Float → List ℕ → ℕ → ℕ → Needs → ℕ
+judgedTo table reals counts R C n =
+    cond (ltb (length reals) (n .reals)) 10
+    (cond (ltb (length counts) (n .counts)) 10
+    (cond (ltb R (n .reals)) 10
+    (cond (ltb C (n .counts)) 10
+    (cond (not (sound (rootOf table reals counts))) 12 0))))
+
 -- a table that is no plan's, or is cut: 12
 unfoldable pub faultBy : List ℕ → List Float → List ℕ → plan.Paper Needs → ℕ
 faultBy table reals counts (plan.gives n) = judgedBy table reals counts n

@@ -5,6 +5,7 @@ ghost use lib.ListN.{length};
 ghost use lib.Seq.{sets};
 ghost use Rattle.accumulator.specs.Record.{wellFormed};
 ghost use Rattle.grid.specs.Memory.{memory, realsOf, countsOf, recordAt, stored};
+ghost use Rattle.grid.specs.Cleared.{clearedAt};
 use accumulator::StatisticsAccumulator;
 
 // The record whose reals begin at r and whose counts begin at c.
@@ -79,6 +80,17 @@ pub fn store(reals: &mut [f64], counts: &mut [u64], r: usize, c: usize, a: Stati
 {
     store_reals(reals, r, a);
     store_counts(counts, c, a);
+}
+
+// Nothing waits in the record at r and c.
+pub fn clear(reals: &mut [f64], counts: &mut [u64], r: usize, c: usize)
+    requires { ⌜ (r + 14 ≤ length (now reals)) × (c + 7 ≤ length (now counts)) ⌝ }
+    ensures { λ _. ⌜ memory (now (reals .exit)) (now (counts .exit)) ≡ clearedAt r c (memory (now (reals .entry)) (now (counts .entry))) ⌝ }
+{
+    reals[r] = 0.0;
+    reals[r + 1] = 0.0;
+    counts[c] = 0;
+    counts[c + 1] = 0;
 }
 
 // Whether the record at r and c is well formed: finite kept sums, counts within their bound.

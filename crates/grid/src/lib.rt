@@ -1,5 +1,7 @@
 // Grids in lent memory.
 mod accounts;
+mod adapting;
+mod along;
 mod axes;
 mod clearing;
 mod copying;
@@ -20,18 +22,21 @@ mod sampling;
 mod state;
 mod training;
 mod uniting;
+mod updating;
 
 ghost use mathlib.Core.Path.{_≡_};
+ghost use lib.ListN.{length};
 ghost use Rattle.accumulator.specs.Calls.{paperEstimated, paperSummed};
 ghost use Rattle.plan.specs.Paper.{gives, planRead, paperRead};
 ghost use Rattle.plan.specs.Calls.{measureOf};
 ghost use Rattle.grid.specs.Memory.{memory};
 ghost use Rattle.axis.specs.Calls.{paperProbed};
-ghost use Rattle.grid.specs.Calls.{drawnAs, drawOf, probeOf, summaryOf, liveOf, freshEnd, foundedOf, freshOf, mergeableOf, mergeEnd, mergeIntoOf};
+ghost use Rattle.grid.specs.Calls.{drawnAs, drawOf, probeOf, summaryOf, liveOf, liveOfBin, freshEnd, foundedOf, freshOf, cloneEnd, cloneOf, updateEnd, updateOf, mergeableOf, mergeEnd, mergeIntoOf};
 use accumulator::Estimated;
 use accumulator::Summed;
 use plan::Needs;
 use plan::Read;
+use plan::Sized;
 
 // A sample: a bin for each bins grid on its path, a weight for each of them and for the axes grid at its end, and that grid's
 // coordinates. Of each as many are there as its number says.
@@ -105,6 +110,23 @@ pub fn live_estimate(table: &[u64], reals: &[f64], counts: &[u64]) -> Estimated
     state::own(table, reals, counts).get_live_estimate()
 }
 
+// The same of the bin at the end of a path. Refused: 10, 12; along the path 4, 6; then 8.
+pub fn live_estimate_of_bin(
+    table: &[u64],
+    reals: &[f64],
+    counts: &[u64],
+    path: [usize; 4],
+    levels: usize,
+) -> Estimated
+    ensures { λ r. ⌜ paperEstimated r ≡ liveOfBin (now (table .entry)) (now (reals .entry)) (now (counts .entry)) path levels ⌝ }
+{
+    let refused = state::fault(table, reals, counts);
+    if refused != 0 {
+        return Estimated::Refused(refused);
+    }
+    along::estimate_along(table, reals, counts, 4, 0, path, levels, 0)
+}
+
 // Lays a plan's table and its fresh grid, where there is room for all of it. The answer is the plan's: its end and its needs, or a
 // refusal with its field's offset. Refused: 1, 2, 3 in the plan; 10. Nothing is written then.
 pub fn fresh(bytes: &[u8], table: &mut [u64], reals: &mut [f64], counts: &mut [u64]) -> Read
@@ -148,6 +170,24 @@ fn found(
     read
 }
 
+// A copy without the samples that wait in the root, laid in other lent memory; the plan's table serves both. 0, or refused: 12, 10, 12,
+// the destination's room behind the source's. It stays then, and so does its room past the copy.
+pub fn clone_without_samples(
+    table: &[u64],
+    reals: &[f64],
+    counts: &[u64],
+    to_reals: &mut [f64],
+    to_counts: &mut [u64],
+) -> u64
+    ensures { λ n. ⌜ cloneEnd n (memory (now («to_reals» .exit)) (now («to_counts» .exit))) ≡
+        cloneOf (now (table .entry)) (memory (now (reals .entry)) (now (counts .entry))) (memory (now («to_reals» .entry)) (now («to_counts» .entry))) ⌝ }
+{
+    match plan::sizes(table) {
+        Sized::Plan(needs) => copying::copy_grid(table, reals, counts, to_reals, to_counts, needs),
+        Sized::Refused(_) => 12,
+    }
+}
+
 // The weight at a point, or over the region that open coordinates leave; where the path ends at a bin and no coordinates are given,
 // from the probabilities alone. Refused: 10, 12; along the path 4, 6; then 5.
 pub fn probe(table: &[u64], reals: &[f64], counts: &[u64], p: Region) -> axis::Probed
@@ -158,6 +198,35 @@ pub fn probe(table: &[u64], reals: &[f64], counts: &[u64], p: Region) -> axis::P
         return axis::Probed::Refused(refused);
     }
     descent::probe_grid(table, reals, counts, 4, 0, p, 0)
+}
+
+// Processes the waiting samples and adapts axes and probabilities, worked out on a spare of the state's size. 0, or refused: 12, 10, 12, the
+// spare's room behind the state's; 3 for a rate; 8 anywhere, then 9 anywhere. Nothing of the state is written then.
+pub fn update(
+    table: &[u64],
+    reals: &mut [f64],
+    counts: &mut [u64],
+    spare_reals: &mut [f64],
+    spare_counts: &mut [u64],
+    bins_rate: f64,
+    axes_rate: f64,
+) -> u64
+    ensures { λ n. ⌜ updateEnd n (memory (now (reals .exit)) (now (counts .exit))) ≡
+        updateOf (now (table .entry)) «bins_rate» «axes_rate» (length (now («spare_reals» .entry))) (length (now («spare_counts» .entry))) (memory (now (reals .entry)) (now (counts .entry))) ⌝ }
+{
+    match plan::sizes(table) {
+        Sized::Plan(needs) => updating::update_state(
+            table,
+            reals,
+            counts,
+            spare_reals,
+            spare_counts,
+            bins_rate,
+            axes_rate,
+            needs,
+        ),
+        Sized::Refused(_) => 12,
+    }
 }
 
 // Whether another grid may be merged: 0, or what stands against it. Refused: 10, 12, 4, 11.

@@ -29,7 +29,7 @@ pub struct Found {
 }
 
 // Copies reals over as many others.
-fn copy_reals(to: &mut [f64], from: &[f64])
+pub fn copy_reals(to: &mut [f64], from: &[f64])
     requires { ⌜ length (now to) ≡ length (now from) ⌝ }
     ensures { λ _. ⌜ now (to .exit) ≡ now (from .entry) ⌝ }
 {
@@ -41,7 +41,7 @@ fn copy_reals(to: &mut [f64], from: &[f64])
 }
 
 // Copies counts over as many others.
-fn copy_counts(to: &mut [u64], from: &[u64])
+pub fn copy_counts(to: &mut [u64], from: &[u64])
     requires { ⌜ length (now to) ≡ length (now from) ⌝ }
     ensures { λ _. ⌜ now (to .exit) ≡ now (from .entry) ⌝ }
 {
@@ -53,7 +53,7 @@ fn copy_counts(to: &mut [u64], from: &[u64])
 }
 
 // Puts reals into lent memory, from a place on.
-fn put_reals(reals: &mut [f64], start: usize, part: &[f64])
+pub fn put_reals(reals: &mut [f64], start: usize, part: &[f64])
     requires { ⌜ start + length (now part) ≤ length (now reals) ⌝ }
     ensures { λ _. ⌜ now (reals .exit) ≡ put start (length (now (part .entry))) (now (part .entry)) (now (reals .entry)) ⌝ }
 {
@@ -62,7 +62,7 @@ fn put_reals(reals: &mut [f64], start: usize, part: &[f64])
 }
 
 // Puts counts into lent memory, from a place on.
-fn put_counts(counts: &mut [u64], start: usize, part: &[u64])
+pub fn put_counts(counts: &mut [u64], start: usize, part: &[u64])
     requires { ⌜ start + length (now part) ≤ length (now counts) ⌝ }
     ensures { λ _. ⌜ now (counts .exit) ≡ put start (length (now (part .entry))) (now (part .entry)) (now (counts .entry)) ⌝ }
 {

@@ -4,7 +4,7 @@ ghost use Rattle.plan.specs.Paper.{gives};
 ghost use Rattle.plan.specs.Calls.{sizesOf};
 ghost use lib.ListN.{length};
 ghost use Rattle.grid.specs.Tree.{Laid};
-ghost use Rattle.grid.specs.State.{rootOf, ownOf, judgedBy, stateFault, bothJudged, secondBy, pairFault};
+ghost use Rattle.grid.specs.State.{rootOf, ownOf, judgedBy, judgedTo, stateFault, bothJudged, secondBy, pairFault};
 use crate::accounts;
 use crate::judge;
 use accumulator::StatisticsAccumulator;
@@ -20,6 +20,36 @@ fn judged(table: &[u64], reals: &[f64], counts: &[u64], needs: Needs) -> u64
         return 10;
     }
     if counts.len() < needs.counts {
+        return 10;
+    }
+    if !judge::grid_fits(table, reals, counts, 4, 0) {
+        return 12;
+    }
+    0
+}
+
+// The same with a destination of so many reals and counts, which is judged behind the source's room and before its state.
+pub fn judged_to(
+    table: &[u64],
+    reals: &[f64],
+    counts: &[u64],
+    places: usize,
+    tallies: usize,
+    needs: Needs,
+) -> u64
+    requires { ⌜ sizesOf (now table) ≡ gives needs ⌝ }
+    ensures { λ n. ⌜ n ≡ judgedTo (now (table .entry)) (now (reals .entry)) (now (counts .entry)) places tallies needs ⌝ }
+{
+    if reals.len() < needs.reals {
+        return 10;
+    }
+    if counts.len() < needs.counts {
+        return 10;
+    }
+    if places < needs.reals {
+        return 10;
+    }
+    if tallies < needs.counts {
         return 10;
     }
     if !judge::grid_fits(table, reals, counts, 4, 0) {

@@ -12,6 +12,7 @@ use Rattle.accumulator.specs.declared.StatisticsAccumulator.{StatisticsAccumula
 use Rattle.accumulator.specs.Record.{bounded, wellFormed}
 use Rattle.axis.specs.Edges as Edges
 use Rattle.axis.specs.Scans.{allBounded}
+unfoldable pub use Rattle.recut.specs.Chances.{chance}
 use Rattle.model.specs.Axes.{Axis, AxesPlan, AxesGrid}
 use Rattle.model.specs.Grid.{Bin, Head, Grid, Bins, Child, axes, bins, none, more, nothing, grid}
 
@@ -40,10 +41,6 @@ unfoldable mutual
   pub keptChild : Child → Bool
   keptChild nothing = true
   keptChild (grid g) = keptGrid g
-
--- a probability is finite and above 0
-unfoldable pub chance : Float → Bool
-chance p = finiteOf p && lt zero64 p
 
 -- an axis holds one of its plan's bin numbers, each of its columns has as many entries, and its edges rise from 0 to 1
 unfoldable pub listed : ℕ → List ℕ → Bool

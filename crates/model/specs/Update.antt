@@ -19,9 +19,9 @@ use Rattle.accumulator.specs.Update.{updatedOf}
 use Rattle.axis.specs.Scans.{allBounded}
 use Rattle.recut.specs.Gather.{gatheredOf, joinedCounts, reachesOf}
 use Rattle.recut.specs.Renew.{renewOf}
+use Rattle.recut.specs.Chances.{adaptedTo, allChances}
 use Rattle.model.specs.Axes.{Axis, AxesPlan, AxesGrid, emptyAxis}
 use Rattle.model.specs.Grid.{Bin, Head, Grid, Bins, Child, axes, bins, none, more, nothing, grid, withHead, withBin}
-use Rattle.model.specs.Sound.{chance}
 
 -- ---- an axis
 
@@ -111,24 +111,6 @@ rawOf averages a =
 unfoldable pub raws : Bool → Bins → List Float
 raws averages none = []
 raws averages (more b c bs) = rawOf averages (b .own) ∷ raws averages bs
-
-unfoldable pub highest : Float → List Float → Float
-highest m [] = m
-highest m (p ∷ ps) = highest (cond (lt m p) p m) ps
-
--- none below the highest divided by the ratio; then divided by their sum
-unfoldable pub raisedTo : Float → Float → Float
-raisedTo r p = cond (lt p r) r p
-
-unfoldable pub adaptedTo : Float → List Float → List Float
-adaptedTo ratio ps =
-    let r = div binary64 (highest zero64 ps) ratio in
-    let qs = map (raisedTo r) ps in
-    map (λ (q : Float). div binary64 q (totalOf zero64 qs)) qs
-
-unfoldable pub allChances : List Float → Bool
-allChances [] = true
-allChances (p ∷ ps) = chance p && allChances ps
 
 unfoldable pub withProbabilities : Bins → List Float → Bins
 withProbabilities none ps = none

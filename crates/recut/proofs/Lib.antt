@@ -4,6 +4,7 @@ pub mod Pairs
 pub mod Counts
 pub mod Smooth
 pub mod Damp
+pub mod Shares
 pub mod Walks
 pub mod Cuts
 pub mod Finite

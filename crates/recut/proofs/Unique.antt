@@ -11,6 +11,8 @@ use lib.Ieee.{Float}
 use Rattle.recut.specs.declared.Renewed.{Renewed}
 use Rattle.recut.specs.declared.Renewed.the-variants.{Done, Refused}
 use Rattle.recut.specs.Renew.{paperRenewed}
+use Rattle.recut.proofs.adapt.Kinds as adapt
+use Rattle.recut.proofs.adapt.Reads as adapt-reads
 use Rattle.recut.proofs.gather.Kinds as gather
 use Rattle.recut.proofs.gather.Reads as gather-reads
 use Rattle.recut.proofs.gather_counts.Kinds as gather-counts
@@ -63,3 +65,10 @@ pub renew-unique : (κs : Lfts 4) (a : Dens κs renew.ps) (r r′ : Renewed) (s 
 renew-unique κs a r r′ s s′ p q =
     let e = p ∙ sym q in
     (renewed-one r r′ _ _ e, λ d. room-one r′ _ _ (rw d at e))
+
+pub adapt-total : (κs : Lfts 1) (a : Dens κs adapt.ps) → adapt-reads.Pre κs a
+adapt-total κs a = tt
+
+pub adapt-unique : (κs : Lfts 1) (a : Dens κs adapt.ps) (r r′ : Bool) (s s′ : AtExit (endedOf 1 adapt.ps adapt.r) κs)
+    → adapt-reads.Post κs a r s → adapt-reads.Post κs a r′ s′ → (now (s .0) ≡ now (s′ .0)) × (r ≡ r′)
+adapt-unique κs a r r′ s s′ p q = (p .0 ∙ sym (q .0), p .1 ∙ sym (q .1))

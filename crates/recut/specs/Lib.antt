@@ -4,3 +4,4 @@ pub mod Gather
 pub mod Weights
 pub mod Cut
 pub mod Renew
+pub mod Chances

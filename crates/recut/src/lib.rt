@@ -1,7 +1,9 @@
-// The numerical heart of an axis's update: what waits is gathered, and from the gathered importances new edges are cut.
+// The numerical heart of an update: of an axis, what waits is gathered, and from the gathered importances new edges are cut; of a bins
+// grid, raw probabilities are held up by the ratio and divided by their sum.
 //
 // Every call answers on any input. `renew` works on a spare: the importances it is lent are its workspace, and the new
 // edges stand in a room beside them, so that the axis itself is written only once the update is known to be accepted.
+mod chances;
 mod cut;
 mod weights;
 
@@ -9,6 +11,7 @@ ghost use mathlib.Core.Path.{_≡_};
 ghost use Prim.Native.Nat.{_<_, _≤_};
 ghost use lib.ListN.{length};
 ghost use Rattle.recut.specs.Gather.{gatheredOf, joinedCount, joinedCounts, reachesOf};
+ghost use Rattle.recut.specs.Chances.{allChances, adaptedTo};
 ghost use Rattle.recut.specs.Renew.{paperRenewed, lengthsFit, fromDamped, fromDivided, renewOf};
 
 // The new edges stand in the room, or a refusal's number.
@@ -133,4 +136,16 @@ pub fn renew(
     }
     weights::normalise(importances, counters);
     from_divided(edges, importances, rate, room)
+}
+
+// Raw probabilities made the bins grid's: none below the highest divided by the ratio, then divided by their sum. Answers whether every
+// one is finite and above 0.
+pub fn adapt(ps: &mut [f64], ratio: f64) -> bool
+    ensures { λ r. ⌜ (now (ps .exit) ≡ adaptedTo ratio (now (ps .entry))) × (r ≡ allChances (adaptedTo ratio (now (ps .entry)))) ⌝ }
+{
+    let least = chances::highest_of(ps) / ratio;
+    chances::raise(ps, least);
+    let total = weights::total(ps);
+    chances::divide(ps, total);
+    chances::are_chances(ps)
 }

@@ -33,6 +33,7 @@ use Rattle.model.specs.Sound.{allSound, keptGrid, keptBins, keptChild, chance}
 use Rattle.model.specs.Draw.{reached}
 use Rattle.model.specs.Train as Train
 use Rattle.model.specs.Train.{trainOf}
+use Rattle.recut.specs.Chances as Chances
 use Rattle.model.specs.Update as Update
 
 -- doubles by their bits
@@ -239,6 +240,6 @@ unfolding
     Edges.rising Edges.binsOf Edges.wellFormed Edges.inUnit Edges.firstUpto Edges.binOf Edges.widthOf Edges.weightOf probeOf pointOf drawOf
     many probabilities freshBin freshBins freshHead freshGrid withHead withBin keptGrid keptBins keptChild chance reached
     Train.faultOf Train.faultOfBin Train.faultOfChild Train.trainGrid Train.trainBin Train.trainChild Train.numbered trainOf
-    Update.idle Update.allIdle Update.rawOf Update.raws Update.highest Update.raisedTo Update.adaptedTo Update.allChances Update.withProbabilities
+    Update.idle Update.allIdle Update.rawOf Update.raws Chances.higher Chances.highest Chances.raisedTo Chances.shareOf Chances.adaptedTo Chances.allChances Update.withProbabilities
     Update.adaptedBins Update.updateGrid Update.updateBins Update.updateChild Update.rateFits Update.updateOf
 examples = refl

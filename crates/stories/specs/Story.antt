@@ -47,6 +47,7 @@ use Rattle.model.specs.Probe as Probe
 use Rattle.model.specs.Probe.{Coordinate, given}
 use Rattle.model.specs.Train as Train
 use Rattle.model.specs.Merge as Merge
+use Rattle.recut.specs.Chances as Chances
 use Rattle.model.specs.Update as Update
 use Rattle.stories.specs.Dump as Dump
 use Rattle.stories.specs.Dump.{bitsOf, doublesOf, gridWords, gridOf}
@@ -243,7 +244,7 @@ unfolding
     Merge.equalChild Merge.mergeBinRecords Merge.mergeAxis Merge.mergeAll Merge.mergeGrid Merge.mergeBins Merge.mergeChild Merge.mergeFault
     Merge.mergeOf
     Update.trained Update.gatheredAxis Update.lastOr Update.binsAfter Update.adaptedAxis Update.updateAxis Update.updateAll Update.updateAxes
-    Update.idle Update.allIdle Update.rawOf Update.raws Update.highest Update.raisedTo Update.adaptedTo Update.allChances
+    Update.idle Update.allIdle Update.rawOf Update.raws Chances.higher Chances.highest Chances.raisedTo Chances.shareOf Chances.adaptedTo Chances.allChances
     Update.withProbabilities Update.adaptedBins Update.updateGrid Update.updateBins Update.updateChild Update.rateFits Update.updateOf
     Dump.bitsOf Dump.doublesOf Dump.recordWords Dump.binWords Dump.axisWords Dump.allAxisWords Dump.binRecordWords Dump.gridWords
     Dump.childrenWords Dump.childWords Dump.doubleAt Dump.recordOf Dump.binRecord Dump.binRecords Dump.axisOf Dump.axesOf Dump.gridOf Dump.binsOf
