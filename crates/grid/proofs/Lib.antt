@@ -39,7 +39,9 @@ pub mod FoundedTree
 pub mod Named
 pub mod Clones
 pub mod Cloned
+pub mod Children
 pub mod Turns
 pub mod Adapts
 pub mod Spares
 pub mod UnitedOwn
+pub mod UnitedTree

@@ -175,7 +175,7 @@ unfolding sameBins equalBins mergeBins keptBins
 going-none found all g = g .is ∙ rw (and-true, and-true, and-true) at (g .rest)
 
 -- differing numbers of bins
-bins-differ : (f f′ : ℕ → Grid) (table : List ℕ) (reals : List Float) (counts : List ℕ) (w : ℕ) (other : List ℕ) (theirs : List Float) (tallies : List ℕ) (v i n k : ℕ) → (n ≡ k → ⊥)
+pub bins-differ : (f f′ : ℕ → Grid) (table : List ℕ) (reals : List Float) (counts : List ℕ) (w : ℕ) (other : List ℕ) (theirs : List Float) (tallies : List ℕ) (v i n k : ℕ) → (n ≡ k → ⊥)
     → sameBins (binsIn f table reals counts w i n) (binsIn f′ other theirs tallies v i k) ≡ false
 unfolding sameBins binsIn
 bins-differ f f′ table reals counts w other theirs tallies v i zero zero z = absurd (z refl)

@@ -1,0 +1,215 @@
+-- A tree that took another's waiting samples, in lent memory, is read as the model's merged grid.
+use mathlib.Core.Path.{_≡_, refl, sym, ap, ap₂, _∙_, subst}
+use mathlib.Core.Logic.{_≢_, inl, inr}
+use mathlib.Core.Bool.{Bool, true, false, _&&_, cond, false≢true, true≢false}
+use mathlib.Core.List.{List, [], _∷_}
+use Prim.Native.Nat.{ℕ, zero, suc, _+_, _-_, _*_, _≤_, _<_}
+use native.Mathlib.Omega.{arith}
+use borrow.Author.Tests.{ne-eqb, eq-eqb, eqb-true}
+use lib.Dec.{eqb}
+use lib.ListN.{length, drop, getD}
+use lib.Ieee.{Float, nan}
+use Rattle.real.proofs.Truth.{either, both}
+use Rattle.accumulator.specs.Record as account
+use Rattle.accumulator.specs.Steps.{mergedOf}
+use Rattle.plan.specs.declared.Tally.{Tally}
+use Rattle.plan.specs.declared.AxesPlan.{AxesPlan}
+use Rattle.plan.specs.declared.BinsPlan.{BinsPlan}
+use Rattle.plan.specs.Plan.{Tree, Trees, nothing, axes, bins}
+use Rattle.plan.specs.Needs.{axesReals, axesCounts, axesTaken, binsTaken, after, childAt, before}
+use Rattle.plan.specs.Table.{link}
+use Rattle.plan.specs.Walk.{axesRow, binsRow}
+use Rattle.plan.proofs.Rereads.{taken-words}
+use Rattle.plan.proofs.Records.{Stands, axes-record, bins-record, Upto, upto-after, child-record, before-next}
+use Rattle.model.specs.Grid as model
+use Rattle.model.specs.Sound.{sound, formedGrid, formedChild, keptGrid, keptBins, keptChild, keptAxisList}
+use Rattle.model.specs.Merge.{sameLengths, sameShape, sameBins, sameChild, mergeAll, mergeGrid, mergeBins, mergeChild}
+use Rattle.grid.specs.Memory.{Memory, recordAt}
+use Rattle.grid.specs.Tree.{axesGridAt, headAt, binIn, childIn, binsIn, nodeAt, gridAt, AxesLaid, BinsLaid, Laid}
+use Rattle.grid.specs.Founded.{freshChildren}
+use Rattle.grid.specs.Judged.{soundBin}
+use Rattle.grid.specs.Sampled.{soundChild}
+use Rattle.grid.specs.United.{unitedAxes, unitedOwn, unitedChild, unitedChildren, unitedGrid}
+use Rattle.grid.proofs.Same.{Same, same-on, same-sym, same-within}
+use Rattle.grid.proofs.Laid.{stands-laid, laid-axes, laid-bins}
+use Rattle.grid.proofs.Sounds.{node-axes, node-bins}
+use Rattle.grid.proofs.Samples.{sound-in, sound-below, child-sound}
+use Rattle.grid.proofs.Trees.{axes-differ, bins-differ, before-none, taken-reals, taken-counts, below}
+use Rattle.grid.proofs.Matches as matches
+use Rattle.grid.proofs.Unites.{both-axes, both-bins}
+use Rattle.grid.proofs.FoundedOwn.{Within, within-same, within-on}
+use Rattle.grid.proofs.FoundedTree.{Found, found-at}
+use Rattle.grid.proofs.Children.{stands-in, later}
+use Rattle.grid.proofs.UnitedOwn as own-of
+
+-- ---- what is known of two that are merged
+
+pub record Ready (g o : model.Grid) : Type 0 where
+  pub mine : sound g ≡ true
+  pub theirs : sound o ≡ true
+  pub same : sameShape g o ≡ true
+  pub kept : keptGrid (mergeGrid g o) ≡ true
+
+record Paired (c e : model.Child) : Type 0 where
+  mine : soundChild c ≡ true
+  theirs : soundChild e ≡ true
+  same : sameChild c e ≡ true
+  kept : keptChild (mergeChild c e) ≡ true
+
+module _ (f f′ : ℕ → model.Grid) (at far : ℕ) (z : at ≢ 0) where
+  far-there : sameChild (childIn f at) (childIn f′ far) ≡ true → far ≢ 0
+  unfolding childIn sameChild
+  far-there e q = let x : false ≡ true = rw (ne-eqb at 0 z, q) at e in absurd (false≢true x)
+
+  both-same : far ≢ 0 → sameChild (childIn f at) (childIn f′ far) ≡ true → sameShape (f at) (f′ far) ≡ true
+  unfolding childIn sameChild
+  both-same y e = rw (ne-eqb at 0 z, ne-eqb far 0 y) at e
+
+  both-kept : far ≢ 0 → keptChild (mergeChild (childIn f at) (childIn f′ far)) ≡ true → keptGrid (mergeGrid (f at) (f′ far)) ≡ true
+  unfolding childIn mergeChild keptChild
+  both-kept y e = rw (ne-eqb at 0 z, ne-eqb far 0 y) at e
+
+  pair-ready : (p : Paired (childIn f at) (childIn f′ far)) → Ready (f at) (f′ far)
+  pair-ready p =
+      let y = far-there (p .same) in
+      record { mine = child-sound f at z (p .mine); theirs = child-sound f′ far y (p .theirs); same = both-same y (p .same); kept = both-kept y (p .kept) }
+
+-- which of the two the other is
+other-axes : (l : ℕ) (ys : List ℕ) (reals : List Float) (counts : List ℕ) (v : ℕ) (g : model.Grid) → Laid l ys (length reals) (length counts) v
+    → ((h : model.Head) (bs : model.Bins) → sameShape g (model.bins h bs) ≡ false) → sameShape g (gridAt l ys reals counts v) ≡ true → getD ys v 0 ≡ 1
+other-axes l ys reals counts v g laid n e = elim (either (eqb (getD ys v 0) 1)) [
+  | inl x ↦ eqb-true (getD ys v 0) 1 x
+  | inr x ↦
+      let z : getD ys v 0 ≡ 1 → ⊥ = λ q. absurd (true≢false (sym (eq-eqb (getD ys v 0) 1 q) ∙ x)) in
+      let d = laid-bins l ys (length reals) (length counts) v laid z in
+      absurd (false≢true (sym (ap (sameShape g) (node-bins l ys reals counts v z (d .level)) ∙ n _ _) ∙ e))
+]
+
+axes-no-bins : (g : model.Grid) (x : _) → g ≡ model.axes x → (h : model.Head) (bs : model.Bins) → sameShape g (model.bins h bs) ≡ false
+unfolding sameShape
+axes-no-bins g x e h bs = ap (λ (o : model.Grid). sameShape o (model.bins h bs)) e
+
+other-bins : (l : ℕ) (ys : List ℕ) (reals : List Float) (counts : List ℕ) (v : ℕ) (h : model.Head) (bs : model.Bins) → sameShape (model.bins h bs) (gridAt l ys reals counts v) ≡ true → getD ys v 0 ≡ 1 → ⊥
+unfolding sameShape
+other-bins l ys reals counts v h bs e q = absurd (false≢true (sym (ap (sameShape (model.bins h bs)) (node-axes l ys reals counts v q)) ∙ e))
+
+bins-node : (l : ℕ) (table : List ℕ) (reals : List Float) (counts : List ℕ) (w : ℕ) → (getD table w 0 ≡ 1 → ⊥)
+    → gridAt (suc l) table reals counts w ≡ model.bins (headAt table reals counts w) (binsIn (gridAt l table reals counts) table reals counts w 0 (getD table (w + 2) 0))
+unfolding gridAt nodeAt
+bins-node l table reals counts w n = rw (ne-eqb (getD table w 0) 1 n)
+
+bins-of : (l : ℕ) (table : List ℕ) (R C w : ℕ) → Laid (suc l) table R C w → (getD table w 0 ≡ 1 → ⊥) → BinsLaid (Laid l table R C) table R C w
+unfolding Laid
+bins-of l table R C w (inl a) n = absurd (n (a .kind))
+bins-of l table R C w (inr b) n = b
+
+-- ---- bin by bin
+
+module _ (f f′ : ℕ → model.Grid) (xs ys : List ℕ) (reals theirs : List Float) (counts tallies : List ℕ) (w v : ℕ) where
+  abbrev at : ℕ → ℕ
+  at i = getD xs (w + 7 + i) 0
+
+  abbrev far : ℕ → ℕ
+  far i = getD ys (v + 7 + i) 0
+
+  same-from : (n j i : ℕ) → i < n → sameBins (binsIn f xs reals counts w j n) (binsIn f′ ys theirs tallies v j n) ≡ true → sameChild (childIn f (at (j + i))) (childIn f′ (far (j + i))) ≡ true
+  unfolding sameBins binsIn
+  same-from zero j i h e = absurd (omega arith)
+  same-from (suc n) j zero h e = let z : j + 0 ≡ j = omega arith in rw z (both (sameChild (childIn f (at j)) (childIn f′ (far j))) (sameBins (binsIn f xs reals counts w (j + 1) n) (binsIn f′ ys theirs tallies v (j + 1) n)) e .0)
+  same-from (suc n) j (suc i) h e =
+      let z : j + suc i ≡ j + 1 + i = omega arith in
+      rw z (same-from n (j + 1) i (omega arith) (both (sameChild (childIn f (at j)) (childIn f′ (far j))) (sameBins (binsIn f xs reals counts w (j + 1) n) (binsIn f′ ys theirs tallies v (j + 1) n)) e .1))
+
+  abbrev own-kept : ℕ → Bool
+  own-kept i = account.wellFormed (mergedOf (binIn xs reals counts w i .own) (binIn ys theirs tallies v i .own))
+
+  abbrev child-kept : ℕ → Bool
+  child-kept i = keptChild (mergeChild (childIn f (at i)) (childIn f′ (far i)))
+
+  kept-from : (n j i : ℕ) → i < n → keptBins (mergeBins (binsIn f xs reals counts w j n) (binsIn f′ ys theirs tallies v j n)) ≡ true → (own-kept (j + i) ≡ true) × (child-kept (j + i) ≡ true)
+  unfolding keptBins mergeBins binsIn model.withBin
+  kept-from zero j i h e = absurd (omega arith)
+  kept-from (suc n) j zero h e =
+      let z : j + 0 ≡ j = omega arith in
+      let a = both (own-kept j) (child-kept j && keptBins (mergeBins (binsIn f xs reals counts w (j + 1) n) (binsIn f′ ys theirs tallies v (j + 1) n))) e in
+      let b = both (child-kept j) (keptBins (mergeBins (binsIn f xs reals counts w (j + 1) n) (binsIn f′ ys theirs tallies v (j + 1) n))) (a .1) in
+      rw z (a .0, b .0)
+  kept-from (suc n) j (suc i) h e =
+      let z : j + suc i ≡ j + 1 + i = omega arith in
+      let a = both (own-kept j) (child-kept j && keptBins (mergeBins (binsIn f xs reals counts w (j + 1) n) (binsIn f′ ys theirs tallies v (j + 1) n))) e in
+      let b = both (child-kept j) (keptBins (mergeBins (binsIn f xs reals counts w (j + 1) n) (binsIn f′ ys theirs tallies v (j + 1) n))) (a .1) in
+      rw z (kept-from n (j + 1) i (omega arith) (b .1))
+
+  -- what hangs at n pairs of links from link i on, merged
+  unfoldable kids : ℕ → ℕ → List model.Child
+  kids i zero = []
+  kids i (suc n) = mergeChild (childIn f (at i)) (childIn f′ (far i)) ∷ kids (i + 1) n
+
+  bins-join : (g : ℕ → model.Grid) (reals′ : List Float) (counts′ : List ℕ) (n i : ℕ)
+      → ((j : ℕ) → i ≤ j → j < i + n → binIn xs reals′ counts′ w j ≡ model.withBin (binIn xs reals counts w j) (mergedOf (binIn xs reals counts w j .own) (binIn ys theirs tallies v j .own)))
+      → freshChildren g xs w i n ≡ kids i n → binsIn g xs reals′ counts′ w i n ≡ mergeBins (binsIn f xs reals counts w i n) (binsIn f′ ys theirs tallies v i n)
+  unfolding binsIn mergeBins freshChildren kids
+  bins-join g reals′ counts′ zero i p e = refl
+  bins-join g reals′ counts′ (suc n) i p e =
+      let c : childIn g (at i) ≡ mergeChild (childIn f (at i)) (childIn f′ (far i)) = ap (λ (l : List model.Child). getD l 0 model.nothing) e in
+      let rest = bins-join g reals′ counts′ n (i + 1) (λ j x y. p j (omega arith) (omega arith)) (ap (λ (l : List model.Child). drop 1 l) e) in
+      rw (p i (omega arith) (omega arith), c, rest)
+
+many-same : (f f′ : ℕ → model.Grid) (table : List ℕ) (reals : List Float) (counts : List ℕ) (w : ℕ) (other : List ℕ) (theirs : List Float) (tallies : List ℕ) (v n k : ℕ)
+    → sameBins (binsIn f table reals counts w 0 n) (binsIn f′ other theirs tallies v 0 k) ≡ true → n ≡ k
+many-same f f′ table reals counts w other theirs tallies v n k e = elim (either (eqb n k)) [
+  | inl x ↦ eqb-true n k x
+  | inr x ↦ absurd (false≢true (sym (matches.bins-differ f f′ table reals counts w other theirs tallies v 0 n k (λ q. absurd (true≢false (sym (eq-eqb n k q) ∙ x)))) ∙ e))
+]
+
+-- ---- the tree
+
+module _ (xs ys : List ℕ) (others : Memory) where
+  abbrev here : ℕ → Memory → ℕ → model.Grid
+  here l s w = gridAt l xs (s .reals) (s .counts) w
+
+  abbrev there : ℕ → ℕ → model.Grid
+  there l v = gridAt l ys (others .reals) (others .counts) v
+
+  -- at a level: whatever stands there
+  abbrev pub Unites : ℕ → Type 0
+  Unites l = (t : Tree) (y : Tally) (v : ℕ) (s : Memory) → (t ≡ nothing → ⊥) → Stands xs l t y → after t y .reals ≤ length (s .reals) → after t y .counts ≤ length (s .counts)
+      → Laid l ys (length (others .reals)) (length (others .counts)) v → Ready (here l s (y .words)) (there l v)
+      → Found (y .reals) (after t y .reals) (y .counts) (after t y .counts) s (unitedGrid xs ys others l (y .words) v s) (λ (a : List Float) (b : List ℕ). gridAt l xs a b (y .words))
+      (mergeGrid (here l s (y .words)) (there l v))
+
+  axes-unites : (l : ℕ) (a : AxesPlan) (es : List ℕ) (y : Tally) (v : ℕ) (s : Memory) → Stands xs l (axes a es) y → after (axes a es) y .reals ≤ length (s .reals)
+      → after (axes a es) y .counts ≤ length (s .counts) → Laid l ys (length (others .reals)) (length (others .counts)) v → Ready (here l s (y .words)) (there l v)
+      → Found (y .reals) (after (axes a es) y .reals) (y .counts) (after (axes a es) y .counts) s (unitedGrid xs ys others l (y .words) v s) (λ (a : List Float) (b : List ℕ). gridAt l xs a b (y .words))
+      (mergeGrid (here l s (y .words)) (there l v))
+  unfolding after axesTaken axesReals axesCounts axesRow sameShape mergeGrid keptGrid axesGridAt
+  axes-unites l a es y v s st h k laid ready =
+      let w = y .words in
+      let m = axes-record xs l a es y st in
+      let placed = laid-axes l xs (length (s .reals)) (length (s .counts)) w (stands-laid xs (length (s .reals)) (length (s .counts)) l (axes a es) y (axes-differ a es) st h k) (m .kind) in
+      let e = node-axes l xs (s .reals) (s .counts) w (m .kind) in
+      let kind = other-axes l ys (others .reals) (others .counts) v (here l s w) laid (axes-no-bins (here l s w) (axesGridAt xs (s .reals) (s .counts) w) e) (ready .same) in
+      let far = laid-axes l ys (length (others .reals)) (length (others .counts)) v laid kind in
+      let f = node-axes l ys (others .reals) (others .counts) v kind in
+      let mine : sound (model.axes (axesGridAt xs (s .reals) (s .counts) w)) ≡ true = sym (ap sound e) ∙ ready .mine in
+      let theirs : sound (model.axes (axesGridAt ys (others .reals) (others .counts) v)) ≡ true = sym (ap sound f) ∙ ready .theirs in
+      let same : sameShape (model.axes (axesGridAt xs (s .reals) (s .counts) w)) (model.axes (axesGridAt ys (others .reals) (others .counts) v)) ≡ true = sym (ap₂ sameShape e f) ∙ ready .same in
+      let whole : keptGrid (mergeGrid (model.axes (axesGridAt xs (s .reals) (s .counts) w)) (model.axes (axesGridAt ys (others .reals) (others .counts) v))) ≡ true =
+      sym (ap₂ (λ (p q : model.Grid). keptGrid (mergeGrid p q)) e f) ∙ ready .kept in
+      let kept = both (account.wellFormed (mergedOf (axesGridAt xs (s .reals) (s .counts) w .own) (axesGridAt ys (others .reals) (others .counts) v .own)))
+      (keptAxisList (mergeAll (axesGridAt xs (s .reals) (s .counts) w .axes) (axesGridAt ys (others .reals) (others .counts) v .axes))) whole in
+      let axs : getD xs (w + 2) 0 ≡ a .axes = ap (λ (b : AxesPlan). b .axes) (m .numbers) in
+      let mst : getD xs (w + 7) 0 ≡ a .most = ap (λ (b : AxesPlan). b .most) (m .numbers) in
+      let rr = m .reals in
+      let cc = m .counts in
+      let er : getD xs (w + 9) 0 + 14 + getD xs (w + 2) 0 * (6 * getD xs (w + 7) 0 + 1) ≡ after (axes a es) y .reals = rw (axs, mst, rr) (omega arith) in
+      let ec : getD xs (w + 10) 0 + 7 + getD xs (w + 2) 0 * (3 * getD xs (w + 7) 0 + 2) ≡ after (axes a es) y .counts = rw (axs, mst, cc) (omega arith) in
+      found-at (getD xs (w + 9) 0) (getD xs (w + 9) 0 + 14 + getD xs (w + 2) 0 * (6 * getD xs (w + 7) 0 + 1)) (getD xs (w + 10) 0) (getD xs (w + 10) 0 + 7 + getD xs (w + 2) 0 * (3 * getD xs (w + 7) 0 + 2))
+      (y .reals) (after (axes a es) y .reals) (y .counts) (after (axes a es) y .counts) s (unitedAxes xs ys others w v s) (unitedGrid xs ys others l w v s)
+      (λ (p : List Float) (q : List ℕ). model.axes (axesGridAt xs p q w)) (λ (p : List Float) (q : List ℕ). gridAt l xs p q w)
+      (mergeGrid (model.axes (axesGridAt xs (s .reals) (s .counts) w)) (model.axes (axesGridAt ys (others .reals) (others .counts) v))) (mergeGrid (here l s w) (there l v))
+      rr er cc ec (both-axes xs ys others l w v s (m .kind) kind) (λ p q. node-axes l xs p q w (m .kind)) (sym (ap₂ mergeGrid e f))
+      (record {
+        within = own-of.axes-within xs ys w v others s placed far mine theirs same (kept .0);
+        reads = λ p q x z. own-of.axes-grid-read xs ys w v others s placed far mine theirs same (kept .0) p q x z;
+      })
