@@ -213,3 +213,100 @@ module _ (xs ys : List ℕ) (others : Memory) where
         within = own-of.axes-within xs ys w v others s placed far mine theirs same (kept .0);
         reads = λ p q x z. own-of.axes-grid-read xs ys w v others s placed far mine theirs same (kept .0) p q x z;
       })
+
+  -- ---- a bins grid's children
+
+  module _ (l : ℕ) (deeper : Unites l) where
+    abbrev step : ℕ → ℕ → Memory → Memory
+    step = unitedGrid xs ys others l
+
+    hung-unites : (t : Tree) (u : Tally) (x z : ℕ) (s : Memory) → (t ≡ nothing → ⊥) → x ≡ u .words → 1 ≤ u .words → Stands xs l t u → after t u .reals ≤ length (s .reals) → after t u .counts ≤ length (s .counts)
+        → (z ≢ 0 → Laid l ys (length (others .reals)) (length (others .counts)) z) → Paired (childIn (here l s) x) (childIn (there l) z)
+        → Found (u .reals) (after t u .reals) (u .counts) (after t u .counts) s (unitedChild xs ys others step x z s) (λ (a : List Float) (b : List ℕ). childIn (gridAt l xs a b) x) (mergeChild (childIn (here l s) x) (childIn (there l) z))
+    unfolding unitedChild childIn mergeChild
+    hung-unites t u x z s g e n st h k laid p =
+        let here-is : x ≢ 0 = λ q. absurd (omega arith) in
+        let far-is : z ≢ 0 = far-there (here l s) (there l) x z here-is (p .same) in
+        let ready = pair-ready (here l s) (there l) x z here-is p in
+        let d = deeper t u z s g st h k (laid far-is) (subst (λ (n : ℕ). Ready (here l s n) (there l z)) e ready) in
+        rw (ne-eqb x 0 here-is, ne-eqb z 0 far-is, e) (record { within = d .within; reads = λ a b i j. ap model.grid (d .reads a b i j) })
+
+    child-unites : (t : Tree) (u : Tally) (x z : ℕ) (s : Memory) → x ≡ link t u → 1 ≤ u .words → Stands xs l t u → after t u .reals ≤ length (s .reals) → after t u .counts ≤ length (s .counts)
+        → (z ≢ 0 → Laid l ys (length (others .reals)) (length (others .counts)) z) → Paired (childIn (here l s) x) (childIn (there l) z)
+        → Found (u .reals) (after t u .reals) (u .counts) (after t u .counts) s (unitedChild xs ys others step x z s) (λ (a : List Float) (b : List ℕ). childIn (gridAt l xs a b) x) (mergeChild (childIn (here l s) x) (childIn (there l) z))
+    unfolding link unitedChild childIn mergeChild after
+    child-unites nothing u x z s e n st h k laid p = rw e (record { within = within-same (u .reals) (u .reals) (u .counts) (u .counts) s; reads = λ a b i j. refl })
+    child-unites (axes a es) u x z s e n st h k laid p = hung-unites (axes a es) u x z s (axes-differ a es) e n st h k laid p
+    child-unites (bins b ts) u x z s e n st h k laid p = hung-unites (bins b ts) u x z s (bins-differ b ts) e n st h k laid p
+
+    module _ (b : BinsPlan) (ts : Trees) (y : Tally) (v : ℕ) (st : Stands xs (suc l) (bins b ts) y) (s₀ : Memory)
+        (laid : (j : ℕ) → j < b .bins → getD ys (v + 7 + j) 0 ≢ 0 → Laid l ys (length (others .reals)) (length (others .counts)) (getD ys (v + 7 + j) 0))
+        (paired : (j : ℕ) → j < b .bins → Paired (childIn (here l s₀) (getD xs (y .words + 7 + j) 0)) (childIn (there l) (getD ys (v + 7 + j) 0))) where
+      abbrev own : Tally
+      own = binsTaken b y
+
+      abbrev end : Tally
+      end = after (bins b ts) y
+
+      abbrev mine : ℕ → ℕ
+      mine i = getD xs (y .words + 7 + i) 0
+
+      abbrev their : ℕ → ℕ
+      their i = getD ys (v + 7 + i) 0
+
+      abbrev merged : ℕ → ℕ → List model.Child
+      merged = kids (here l s₀) (there l) xs ys (s₀ .reals) (others .reals) (s₀ .counts) (others .counts) (y .words) v
+
+      child-still : (s : Memory) (x : ℕ) → (x ≢ 0 → here l s x ≡ here l s₀ x) → childIn (here l s) x ≡ childIn (here l s₀) x
+      unfolding childIn
+      child-still s zero e = refl
+      child-still s (suc n) e = let z : suc n ≢ 0 = λ q. absurd (omega arith) in rw (ne-eqb (suc n) 0 z, e z)
+
+      form-of : (j : ℕ) → j < b .bins → mine j ≢ 0 → formedGrid (here l s₀ (mine j)) ≡ true
+      unfolding sound
+      form-of j h z = both (formedGrid (here l s₀ (mine j))) (keptGrid (here l s₀ (mine j))) (child-sound (here l s₀) (mine j) z (paired j h .mine)) .0
+
+      -- the last k children, from child i on, which read as they did at first
+      children-unite : (k i : ℕ) (u : Tally) (s : Memory) → i + k ≡ b .bins → u ≡ before ts i own → u .reals ≤ end .reals → u .counts ≤ end .counts
+          → end .reals ≤ length (s .reals) → end .counts ≤ length (s .counts) → ((j : ℕ) → i ≤ j → j < b .bins → mine j ≢ 0 → here l s (mine j) ≡ here l s₀ (mine j))
+          → Found (u .reals) (end .reals) (u .counts) (end .counts) s (unitedChildren xs ys others step (y .words) v i k s) (λ (a : List Float) (b : List ℕ). freshChildren (gridAt l xs a b) xs (y .words) i k) (merged i k)
+      unfolding unitedChildren freshChildren kids
+      children-unite zero i u s e o rr cc h g q = record { within = within-same (u .reals) (end .reals) (u .counts) (end .counts) s; reads = λ a b x z. refl }
+      children-unite (suc k) i u s e o rr cc h g q =
+          let c = child-record xs (suc l) b ts y i st (omega arith) in
+          let t = childAt ts i in
+          let stands : Stands xs l t u = subst (λ (n : Tally). Stands xs l t n) (sym o) (stands-in xs l b ts y st i (omega arith)) in
+          let inside : Upto (after t u) end = subst (λ (n : Tally). Upto (after t n) end) (sym o) (c .inside) in
+          let behind : Upto own u = subst (λ (n : Tally). Upto own n) (sym o) (c .behind) in
+          let past = upto-after t u in
+          let linked : mine i ≡ link t u = c .linked ∙ ap (link t) (sym o) in
+          let large : 1 ≤ u .words = omega (arith, behind .words, taken-words b y) in
+          let still : childIn (here l s) (mine i) ≡ childIn (here l s₀) (mine i) = child-still s (mine i) (q i (omega arith) (omega arith)) in
+          let p = subst (λ (x : model.Child). Paired x (childIn (there l) (their i))) (sym still) (paired i (omega arith)) in
+          let d = child-unites t u (mine i) (their i) s linked large stands (omega (arith, inside .reals)) (omega (arith, inside .counts)) (laid i (omega arith)) p in
+          let one = subst (λ (x : model.Child). Found (u .reals) (after t u .reals) (u .counts) (after t u .counts) s (unitedChild xs ys others step (mine i) (their i) s) (λ (a : List Float) (b : List ℕ). childIn (gridAt l xs a b) (mine i)) (mergeChild x (childIn (there l) (their i)))) still d in
+          let s₁ = unitedChild xs ys others step (mine i) (their i) s in
+          let size : length (s₁ .reals) ≡ length (s .reals) = one .within .low 0 0 (omega arith) .size in
+          let sizes : length (s₁ .counts) ≡ length (s .counts) = one .within .few 0 0 (omega arith) .size in
+          let up : suc i ≡ i + 1 = omega arith in
+          let next : after t u ≡ before ts (i + 1) own = ap (after t) o ∙ sym (before-next ts i own (omega (arith, bins-record xs (suc l) b ts y st .number))) ∙ ap (λ (j : ℕ). before ts j own) up in
+          let n = after t u in
+          let near : Within (before ts i own .reals) (after t (before ts i own) .reals) (before ts i own .counts) (after t (before ts i own) .counts) s s₁ =
+          subst (λ (x : Tally). Within (x .reals) (after t x .reals) (x .counts) (after t x .counts) s s₁) o (one .within) in
+          let on : (j : ℕ) → i + 1 ≤ j → j < b .bins → mine j ≢ 0 → here l s₁ (mine j) ≡ here l s₀ (mine j) =
+          λ j x z m. later xs l b ts y st i j s s₁ (omega arith) z h g near m (ap formedGrid (q j (omega arith) z m) ∙ form-of j z m) ∙ q j (omega arith) z m in
+          let r = children-unite k (i + 1) n s₁ (omega arith) next (inside .reals) (inside .counts) (omega arith) (omega arith) on in
+          let last = unitedChildren xs ys others step (y .words) v (i + 1) k s₁ in
+          record {
+            within = within-on (u .reals) (end .reals) (u .counts) (end .counts) (u .reals) (n .reals) (u .counts) (n .counts) (n .reals) (end .reals) (n .counts) (end .counts) s s₁ last
+                (omega arith) (inside .reals) (omega arith) (inside .counts) (past .reals) (omega arith) (past .counts) (omega arith) (one .within) (r .within);
+            reads = λ a z p q.
+                let first = one .reads a z
+                (same-on nan (u .reals) (n .reals) (s₁ .reals) (last .reals) a (same-sym nan (u .reals) (n .reals) (last .reals) (s₁ .reals) (r .within .low (u .reals) (n .reals) (omega arith)))
+                (same-within nan (u .reals) (end .reals) (u .reals) (n .reals) (last .reals) a (omega arith) (inside .reals) p))
+                (same-on 0 (u .counts) (n .counts) (s₁ .counts) (last .counts) z (same-sym 0 (u .counts) (n .counts) (last .counts) (s₁ .counts) (r .within .few (u .counts) (n .counts) (omega arith)))
+                (same-within 0 (u .counts) (end .counts) (u .counts) (n .counts) (last .counts) z (omega arith) (inside .counts) q)) in
+                let others-read = r .reads a z (same-within nan (u .reals) (end .reals) (n .reals) (end .reals) (last .reals) a (past .reals) (omega arith) p)
+                (same-within 0 (u .counts) (end .counts) (n .counts) (end .counts) (last .counts) z (past .counts) (omega arith) q) in
+                ap₂ (λ (x : model.Child) (l : List model.Child). x ∷ l) first others-read;
+          }
