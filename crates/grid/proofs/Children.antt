@@ -50,23 +50,30 @@ module _ (xs : List ℕ) (l : ℕ) (b : BinsPlan) (ts : Trees) (y : Tally) (st :
       let level : suc l - 1 ≡ l = omega arith in
       subst (λ (n : ℕ). Stands xs n (childAt ts i) (before ts i own)) level (child-record xs (suc l) b ts y i st h .stands)
 
-  -- a child after the first reads as it did
+  -- a child reads as it did after a step that keeps below it
+  pub unmoved : (j r e c d : ℕ) (s t : Memory) → j < b .bins → end .reals ≤ length (s .reals) → end .counts ≤ length (s .counts) → Within r e c d s t
+      → e ≤ before ts j own .reals → d ≤ before ts j own .counts → at j ≢ 0 → formedGrid (gridAt l xs (s .reals) (s .counts) (at j)) ≡ true
+      → gridAt l xs (t .reals) (t .counts) (at j) ≡ gridAt l xs (s .reals) (s .counts) (at j)
+  unmoved j r e c d s t k rr cc w low few z f =
+      let h = child-record xs (suc l) b ts y j st k in
+      let v = before ts j own in
+      let q = childAt ts j in
+      let there : q ≡ nothing → ⊥ = linked-grid q v (subst (λ (n : ℕ). n ≢ 0) (h .linked) z) in
+      let m : at j ≡ v .words = h .linked ∙ grid-link q v there in
+      let up = same-sym nan (v .reals) (after q v .reals) (t .reals) (s .reals) (w .high (v .reals) (after q v .reals) low) in
+      let on = same-sym 0 (v .counts) (after q v .counts) (t .counts) (s .counts) (w .many (v .counts) (after q v .counts) few) in
+      let form : formedGrid (gridAt l xs (s .reals) (s .counts) (v .words)) ≡ true = sym (ap (λ (n : ℕ). formedGrid (gridAt l xs (s .reals) (s .counts) n)) m) ∙ f in
+      let same = grid-alike xs (s .reals) (t .reals) (s .counts) (t .counts) l q v there (stands-in j k) (omega (arith, h .inside .reals)) (omega (arith, h .inside .counts)) form
+      (same-alike nan (v .reals) (after q v .reals) (s .reals) (t .reals) up) (same-alike 0 (v .counts) (after q v .counts) (s .counts) (t .counts) on) in
+      sym (subst (λ (n : ℕ). gridAt l xs (s .reals) (s .counts) n ≡ gridAt l xs (t .reals) (t .counts) n) (sym m) same)
+
+  -- so does a child after one that a step keeps to
   pub later : (i j : ℕ) (s t : Memory) → i < j → j < b .bins → end .reals ≤ length (s .reals) → end .counts ≤ length (s .counts)
       → Within (before ts i own .reals) (after (childAt ts i) (before ts i own) .reals) (before ts i own .counts) (after (childAt ts i) (before ts i own) .counts) s t
       → at j ≢ 0 → formedGrid (gridAt l xs (s .reals) (s .counts) (at j)) ≡ true
       → gridAt l xs (t .reals) (t .counts) (at j) ≡ gridAt l xs (s .reals) (s .counts) (at j)
   later i j s t h k rr cc w z f =
-      let c = child-record xs (suc l) b ts y j st k in
-      let v = before ts j own in
-      let q = childAt ts j in
-      let there : q ≡ nothing → ⊥ = linked-grid q v (subst (λ (n : ℕ). n ≢ 0) (c .linked) z) in
-      let e : at j ≡ v .words = c .linked ∙ grid-link q v there in
-      let one : suc i ≡ i + 1 = omega arith in
       let next : before ts (suc i) own ≡ after (childAt ts i) (before ts i own) = before-next ts i own (omega (arith, bins-record xs (suc l) b ts y st .number)) in
-      let past : Upto (after (childAt ts i) (before ts i own)) v = subst (λ (u : Tally). Upto u v) next (before-upto ts (suc i) j own (omega arith)) in
-      let up = same-sym nan (v .reals) (after q v .reals) (t .reals) (s .reals) (w .high (v .reals) (after q v .reals) (past .reals)) in
-      let on = same-sym 0 (v .counts) (after q v .counts) (t .counts) (s .counts) (w .many (v .counts) (after q v .counts) (past .counts)) in
-      let form : formedGrid (gridAt l xs (s .reals) (s .counts) (v .words)) ≡ true = sym (ap (λ (n : ℕ). formedGrid (gridAt l xs (s .reals) (s .counts) n)) e) ∙ f in
-      let same = grid-alike xs (s .reals) (t .reals) (s .counts) (t .counts) l q v there (stands-in j k) (omega (arith, c .inside .reals)) (omega (arith, c .inside .counts)) form
-      (same-alike nan (v .reals) (after q v .reals) (s .reals) (t .reals) up) (same-alike 0 (v .counts) (after q v .counts) (s .counts) (t .counts) on) in
-      sym (subst (λ (n : ℕ). gridAt l xs (s .reals) (s .counts) n ≡ gridAt l xs (t .reals) (t .counts) n) (sym e) same)
+      let past : Upto (after (childAt ts i) (before ts i own)) (before ts j own) = subst (λ (u : Tally). Upto u (before ts j own)) next (before-upto ts (suc i) j own (omega arith)) in
+      unmoved j (before ts i own .reals) (after (childAt ts i) (before ts i own) .reals) (before ts i own .counts) (after (childAt ts i) (before ts i own) .counts) s t k rr cc w
+      (past .reals) (past .counts) z f

@@ -39,7 +39,7 @@ use Rattle.grid.proofs.Matches as matches
 use Rattle.grid.proofs.Unites.{both-axes, both-bins}
 use Rattle.grid.proofs.FoundedOwn.{Within, within-same, within-on}
 use Rattle.grid.proofs.FoundedTree.{Found, found-at}
-use Rattle.grid.proofs.Children.{stands-in, later}
+use Rattle.grid.proofs.Children.{stands-in, unmoved, later}
 use Rattle.grid.proofs.UnitedOwn as own-of
 
 -- ---- what is known of two that are merged
@@ -139,6 +139,12 @@ module _ (f f′ : ℕ → model.Grid) (xs ys : List ℕ) (reals theirs : List F
       let a = both (own-kept j) (child-kept j && keptBins (mergeBins (binsIn f xs reals counts w (j + 1) n) (binsIn f′ ys theirs tallies v (j + 1) n))) e in
       let b = both (child-kept j) (keptBins (mergeBins (binsIn f xs reals counts w (j + 1) n) (binsIn f′ ys theirs tallies v (j + 1) n))) (a .1) in
       rw z (kept-from n (j + 1) i (omega arith) (b .1))
+
+  same-at : (n i : ℕ) → i < n → sameBins (binsIn f xs reals counts w 0 n) (binsIn f′ ys theirs tallies v 0 n) ≡ true → sameChild (childIn f (at i)) (childIn f′ (far i)) ≡ true
+  same-at n i h e = let z : 0 + i ≡ i = omega arith in subst (λ (j : ℕ). sameChild (childIn f (at j)) (childIn f′ (far j)) ≡ true) z (same-from n 0 i h e)
+
+  kept-at : (n i : ℕ) → i < n → keptBins (mergeBins (binsIn f xs reals counts w 0 n) (binsIn f′ ys theirs tallies v 0 n)) ≡ true → (own-kept i ≡ true) × (child-kept i ≡ true)
+  kept-at n i h e = let z : 0 + i ≡ i = omega arith in subst (λ (j : ℕ). (own-kept j ≡ true) × (child-kept j ≡ true)) z (kept-from n 0 i h e)
 
   -- what hangs at n pairs of links from link i on, merged
   unfoldable kids : ℕ → ℕ → List model.Child
@@ -310,3 +316,106 @@ module _ (xs ys : List ℕ) (others : Memory) where
                 (same-within 0 (u .counts) (end .counts) (n .counts) (end .counts) (last .counts) z (past .counts) (omega arith) q) in
                 ap₂ (λ (x : model.Child) (l : List model.Child). x ∷ l) first others-read;
           }
+
+      -- the whole: its own, then its children
+      bins-unite : (far : getD ys v 0 ≡ 1 → ⊥) → getD xs (y .words + 2) 0 ≡ getD ys (v + 2) 0 → end .reals ≤ length (s₀ .reals) → end .counts ≤ length (s₀ .counts)
+          → ((j : ℕ) → j < getD xs (y .words + 2) 0 → own-of.Fine xs ys others (y .words) v (binIn xs (s₀ .reals) (s₀ .counts) (y .words) j .own) (binIn ys (others .reals) (others .counts) v j .own))
+          → own-of.Fine xs ys others (y .words) v (headAt xs (s₀ .reals) (s₀ .counts) (y .words) .own) (headAt ys (others .reals) (others .counts) v .own)
+          → Found (y .reals) (end .reals) (y .counts) (end .counts) s₀ (unitedGrid xs ys others (suc l) (y .words) v s₀) (λ (a : List Float) (b : List ℕ). gridAt (suc l) xs a b (y .words))
+          (mergeGrid (model.bins (headAt xs (s₀ .reals) (s₀ .counts) (y .words)) (binsIn (here l s₀) xs (s₀ .reals) (s₀ .counts) (y .words) 0 (getD xs (y .words + 2) 0)))
+          (model.bins (headAt ys (others .reals) (others .counts) v) (binsIn (there l) ys (others .reals) (others .counts) v 0 (getD xs (y .words + 2) 0))))
+      unfolding binsRow headAt binIn mergeGrid model.withHead
+      bins-unite far many h g each head =
+          let w = y .words in
+          let m = bins-record xs (suc l) b ts y st in
+          let bns : getD xs (w + 2) 0 ≡ b .bins = ap (λ (a : BinsPlan). a .bins) (m .numbers) in
+          let rr : getD xs (w + 5) 0 ≡ y .reals = m .reals in
+          let cc : getD xs (w + 6) 0 ≡ y .counts = m .counts in
+          let er : own .reals ≡ y .reals + (14 + 15 * b .bins) = taken-reals b y in
+          let ec : own .counts ≡ y .counts + (7 + 7 * b .bins) = taken-counts b y in
+          let up = below b ts y in
+          let N = getD xs (w + 2) 0 in
+          let R = getD xs (w + 5) 0 in
+          let C = getD xs (w + 6) 0 in
+          let s₁ = unitedOwn xs ys others w v s₀ in
+          let last = unitedChildren xs ys others step w v 0 N s₁ in
+          let room : R + 14 + 15 * N ≤ length (s₀ .reals) = omega (arith, up .reals) in
+          let places : C + 7 + 7 * N ≤ length (s₀ .counts) = omega (arith, up .counts) in
+          let o = own-of.own-within xs ys others w v s₀ room places head each in
+          let size : length (s₁ .reals) ≡ length (s₀ .reals) = o .low 0 0 (omega arith) .size in
+          let sizes : length (s₁ .counts) ≡ length (s₀ .counts) = o .few 0 0 (omega arith) .size in
+          let still : (j : ℕ) → 0 ≤ j → j < b .bins → mine j ≢ 0 → here l s₁ (mine j) ≡ here l s₀ (mine j) =
+          λ j x z n. let c = child-record xs (suc l) b ts y j st z in
+          unmoved xs l b ts y st j R (R + 14 + 15 * N) C (C + 7 + 7 * N) s₀ s₁ z h g o (omega (arith, c .behind .reals)) (omega (arith, c .behind .counts)) n (form-of j z n) in
+          let f = children-unite N 0 own s₁ (omega arith) (before-none ts own) (up .reals) (up .counts) (omega arith) (omega arith) still in
+          let z : getD xs w 0 ≡ 1 → ⊥ = λ e. absurd (omega (arith, m .kind)) in
+          let level : suc l - 1 ≡ l = omega arith in
+          let all : last ≡ unitedGrid xs ys others (suc l) w v s₀ =
+          subst (λ (n : ℕ). unitedChildren xs ys others (unitedGrid xs ys others n) w v 0 N s₁ ≡ unitedGrid xs ys others (suc l) w v s₀) level (both-bins xs ys others (suc l) w v s₀ z far many (omega arith)) in
+          let g₀ = mergeGrid (model.bins (headAt xs (s₀ .reals) (s₀ .counts) w) (binsIn (here l s₀) xs (s₀ .reals) (s₀ .counts) w 0 N)) (model.bins (headAt ys (others .reals) (others .counts) v) (binsIn (there l) ys (others .reals) (others .counts) v 0 N)) in
+          found-at (y .reals) (end .reals) (y .counts) (end .counts) (y .reals) (end .reals) (y .counts) (end .counts) s₀ last (unitedGrid xs ys others (suc l) w v s₀)
+          (λ (a : List Float) (c : List ℕ). model.bins (headAt xs a c w) (binsIn (gridAt l xs a c) xs a c w 0 N)) (λ (a : List Float) (c : List ℕ). gridAt (suc l) xs a c w)
+          g₀ g₀ refl refl refl refl all (λ a c. bins-node l xs a c w z) refl
+          (record {
+            within = within-on (y .reals) (end .reals) (y .counts) (end .counts) R (R + 14 + 15 * N) C (C + 7 + 7 * N) (own .reals) (end .reals) (own .counts) (end .counts) s₀ s₁ last
+                (omega arith) (omega (arith, up .reals)) (omega arith) (omega (arith, up .counts)) (omega arith) (omega arith) (omega arith) (omega arith) o (f .within);
+            reads = λ a c p q.
+                let u : Same nan R (R + 14 + 15 * N) (s₁ .reals) a =
+                same-on nan R (R + 14 + 15 * N) (s₁ .reals) (last .reals) a (same-sym nan R (R + 14 + 15 * N) (last .reals) (s₁ .reals) (f .within .low R (R + 14 + 15 * N) (omega arith)))
+                (same-within nan (y .reals) (end .reals) R (R + 14 + 15 * N) (last .reals) a (omega arith) (omega (arith, up .reals)) p) in
+                let x : Same 0 C (C + 7 + 7 * N) (s₁ .counts) c =
+                same-on 0 C (C + 7 + 7 * N) (s₁ .counts) (last .counts) c (same-sym 0 C (C + 7 + 7 * N) (last .counts) (s₁ .counts) (f .within .few C (C + 7 + 7 * N) (omega arith)))
+                (same-within 0 (y .counts) (end .counts) C (C + 7 + 7 * N) (last .counts) c (omega arith) (omega (arith, up .counts)) q) in
+                let hung = f .reads a c (same-within nan (y .reals) (end .reals) (own .reals) (end .reals) (last .reals) a (omega arith) (omega arith) p)
+                (same-within 0 (y .counts) (end .counts) (own .counts) (end .counts) (last .counts) c (omega arith) (omega arith) q) in
+                let bs = bins-join (here l s₀) (there l) xs ys (s₀ .reals) (others .reals) (s₀ .counts) (others .counts) w v (gridAt l xs a c) a c N 0
+                (λ j i n. own-of.bin-read xs ys others w v s₀ room places head each a c u x j (omega arith)) hung in
+                rw (own-of.head-read xs ys others w v s₀ room places head each a c u x, bs);
+          })
+
+  -- a bins grid whose other is ready
+  bins-unites : (l : ℕ) → Unites l → (b : BinsPlan) (ts : Trees) (y : Tally) (v : ℕ) (s : Memory) → Stands xs (suc l) (bins b ts) y → after (bins b ts) y .reals ≤ length (s .reals)
+      → after (bins b ts) y .counts ≤ length (s .counts) → Laid (suc l) ys (length (others .reals)) (length (others .counts)) v → Ready (here (suc l) s (y .words)) (there (suc l) v)
+      → Found (y .reals) (after (bins b ts) y .reals) (y .counts) (after (bins b ts) y .counts) s (unitedGrid xs ys others (suc l) (y .words) v s) (λ (a : List Float) (b : List ℕ). gridAt (suc l) xs a b (y .words))
+      (mergeGrid (here (suc l) s (y .words)) (there (suc l) v))
+  unfolding binsRow sameShape mergeGrid keptGrid model.withHead
+  bins-unites l deeper b ts y v s st h g laid ready =
+      let w = y .words in
+      let m = bins-record xs (suc l) b ts y st in
+      let z : getD xs w 0 ≡ 1 → ⊥ = λ e. absurd (omega (arith, m .kind)) in
+      let bns : getD xs (w + 2) 0 ≡ b .bins = ap (λ (a : BinsPlan). a .bins) (m .numbers) in
+      let N = getD xs (w + 2) 0 in
+      let H = headAt xs (s .reals) (s .counts) w in
+      let K = headAt ys (others .reals) (others .counts) v in
+      let B = binsIn (here l s) xs (s .reals) (s .counts) w 0 N in
+      let D = binsIn (there l) ys (others .reals) (others .counts) v 0 N in
+      let e = bins-node l xs (s .reals) (s .counts) w z in
+      let far = other-bins (suc l) ys (others .reals) (others .counts) v H B (sym (ap (λ (x : model.Grid). sameShape x (there (suc l) v)) e) ∙ ready .same) in
+      let d = bins-node l ys (others .reals) (others .counts) v far in
+      let many : N ≡ getD ys (v + 2) 0 = many-same (here l s) (there l) xs (s .reals) (s .counts) w ys (others .reals) (others .counts) v N (getD ys (v + 2) 0) (sym (ap₂ sameShape e d) ∙ ready .same) in
+      let f : there (suc l) v ≡ model.bins K D = d ∙ ap (λ (n : ℕ). model.bins K (binsIn (there l) ys (others .reals) (others .counts) v 0 n)) (sym many) in
+      let same : sameBins B D ≡ true = sym (ap₂ sameShape e f) ∙ ready .same in
+      let mine : sound (model.bins H B) ≡ true = sym (ap sound e) ∙ ready .mine in
+      let theirs : sound (model.bins K D) ≡ true = sym (ap sound f) ∙ ready .theirs in
+      let whole : keptGrid (mergeGrid (model.bins H B) (model.bins K D)) ≡ true = sym (ap₂ (λ (p q : model.Grid). keptGrid (mergeGrid p q)) e f) ∙ ready .kept in
+      let kept = both (account.wellFormed (mergedOf (H .own) (K .own))) (keptBins (mergeBins B D)) whole in
+      let there-laid = bins-of l ys (length (others .reals)) (length (others .counts)) v laid far in
+      let one : (j : ℕ) → j < N → soundBin (binIn xs (s .reals) (s .counts) w j) (childIn (here l s) (getD xs (w + 7 + j) 0)) ≡ true = λ j x. sound-in (here l s) xs (s .reals) (s .counts) w H N j x mine in
+      let two : (j : ℕ) → j < N → soundBin (binIn ys (others .reals) (others .counts) v j) (childIn (there l) (getD ys (v + 7 + j) 0)) ≡ true =
+      λ j x. sound-in (there l) ys (others .reals) (others .counts) v K N j x theirs in
+      let fit : (j : ℕ) → j < N → (account.wellFormed (mergedOf (binIn xs (s .reals) (s .counts) w j .own) (binIn ys (others .reals) (others .counts) v j .own)) ≡ true)
+          × (keptChild (mergeChild (childIn (here l s) (getD xs (w + 7 + j) 0)) (childIn (there l) (getD ys (v + 7 + j) 0))) ≡ true) =
+      λ j x. kept-at (here l s) (there l) xs ys (s .reals) (others .reals) (s .counts) (others .counts) w v N j x (kept .1) in
+      subst (λ (x : model.Grid). Found (y .reals) (after (bins b ts) y .reals) (y .counts) (after (bins b ts) y .counts) s (unitedGrid xs ys others (suc l) w v s) (λ (a : List Float) (b : List ℕ). gridAt (suc l) xs a b w) x) (sym (ap₂ mergeGrid e f))
+      (bins-unite l deeper b ts y v st s (λ j x. there-laid .children j (omega (arith, many, bns)))
+      (λ j x. let i : j < N = omega (arith, bns) in
+      record { mine = sound-below _ _ (one j i); theirs = sound-below _ _ (two j i); same = same-at (here l s) (there l) xs ys (s .reals) (others .reals) (s .counts) (others .counts) w v N j i same; kept = fit j i .1 })
+      far many h g (λ j x. (matches.own-sound _ _ (one j x), matches.own-sound _ _ (two j x), fit j x .0)) (matches.head-sound H B mine, matches.head-sound K D theirs, kept .0))
+
+  pub unites : (l : ℕ) → Unites l
+  unites zero nothing y v s g st h k laid ready = absurd (g refl)
+  unites zero (axes a es) y v s g st h k laid ready = axes-unites zero a es y v s st h k laid ready
+  unites zero (bins b ts) y v s g st h k laid ready = absurd (omega (arith, bins-record xs zero b ts y st .ranges .level))
+  unites (suc l) nothing y v s g st h k laid ready = absurd (g refl)
+  unites (suc l) (axes a es) y v s g st h k laid ready = axes-unites (suc l) a es y v s st h k laid ready
+  unites (suc l) (bins b ts) y v s g st h k laid ready = bins-unites l (unites l) b ts y v s st h k laid ready
