@@ -1,40 +1,47 @@
 -- A tree that took another's waiting samples, in lent memory, is read as the model's merged grid.
 use mathlib.Core.Path.{_≡_, refl, sym, ap, ap₂, _∙_, subst}
 use mathlib.Core.Logic.{_≢_, inl, inr}
-use mathlib.Core.Bool.{Bool, true, false, _&&_, cond, false≢true, true≢false}
+use mathlib.Core.Bool.{Bool, true, false, not, _&&_, cond, false≢true, true≢false}
 use mathlib.Core.List.{List, [], _∷_}
 use Prim.Native.Nat.{ℕ, zero, suc, _+_, _-_, _*_, _≤_, _<_}
 use native.Mathlib.Omega.{arith}
-use borrow.Author.Tests.{ne-eqb, eq-eqb, eqb-true}
+use borrow.Author.Tests.{ne-eqb, eq-eqb, eqb-true, not-false}
 use lib.Dec.{eqb}
 use lib.ListN.{length, drop, getD}
 use lib.Ieee.{Float, nan}
+use Rattle.real.specs.Paper.{Paper, gives}
 use Rattle.real.proofs.Truth.{either, both}
+use Rattle.real.proofs.Ladder.{passes, given}
 use Rattle.accumulator.specs.Record as account
 use Rattle.accumulator.specs.Steps.{mergedOf}
 use Rattle.plan.specs.declared.Tally.{Tally}
 use Rattle.plan.specs.declared.AxesPlan.{AxesPlan}
 use Rattle.plan.specs.declared.BinsPlan.{BinsPlan}
+use Rattle.plan.specs.declared.Needs.{Needs}
 use Rattle.plan.specs.Plan.{Tree, Trees, nothing, axes, bins}
-use Rattle.plan.specs.Needs.{axesReals, axesCounts, axesTaken, binsTaken, after, childAt, before}
+use Rattle.plan.specs.Needs.{axesReals, axesCounts, axesTaken, binsTaken, after, childAt, before, untaken, needsOf}
 use Rattle.plan.specs.Table.{link}
 use Rattle.plan.specs.Walk.{axesRow, binsRow}
+use Rattle.plan.proofs.Tables.{Words}
 use Rattle.plan.proofs.Rereads.{taken-words}
-use Rattle.plan.proofs.Records.{Stands, axes-record, bins-record, Upto, upto-after, child-record, before-next}
+use Rattle.plan.proofs.Records.{Stands, axes-record, bins-record, Upto, upto-after, child-record, before-next, passed-stands}
 use Rattle.model.specs.Grid as model
 use Rattle.model.specs.Sound.{sound, formedGrid, formedChild, keptGrid, keptBins, keptChild, keptAxisList}
-use Rattle.model.specs.Merge.{sameLengths, sameShape, sameBins, sameChild, mergeAll, mergeGrid, mergeBins, mergeChild}
+use Rattle.model.specs.Merge.{sameLengths, sameShape, sameBins, sameChild, equalGrid, mergeAll, mergeGrid, mergeBins, mergeChild, mergeOf}
 use Rattle.grid.specs.Memory.{Memory, recordAt}
 use Rattle.grid.specs.Tree.{axesGridAt, headAt, binIn, childIn, binsIn, nodeAt, gridAt, AxesLaid, BinsLaid, Laid}
 use Rattle.grid.specs.Founded.{freshChildren}
 use Rattle.grid.specs.Judged.{soundBin}
 use Rattle.grid.specs.Sampled.{soundChild}
+use Rattle.grid.specs.State.{rootOf, pairFault}
+use Rattle.grid.specs.Calls.{MergeEnd, mergeEnd, unitedBy, mergeIntoOf}
 use Rattle.grid.specs.United.{unitedAxes, unitedOwn, unitedChild, unitedChildren, unitedGrid}
-use Rattle.grid.proofs.Same.{Same, same-on, same-sym, same-within}
+use Rattle.grid.proofs.Same.{Same, same-refl, same-on, same-sym, same-within}
 use Rattle.grid.proofs.Laid.{stands-laid, laid-axes, laid-bins}
 use Rattle.grid.proofs.Sounds.{node-axes, node-bins}
 use Rattle.grid.proofs.Samples.{sound-in, sound-below, child-sound}
 use Rattle.grid.proofs.Trees.{axes-differ, bins-differ, before-none, taken-reals, taken-counts, below}
+use Rattle.grid.proofs.States.{went-on, pair-clear, pair-planned}
 use Rattle.grid.proofs.Matches as matches
 use Rattle.grid.proofs.Unites.{both-axes, both-bins}
 use Rattle.grid.proofs.FoundedOwn.{Within, within-same, within-on}
@@ -419,3 +426,36 @@ module _ (xs ys : List ℕ) (others : Memory) where
   unites (suc l) nothing y v s g st h k laid ready = absurd (g refl)
   unites (suc l) (axes a es) y v s g st h k laid ready = axes-unites (suc l) a es y v s st h k laid ready
   unites (suc l) (bins b ts) y v s g st h k laid ready = bins-unites l (unites l) b ts y v s st h k laid ready
+
+-- ---- the call
+
+-- a merge that is given: shapes are the same, and what it gives may be kept
+given-merge : (g o m : model.Grid) → mergeOf g o ≡ gives m → (sameShape g o ≡ true) × (keptGrid (mergeGrid g o) ≡ true) × (mergeGrid g o ≡ m)
+unfolding mergeOf
+given-merge g o m e =
+    let p = passes (not (sameShape g o)) 4 _ m e in
+    let q = passes (not (equalGrid g o)) 11 _ m (p .1) in
+    let r = passes (not (keptGrid (mergeGrid g o))) 8 _ m (q .1) in
+    (not-false (sameShape g o) (p .0), not-false (keptGrid (mergeGrid g o)) (r .0), given (mergeGrid g o) m (r .1))
+
+-- where nothing stands against two states and the model gives their merge, the call leaves it in memory
+pub merge-read : (table : List ℕ) (s : Memory) (other : List ℕ) (others : Memory) (m : model.Grid) → Words table → Words other
+    → pairFault table (s .reals) (s .counts) other (others .reals) (others .counts) ≡ 0 → mergeOf (rootOf table (s .reals) (s .counts)) (rootOf other (others .reals) (others .counts)) ≡ gives m
+    → (mergeIntoOf table s other others .answer ≡ 0) × (rootOf table (mergeIntoOf table s other others .state .reals) (mergeIntoOf table s other others .state .counts) ≡ m)
+unfolding needsOf mergeIntoOf unitedBy
+merge-read table s other others m large wide f e =
+    let after-all = unitedGrid table other others 4 0 0 s in
+    let fault = pairFault table (s .reals) (s .counts) other (others .reals) (others .counts) in
+    let model-says = mergeOf (rootOf table (s .reals) (s .counts)) (rootOf other (others .reals) (others .counts)) in
+    let done : mergeIntoOf table s other others ≡ mergeEnd 0 after-all =
+    went-on fault (mergeEnd fault s) (unitedBy model-says after-all s) f ∙ ap (λ (p : Paper model.Grid). unitedBy p after-all s) e in
+    let k = pair-clear table (s .reals) (s .counts) other (others .reals) (others .counts) large wide f in
+    let p = pair-planned table (s .reals) (s .counts) other (others .reals) (others .counts) f in
+    let r = passed-stands table (p .needs) large (p .sized) in
+    let rr : p .needs .reals ≡ after (r .tree) untaken .reals = ap (λ (n : Needs). n .reals) (r .needs) in
+    let cc : p .needs .counts ≡ after (r .tree) untaken .counts = ap (λ (n : Needs). n .counts) (r .needs) in
+    let g = given-merge (rootOf table (s .reals) (s .counts)) (rootOf other (others .reals) (others .counts)) m e in
+    let u = unites table other others 4 (r .tree) untaken 0 s (r .grid) (r .stands) (omega (arith, p .room)) (omega (arith, p .places)) (k .1 .laid)
+    (record { mine = k .0 .well; theirs = k .1 .well; same = g .0; kept = g .1 }) in
+    let read = u .reads (after-all .reals) (after-all .counts) (same-refl nan (untaken .reals) (after (r .tree) untaken .reals) (after-all .reals)) (same-refl 0 (untaken .counts) (after (r .tree) untaken .counts) (after-all .counts)) in
+    (ap (λ (x : MergeEnd). x .answer) done, ap (λ (x : MergeEnd). rootOf table (x .state .reals) (x .state .counts)) done ∙ read ∙ g .2)
