@@ -2,7 +2,7 @@
 use mathlib.Core.Path.{_≡_, refl, sym, ap, ap₂, _∙_, subst}
 use mathlib.Core.Bool.{Bool, true, false, not, _&&_, cond, and-assoc, and-true, and-false}
 use mathlib.Core.List.{List}
-use Prim.Native.Nat.{ℕ, zero, suc, _+_, _-_, _*_, _≤_, _<_}
+use Prim.Native.Nat.{ℕ, zero, suc, _+_, _-_, _≤_, _<_}
 use native.Mathlib.Omega.{arith}
 use borrow.Author.Tests.{ne-eqb}
 use lib.Dec.{eqb}
@@ -16,13 +16,13 @@ use Rattle.accumulator.specs.declared.Changed.the-variants as changed
 use Rattle.accumulator.specs.Record.{wellFormed}
 use Rattle.accumulator.specs.Steps.{mergedOf}
 use Rattle.accumulator.specs.Calls.{paperChanged, mergeOf, keptOf}
-use Rattle.model.specs.Grid.{Grid, Bins, Child, Head, Bin, axes, bins, none, more, nothing, grid, withHead, withBin}
+use Rattle.model.specs.Grid.{Grid, Bins, Child, Head, Bin, axes, bins, none, more, withHead, withBin}
 use Rattle.model.specs.Sound.{chance, sound, formedGrid, formedChild, keptGrid, keptBins, keptChild, keptAxisList}
 use Rattle.model.specs.Merge.{sameLengths, sameShape, sameBins, sameChild, equalEdges, equalGrid, equalBins, equalChild, mergeAll, mergeGrid, mergeBins, mergeChild, mergeFault}
 use Rattle.grid.specs.declared.axes.AxesAt.{AxesAt}
 use Rattle.grid.specs.Memory.{recordAt}
 use Rattle.grid.specs.Drawn.{axesAt, Stands}
-use Rattle.grid.specs.Tree.{axesPlanAt, axesPlace, axesGridAt, headAt, binIn, childIn, binsIn, gridAt, AxesLaid, BinsLaid}
+use Rattle.grid.specs.Tree.{axesPlanAt, axesPlace, axesGridAt, binIn, childIn, binsIn, gridAt, AxesLaid, BinsLaid}
 use Rattle.grid.specs.Judged.{soundBin, soundBins}
 use Rattle.grid.specs.Matched.{obstacle, worseOf, gridObstacle, childObstacle, binObstacle, BinRoom}
 use Rattle.grid.proofs.Sounds.{sound-bins, node-axes, node-bins}

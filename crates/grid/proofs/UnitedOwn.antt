@@ -1,7 +1,7 @@
 -- What merging leaves of a grid's own: which cells it touches, and what is read of them then.
 use mathlib.Core.Path.{_≡_, refl, sym, ap, ap₂, _∙_, subst}
 use mathlib.Core.Logic.{inl, inr}
-use mathlib.Core.Bool.{Bool, true, false, not, _&&_, cond, true≢false}
+use mathlib.Core.Bool.{Bool, true, false, _&&_, cond, true≢false}
 use mathlib.Core.List.{List, [], _∷_}
 use Prim.Native.Nat.{ℕ, zero, suc, _+_, _-_, _*_, _≤_, _<_}
 use native.Mathlib.Omega.{arith}
@@ -9,24 +9,23 @@ use borrow.Author.Tests.{eq-eqb, eqb-true, leb-true, leb-false}
 use lib.Dec.{eqb, leb}
 use lib.ListN.{length, getD}
 use lib.Ieee.{Float, nan}
-use Rattle.real.specs.Paper.{Paper, gives, refuses}
 use Rattle.real.proofs.Truth.{either, both}
 use Rattle.accumulator.specs.declared.StatisticsAccumulator.{StatisticsAccumulator}
 use Rattle.accumulator.specs.Record.{wellFormed}
 use Rattle.accumulator.specs.Steps.{mergedOf}
 use Rattle.accumulator.specs.Calls as account
 use Rattle.model.specs.Axes.{Axis, AxesPlan}
-use Rattle.model.specs.Grid.{Grid, Bins, Child, Bin, axes, more, none, withBin}
+use Rattle.model.specs.Grid.{axes, withBin}
 use Rattle.model.specs.Sound.{sound, formedGrid, formedAxis, formedAxisList, keptGrid, keptAxisList}
-use Rattle.model.specs.Merge.{sameLengths, mergeBinRecords, mergeAxis, mergeAll, mergeGrid, mergeBins, mergeChild}
+use Rattle.model.specs.Merge.{sameLengths, mergeBinRecords, mergeAxis, mergeAll, mergeGrid}
 use Rattle.grid.specs.declared.axes.AxesAt.{AxesAt}
-use Rattle.grid.specs.Layout.{axisReals, axisCounts, axesFrom}
-use Rattle.grid.specs.Memory.{Memory, memory, recordAt, stored}
+use Rattle.grid.specs.Layout.{axesFrom}
+use Rattle.grid.specs.Memory.{Memory, recordAt, stored}
 use Rattle.grid.specs.Drawn.{axesAt, Stands}
 use Rattle.grid.specs.Merged.{mergedMemory}
-use Rattle.grid.specs.Tree.{axesPlanAt, axesPlace, axesGridAt, binIn, childIn, binsIn, AxesLaid}
+use Rattle.grid.specs.Tree.{axesPlanAt, axesPlace, axesGridAt, binIn, AxesLaid}
 use Rattle.grid.specs.United.{storedBy, joinedRecord, unitedAxes, unitedBin, unitedBins, unitedOwn}
-use Rattle.grid.proofs.Same.{Same, same-refl, same-sym, same-on, same-within}
+use Rattle.grid.proofs.Same.{Same, same-sym, same-within}
 use Rattle.grid.proofs.Reading.{Holding, record-same, record-stored, axes-same}
 use Rattle.grid.proofs.Sounds.{numbers-upto}
 use Rattle.grid.proofs.Alike.{holding-formed}

@@ -1,7 +1,7 @@
 -- A tree that took another's waiting samples, in lent memory, is read as the model's merged grid.
 use mathlib.Core.Path.{_≡_, refl, sym, ap, ap₂, _∙_, subst}
 use mathlib.Core.Logic.{_≢_, inl, inr}
-use mathlib.Core.Bool.{Bool, true, false, not, _&&_, cond, false≢true, true≢false}
+use mathlib.Core.Bool.{Bool, true, false, not, _&&_, false≢true, true≢false}
 use mathlib.Core.List.{List, [], _∷_}
 use Prim.Native.Nat.{ℕ, zero, suc, _+_, _-_, _*_, _≤_, _<_}
 use native.Mathlib.Omega.{arith}
@@ -26,10 +26,10 @@ use Rattle.plan.proofs.Tables.{Words}
 use Rattle.plan.proofs.Rereads.{taken-words}
 use Rattle.plan.proofs.Records.{Stands, axes-record, bins-record, Upto, upto-after, child-record, before-next, passed-stands}
 use Rattle.model.specs.Grid as model
-use Rattle.model.specs.Sound.{sound, formedGrid, formedChild, keptGrid, keptBins, keptChild, keptAxisList}
-use Rattle.model.specs.Merge.{sameLengths, sameShape, sameBins, sameChild, equalGrid, mergeAll, mergeGrid, mergeBins, mergeChild, mergeOf}
-use Rattle.grid.specs.Memory.{Memory, recordAt}
-use Rattle.grid.specs.Tree.{axesGridAt, headAt, binIn, childIn, binsIn, nodeAt, gridAt, AxesLaid, BinsLaid, Laid}
+use Rattle.model.specs.Sound.{sound, formedGrid, keptGrid, keptBins, keptChild, keptAxisList}
+use Rattle.model.specs.Merge.{sameShape, sameBins, sameChild, equalGrid, mergeAll, mergeGrid, mergeBins, mergeChild, mergeOf}
+use Rattle.grid.specs.Memory.{Memory}
+use Rattle.grid.specs.Tree.{axesGridAt, headAt, binIn, childIn, binsIn, nodeAt, gridAt, BinsLaid, Laid}
 use Rattle.grid.specs.Founded.{freshChildren}
 use Rattle.grid.specs.Judged.{soundBin}
 use Rattle.grid.specs.Sampled.{soundChild}
@@ -411,7 +411,7 @@ module _ (xs ys : List ℕ) (others : Memory) where
       let two : (j : ℕ) → j < N → soundBin (binIn ys (others .reals) (others .counts) v j) (childIn (there l) (getD ys (v + 7 + j) 0)) ≡ true =
       λ j x. sound-in (there l) ys (others .reals) (others .counts) v K N j x theirs in
       let fit : (j : ℕ) → j < N → (account.wellFormed (mergedOf (binIn xs (s .reals) (s .counts) w j .own) (binIn ys (others .reals) (others .counts) v j .own)) ≡ true)
-          × (keptChild (mergeChild (childIn (here l s) (getD xs (w + 7 + j) 0)) (childIn (there l) (getD ys (v + 7 + j) 0))) ≡ true) =
+      × (keptChild (mergeChild (childIn (here l s) (getD xs (w + 7 + j) 0)) (childIn (there l) (getD ys (v + 7 + j) 0))) ≡ true) =
       λ j x. kept-at (here l s) (there l) xs ys (s .reals) (others .reals) (s .counts) (others .counts) w v N j x (kept .1) in
       subst (λ (x : model.Grid). Found (y .reals) (after (bins b ts) y .reals) (y .counts) (after (bins b ts) y .counts) s (unitedGrid xs ys others (suc l) w v s) (λ (a : List Float) (b : List ℕ). gridAt (suc l) xs a b w) x) (sym (ap₂ mergeGrid e f))
       (bins-unite l deeper b ts y v st s (λ j x. there-laid .children j (omega (arith, many, bns)))

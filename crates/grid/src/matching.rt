@@ -96,8 +96,8 @@ fn axes_obstacle(
     if !merging::same_lengths(reals, counts, g, theirs, tallies, o) {
         return 4;
     }
-    let level = g.floor == o.floor;
-    if !level {
+    let same_floor = g.floor == o.floor;
+    if !same_floor {
         return 11;
     }
     if !merging::equal_edges(reals, counts, g, theirs, tallies, o) {

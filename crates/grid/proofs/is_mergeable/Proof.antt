@@ -1,3 +1,4 @@
+-- Nothing stands against both states, so both grids lie there well formed; 8 is no answer here.
 use mathlib.Core.Path.{sym, _∙_}
 use native.Mathlib.Omega.{arith}
 use Rattle.model.specs.Merge.{mergeFault}

@@ -1,3 +1,4 @@
+-- Nothing stands against both states, then nothing against the merge, and the model gives it.
 use mathlib.Core.Path.{sym, ap, _∙_}
 use Prim.Native.Nat.{ℕ}
 use native.Mathlib.Omega.{arith}

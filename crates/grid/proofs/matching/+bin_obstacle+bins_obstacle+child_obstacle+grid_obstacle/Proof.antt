@@ -1,4 +1,5 @@
-use mathlib.Core.Path.{_≡_, sym, ap, ap₂, _∙_}
+-- What was found so far, joined with what the bins that are left come to, is what all of them come to.
+use mathlib.Core.Path.{sym, ap, ap₂, _∙_}
 use Prim.Native.Nat.{ℕ, _+_, _-_, _*_, _≤_, _<_}
 use native.Mathlib.Omega.{arith}
 use lib.ListN.{length, getD}

@@ -1,3 +1,4 @@
+-- The accumulator refuses two well-formed records exactly where their merge would not be well formed.
 use mathlib.Core.Path.{sym, ap, ap₂, _∙_}
 use Rattle.accumulator.specs.declared.StatisticsAccumulator.{StatisticsAccumulator}
 use Rattle.accumulator.specs.Record.{wellFormed}

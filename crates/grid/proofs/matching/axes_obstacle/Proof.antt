@@ -1,3 +1,4 @@
+-- Each test is asked of well-formed axes that stand in memory, and the first that fails is the model's answer.
 use Prim.Native.Nat.{_+_}
 use lib.ListN.{getD}
 use lib.Ieee.{eq}

@@ -1,3 +1,4 @@
+-- `merging::merge_axes` meets its contract: what is left to merge on the memory now is all of it on the memory at entry.
 use mathlib.Core.Path.{_≡_, refl, sym, _∙_}
 use Prim.Native.Nat.{_≤_}
 use native.Mathlib.Omega.{arith}

@@ -1,6 +1,6 @@
 use mathlib.Core.Path.{ap₂, _∙_}
 use native.Mathlib.Omega.{arith}
-use Rattle.grid.specs.Layout.{axisReals, axisCounts}
+use Rattle.grid.specs.Layout.{axisCounts}
 use Rattle.grid.specs.Memory.{memory}
 use Rattle.grid.proofs.Unites.{axis-full, axis-over, axis-joins}
 use borrow.Author.Needs.{needs}

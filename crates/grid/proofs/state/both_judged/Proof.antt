@@ -1,3 +1,4 @@
+-- Each test is the code's branch; the plans are known, so their grids lie in the room that passed.
 use mathlib.Core.Path.{sym, _∙_}
 use native.Mathlib.Omega.{arith}
 use borrow.Author.Tests.{lt-ltb, le-ltb, not-true, not-false}

@@ -1,3 +1,4 @@
+-- A step keeps the lengths, so what lies there lies there for the next child; what is left to merge is all of it.
 use mathlib.Core.Path.{_≡_, refl, ap, sym, _∙_}
 use Prim.Native.Nat.{ℕ, _+_, _-_, _*_, _≤_, _<_}
 use native.Mathlib.Omega.{arith}

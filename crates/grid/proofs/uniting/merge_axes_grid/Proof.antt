@@ -1,3 +1,4 @@
+-- The places are the runs', so the axes lie in memory after the accumulator was stored too.
 use mathlib.Core.Path.{refl}
 use native.Mathlib.Omega.{arith}
 use lib.ListN.{length}

@@ -1,3 +1,4 @@
+-- What is left to merge on the memory now is all of it on the memory after the grid's own accumulator.
 use mathlib.Core.Path.{_≡_, refl, sym, _∙_}
 use Prim.Native.Nat.{_+_, _-_, _≤_}
 use native.Mathlib.Omega.{arith}
