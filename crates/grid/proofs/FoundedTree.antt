@@ -38,7 +38,7 @@ pub record Found {X : Type 0} (r e c d : ℕ) (s t : Memory) (read : List Float 
   pub reads : (reals′ : List Float) (counts′ : List ℕ) → Same nan r e (t .reals) reals′ → Same 0 c d (t .counts) counts′ → read reals′ counts′ ≡ g
 
 -- the same bounds, memory and grid under other names
-found-at : {X : Type 0} (r e c d r₁ e₁ c₁ d₁ : ℕ) (s t t₁ : Memory) (read read₁ : List Float → List ℕ → X) (g g₁ : X) → r ≡ r₁ → e ≡ e₁ → c ≡ c₁ → d ≡ d₁ → t ≡ t₁
+pub found-at : {X : Type 0} (r e c d r₁ e₁ c₁ d₁ : ℕ) (s t t₁ : Memory) (read read₁ : List Float → List ℕ → X) (g g₁ : X) → r ≡ r₁ → e ≡ e₁ → c ≡ c₁ → d ≡ d₁ → t ≡ t₁
     → ((reals : List Float) (counts : List ℕ) → read₁ reals counts ≡ read reals counts) → g ≡ g₁ → Found r e c d s t read g → Found r₁ e₁ c₁ d₁ s t₁ read₁ g₁
 found-at r e c d r₁ e₁ c₁ d₁ s t t₁ read read₁ g g₁ i j k l m n o f =
     let w : Within r₁ e₁ c₁ d₁ s t =

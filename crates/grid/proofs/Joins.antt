@@ -1,5 +1,5 @@
 -- Columns that take another's: parts that are lent and come back joined, what then stands in a column, and what stays.
-use mathlib.Core.Path.{_≡_, refl, sym, ap, ap₂, subst, _∙_}
+use mathlib.Core.Path.{_≡_, refl, sym, ap, ap₂, _∙_}
 use mathlib.Core.List.{List, [], _∷_, _++_}
 use Prim.Native.Nat.{ℕ, zero, suc, _+_, _-_, _*_, _≤_, _<_}
 use native.Mathlib.Omega.{arith}
@@ -12,7 +12,7 @@ use Rattle.grid.specs.Layout.{stretch, axisReals, axisCounts}
 use Rattle.grid.specs.Memory.{Memory, overAxes}
 use Rattle.grid.specs.Onward.{onward}
 use Rattle.grid.specs.Merged.{joinAt, mergedCounts, mergeAt, eachOf, mergedMemory}
-use Rattle.grid.proofs.Same.{Same, same-on, same-within, length-put, getD-put-in, getD-stretch, same-put-below, same-put-above}
+use Rattle.grid.proofs.Same.{Same, same-on, length-put, getD-put-in, getD-stretch, same-put-below, same-put-above}
 use Rattle.grid.proofs.Lays.{lent-back}
 use Rattle.grid.proofs.Changes.{stretch-length}
 
@@ -88,17 +88,6 @@ module _ (m k n c d : ℕ) (theirs xs : List ℕ) (few : n ≤ m) (room : c + (3
       (join-above 0 joinedCount (c + 2) (d + 2) n theirs xs (omega arith) lo hi (omega arith))
 
 -- ---- axis after axis
-
--- the counts from the next axis on stay
-pub counts-on : (g g′ : AxesAt) (k n d hi : ℕ) (theirs xs ys zs : List ℕ) → n ≤ g .most → g .counts + (3 * g .most + 2) ≤ length xs → g′ ≡ onward g
-    → ys ≡ mergedCounts (g .most) k n (g .counts) d theirs xs → Same 0 (g .counts) hi xs zs → Same 0 (g′ .counts) hi ys zs
-unfolding onward axisCounts
-counts-on g g′ k n d hi theirs xs ys zs few room e f s =
-    let lo : g′ .counts ≡ g .counts + (3 * g .most + 2) = ap (λ (a : AxesAt). a .counts) e in
-    let above : Same 0 (g′ .counts) hi (mergedCounts (g .most) k n (g .counts) d theirs xs) xs =
-    counts-above (g .most) k n (g .counts) d theirs xs few room (g′ .counts) hi (omega (arith, lo)) in
-    let there : Same 0 (g′ .counts) hi ys xs = subst (λ (l : List ℕ). Same 0 (g′ .counts) hi l xs) (sym f) above in
-    same-on 0 (g′ .counts) hi ys xs zs there (same-within 0 (g .counts) hi (g′ .counts) hi xs zs (omega (arith, lo)) (omega arith) s)
 
 pub merged-next : (g o g′ o′ : AxesAt) (others s t : Memory) → 0 < g .axes → g′ ≡ onward g → o′ ≡ onward o → t ≡ mergeAt (g .most) others (g .reals) (g .counts) o s
     → mergedMemory g′ o′ others t ≡ mergedMemory g o others s

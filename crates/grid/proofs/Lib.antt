@@ -35,6 +35,8 @@ pub mod AbsorbedOwn
 pub mod AbsorbedTree
 pub mod Fitting
 pub mod Plans
+pub mod Matches
+pub mod Unites
 pub mod Unique
 pub mod Founds
 pub mod Trees
@@ -44,6 +46,7 @@ pub mod FoundedTree
 pub mod Named
 pub mod Clones
 pub mod Cloned
+pub mod Children
 pub mod Turns
 pub mod Adapts
 pub mod Spares
@@ -51,3 +54,5 @@ pub mod AdaptedOwn
 pub mod AdaptedTree
 pub mod Reformed
 pub mod UpdatedState
+pub mod UnitedOwn
+pub mod UnitedTree

@@ -4,6 +4,7 @@ use mathlib.Core.Bool.{true}
 use mathlib.Core.List.{List, [], _∷_}
 use Prim.Native.Nat.{ℕ, zero, suc, _+_, _-_, _*_, _^_, _≤_, _<_}
 use native.Mathlib.Omega.{arith}
+use borrow.Author.Tests.{le-ltb}
 use lib.ListN.{length, getD}
 use lib.Ieee.{Float, nan, binary64, add}
 use Rattle.accumulator.specs.declared.StatisticsAccumulator.{StatisticsAccumulator}
@@ -222,14 +223,18 @@ module _ (m : ℕ) (others : Memory) where
   abbrev step : Axis → AxesAt → Axis
   step a o = mergeAxis a (axisAt (o .most) (others .reals) (others .counts) (o .reals) (o .counts))
 
+  -- the bins held are within both rooms
+  passes : (r c : ℕ) (o : AxesAt) (s : Memory) → Fit m others r c o s
+      → mergeAt m others r c o s ≡ memory (mergedReals m (o .most) (getD (s .counts) c 0) r (o .reals) (others .reals) (s .reals)) (mergedCounts m (o .most) (getD (s .counts) c 0) c (o .counts) (others .counts) (s .counts))
+  unfolding mergeAt
+  passes r c o s p = rw (le-ltb m (getD (s .counts) c 0) (p .held), le-ltb (o .most) (getD (s .counts) c 0) (p .theirs))
+
   merge-tied : (r c : ℕ) (o : AxesAt) (s : Memory) → Fit m others r c o s
       → axisAt m (mergeAt m others r c o s .reals) (mergeAt m others r c o s .counts) r c ≡ step (axisAt m (s .reals) (s .counts) r c) o
-  unfolding mergeAt
-  merge-tied r c o s p = axis-merged m others r c o s p
+  merge-tied r c o s p = ap (λ (t : Memory). axisAt m (t .reals) (t .counts) r c) (passes r c o s p) ∙ axis-merged m others r c o s p
 
   merge-holds : (r c : ℕ) (o : AxesAt) (s : Memory) → Fit m others r c o s → getD (mergeAt m others r c o s .counts) c 0 ≤ m
-  unfolding mergeAt
-  merge-holds r c o s p = omega (arith, held-still m others r c o s p, p .held)
+  merge-holds r c o s p = omega (arith, ap (λ (t : Memory). getD (t .counts) c 0) (passes r c o s p), held-still m others r c o s p, p .held)
 
   merge-local : Local m (mergeAt m others) (Fit m others)
   unfolding axisReals axisCounts
@@ -249,14 +254,17 @@ module _ (m : ℕ) (others : Memory) where
       }
 
   merge-frames : Frames m (mergeAt m others) (Fit m others)
-  unfolding mergeAt mergedReals
+  unfolding mergedReals
   merge-frames r c o s p =
       let n = getD (s .counts) c 0 in
+      let e = passes r c o s p in
+      let reals : mergeAt m others r c o s .reals ≡ mergedReals m (o .most) n r (o .reals) (others .reals) (s .reals) = ap (λ (t : Memory). t .reals) e in
+      let counts : mergeAt m others r c o s .counts ≡ mergedCounts m (o .most) n c (o .counts) (others .counts) (s .counts) = ap (λ (t : Memory). t .counts) e in
       record {
-        reals-below = λ lo hi h. reals-lower m others r c o s p lo hi (omega arith);
-        reals-above = λ lo hi h. reals-upper m others r c o s p lo hi h;
-        counts-below = λ lo hi h. counts-below m (o .most) n c (o .counts) (others .counts) (s .counts) (p .held) (p .places) lo hi (omega arith);
-        counts-above = λ lo hi h. counts-above m (o .most) n c (o .counts) (others .counts) (s .counts) (p .held) (p .places) lo hi (omega arith);
+        reals-below = λ lo hi h. subst (λ (xs : List Float). Same nan lo hi xs (s .reals)) (sym reals) (reals-lower m others r c o s p lo hi (omega arith));
+        reals-above = λ lo hi h. subst (λ (xs : List Float). Same nan lo hi xs (s .reals)) (sym reals) (reals-upper m others r c o s p lo hi h);
+        counts-below = λ lo hi h. subst (λ (xs : List ℕ). Same 0 lo hi xs (s .counts)) (sym counts) (counts-below m (o .most) n c (o .counts) (others .counts) (s .counts) (p .held) (p .places) lo hi (omega arith));
+        counts-above = λ lo hi h. subst (λ (xs : List ℕ). Same 0 lo hi xs (s .counts)) (sym counts) (counts-above m (o .most) n c (o .counts) (others .counts) (s .counts) (p .held) (p .places) lo hi (omega arith));
       }
 
   all-merged : (j : ℕ) (axs : List Axis) (o : AxesAt) → eachAxis step axs (eachOf j o) ≡ mergeAll axs (axesFrom (o .most) (others .reals) (others .counts) j (o .reals) (o .counts))

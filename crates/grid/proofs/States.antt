@@ -5,7 +5,7 @@ use mathlib.Core.List.{List}
 use Prim.Native.Nat.{ℕ, _≤_}
 use native.Mathlib.Omega.{arith}
 use borrow.Author.Tests.{ltb-false, not-false, ne-eqb}
-use lib.Dec.{ltb}
+use lib.Dec.{eqb, ltb}
 use lib.ListN.{length, getD}
 use lib.Ieee.{Float}
 use Rattle.plan.specs.declared.Needs.{Needs}
@@ -19,7 +19,7 @@ use Rattle.model.specs.Sound.{sound}
 use Rattle.real.specs.Paper.{Paper, gives, refuses}
 use Rattle.grid.specs.Memory.{recordAt}
 use Rattle.grid.specs.Tree.{axesGridAt, headAt, Laid}
-use Rattle.grid.specs.State.{rootOf, ownOf, judgedBy, faultBy, stateFault}
+use Rattle.grid.specs.State.{rootOf, ownOf, judgedBy, faultBy, stateFault, bothJudged, secondBy, firstBy, pairFault}
 use Rattle.grid.specs.Calls.{onState}
 use Rattle.grid.proofs.Laid.{root-laid}
 use Rattle.grid.proofs.Sounds.{node-axes, node-bins}
@@ -70,6 +70,101 @@ pub fault-strayed : (table : List ℕ) (reals : List Float) (counts : List ℕ) 
 unfolding stateFault faultBy paperSized
 fault-strayed table reals counts r n e q = ap (λ (p : plan.Paper Needs). faultBy table reals counts p) (ap paperSized q ∙ e)
 
+-- ---- two states
+
+-- a table's plan, whose needs are within R reals and C counts
+pub record Planned (table : List ℕ) (R C : ℕ) : Type 0 where
+  pub needs : Needs
+  pub sized : sizesOf table ≡ plan.gives needs
+  pub room : needs .reals ≤ R
+  pub places : needs .counts ≤ C
+
+module _ (table : List ℕ) (reals : List Float) (counts : List ℕ) (other : List ℕ) (theirs : List Float) (tallies : List ℕ) where
+  both-clear : (n k : Needs) → Words table → Words other → sizesOf table ≡ plan.gives n → sizesOf other ≡ plan.gives k
+      → bothJudged table reals counts n other theirs tallies k ≡ 0 → Clear table reals counts × Clear other theirs tallies
+  unfolding bothJudged
+  both-clear n k large wide e f z =
+      let a = passes (ltb (length reals) (n .reals)) 10 _ (λ x. omega (arith, x)) z in
+      let b = passes (ltb (length counts) (n .counts)) 10 _ (λ x. omega (arith, x)) (a .1) in
+      let c = passes (ltb (length theirs) (k .reals)) 10 _ (λ x. omega (arith, x)) (b .1) in
+      let d = passes (ltb (length tallies) (k .counts)) 10 _ (λ x. omega (arith, x)) (c .1) in
+      let p = passes (not (sound (rootOf table reals counts))) 12 _ (λ x. omega (arith, x)) (d .1) in
+      let q = passes (not (sound (rootOf other theirs tallies))) 12 0 (λ x. omega (arith, x)) (p .1) in (
+        record {
+          laid = root-laid table n (length reals) (length counts) large e (ltb-false (length reals) (n .reals) (a .0)) (ltb-false (length counts) (n .counts) (b .0));
+          well = not-false (sound (rootOf table reals counts)) (p .0);
+          needs = n;
+          planned = e;
+          reals-fit = ltb-false (length reals) (n .reals) (a .0);
+          counts-fit = ltb-false (length counts) (n .counts) (b .0);
+        },
+        record {
+          laid = root-laid other k (length theirs) (length tallies) wide f (ltb-false (length theirs) (k .reals) (c .0)) (ltb-false (length tallies) (k .counts) (d .0));
+          well = not-false (sound (rootOf other theirs tallies)) (q .0);
+          needs = k;
+          planned = f;
+          reals-fit = ltb-false (length theirs) (k .reals) (c .0);
+          counts-fit = ltb-false (length tallies) (k .counts) (d .0);
+        },
+      )
+
+  second-clear : (n : Needs) (p : plan.Paper Needs) → Words table → Words other → sizesOf table ≡ plan.gives n → sizesOf other ≡ p
+      → secondBy table reals counts n other theirs tallies p ≡ 0 → Clear table reals counts × Clear other theirs tallies
+  unfolding secondBy
+  second-clear n (plan.gives k) large wide e f z = both-clear n k large wide e f z
+  second-clear n (plan.refuses k) large wide e f z = absurd (omega (arith, z))
+  second-clear n (plan.refusesAt k at) large wide e f z = absurd (omega (arith, z))
+
+  first-clear : (p : plan.Paper Needs) → Words table → Words other → sizesOf table ≡ p
+      → firstBy table reals counts p other theirs tallies ≡ 0 → Clear table reals counts × Clear other theirs tallies
+  unfolding firstBy
+  first-clear (plan.gives n) large wide e z = second-clear n (sizesOf other) large wide e refl z
+  first-clear (plan.refuses k) large wide e z = absurd (omega (arith, z))
+  first-clear (plan.refusesAt k at) large wide e z = absurd (omega (arith, z))
+
+  pub pair-clear : Words table → Words other → pairFault table reals counts other theirs tallies ≡ 0 → Clear table reals counts × Clear other theirs tallies
+  unfolding pairFault
+  pair-clear large wide z = first-clear (sizesOf table) large wide refl z
+
+  second-planned-room : (n : Needs) (p : plan.Paper Needs) → sizesOf table ≡ plan.gives n → secondBy table reals counts n other theirs tallies p ≡ 0 → Planned table (length reals) (length counts)
+  unfolding secondBy bothJudged
+  second-planned-room n (plan.gives k) e z =
+      let a = passes (ltb (length reals) (n .reals)) 10 _ (λ x. omega (arith, x)) z in
+      let b = passes (ltb (length counts) (n .counts)) 10 _ (λ x. omega (arith, x)) (a .1) in
+      record { needs = n; sized = e; room = ltb-false (length reals) (n .reals) (a .0); places = ltb-false (length counts) (n .counts) (b .0) }
+  second-planned-room n (plan.refuses k) e z = absurd (omega (arith, z))
+  second-planned-room n (plan.refusesAt k at) e z = absurd (omega (arith, z))
+
+  first-planned-room : (p : plan.Paper Needs) → sizesOf table ≡ p → firstBy table reals counts p other theirs tallies ≡ 0 → Planned table (length reals) (length counts)
+  unfolding firstBy
+  first-planned-room (plan.gives n) e z = second-planned-room n (sizesOf other) e z
+  first-planned-room (plan.refuses k) e z = absurd (omega (arith, z))
+  first-planned-room (plan.refusesAt k at) e z = absurd (omega (arith, z))
+
+  pub pair-planned : pairFault table reals counts other theirs tallies ≡ 0 → Planned table (length reals) (length counts)
+  unfolding pairFault
+  pair-planned z = first-planned-room (sizesOf table) refl z
+
+  -- what each plan's own answer comes to
+  pub second-planned : (n : Needs) (r : Sized) (k : Needs) (f : ℕ) → paperSized r ≡ sizesOf other → sized.Plan k ≡ r
+      → f ≡ bothJudged table reals counts n other theirs tallies k → f ≡ secondBy table reals counts n other theirs tallies (sizesOf other)
+  unfolding secondBy paperSized
+  second-planned n r k f e q j = j ∙ ap (secondBy table reals counts n other theirs tallies) (ap paperSized q ∙ e)
+
+  pub second-strayed : (n : Needs) (r : Sized) (k : ℕ) → paperSized r ≡ sizesOf other → sized.Refused k ≡ r
+      → 12 ≡ secondBy table reals counts n other theirs tallies (sizesOf other)
+  unfolding secondBy paperSized
+  second-strayed n r k e q = ap (secondBy table reals counts n other theirs tallies) (ap paperSized q ∙ e)
+
+  pub first-planned : (r : Sized) (n : Needs) (f : ℕ) → paperSized r ≡ sizesOf table → sized.Plan n ≡ r
+      → f ≡ secondBy table reals counts n other theirs tallies (sizesOf other) → f ≡ pairFault table reals counts other theirs tallies
+  unfolding pairFault firstBy paperSized
+  first-planned r n f e q j = j ∙ ap (λ (p : plan.Paper Needs). firstBy table reals counts p other theirs tallies) (ap paperSized q ∙ e)
+
+  pub first-strayed : (r : Sized) (k : ℕ) → paperSized r ≡ sizesOf table → sized.Refused k ≡ r → 12 ≡ pairFault table reals counts other theirs tallies
+  unfolding pairFault firstBy paperSized
+  first-strayed r k e q = ap (λ (p : plan.Paper Needs). firstBy table reals counts p other theirs tallies) (ap paperSized q ∙ e)
+
 -- ---- answers on a state
 
 pub refused-first : {A : Type 0} (fault : ℕ) (p : Paper A) → (fault ≡ 0 → ⊥) → onState fault p ≡ refuses fault
@@ -77,6 +172,13 @@ refused-first fault p n = rw (ne-eqb fault 0 n)
 
 pub answered-last : {A : Type 0} (fault : ℕ) (p : Paper A) → fault ≡ 0 → onState fault p ≡ p
 answered-last fault p e = rw e
+
+-- the same of what is not a paper's answer
+pub stopped : {A : Type 0} (fault : ℕ) (a b : A) → (fault ≡ 0 → ⊥) → cond (not (eqb fault 0)) a b ≡ a
+stopped fault a b n = rw (ne-eqb fault 0 n)
+
+pub went-on : {A : Type 0} (fault : ℕ) (a b : A) → fault ≡ 0 → cond (not (eqb fault 0)) a b ≡ b
+went-on fault a b e = rw e
 
 -- ---- the root's own accumulator
 

@@ -12,11 +12,11 @@ use lib.ListN.{length, getD}
 use lib.Ieee.{Float, nan}
 use Rattle.plan.specs.declared.Tally.{Tally}
 use Rattle.plan.specs.declared.BinsPlan.{BinsPlan}
-use Rattle.plan.specs.Plan.{Tree, Trees, nothing, axes, bins, none, more, count}
+use Rattle.plan.specs.Plan.{Tree, Trees, nothing, axes, bins}
 use Rattle.plan.specs.Needs.{binsTaken, after, childAt, before}
 use Rattle.plan.specs.Table.{link}
 use Rattle.plan.proofs.Rereads.{taken-words}
-use Rattle.plan.proofs.Records.{Stands, Upto, upto-same, upto-on, upto-after, upto-before, grid-link, bins-record, child-record, before-next}
+use Rattle.plan.proofs.Records.{Stands, Upto, upto-after, bins-record, child-record, before-next}
 use Rattle.model.specs.Grid as model
 use Rattle.model.specs.Sound.{formedGrid}
 use Rattle.model.specs.Update.{Outcome, nested}
@@ -24,10 +24,10 @@ use Rattle.grid.specs.Memory.{Memory}
 use Rattle.grid.specs.Tree.{childIn, gridAt}
 use Rattle.grid.specs.Founded.{freshChildren}
 use Rattle.grid.specs.Turns.{childTurned, childrenTurned}
-use Rattle.grid.proofs.Same.{Same, same-alike, same-on, same-sym, same-within}
+use Rattle.grid.proofs.Same.{Same, same-on, same-sym, same-within}
 use Rattle.grid.proofs.Trees.{axes-differ, bins-differ}
-use Rattle.grid.proofs.Alike.{grid-alike}
 use Rattle.grid.proofs.FoundedOwn.{Within, within-same, within-on}
+use Rattle.grid.proofs.Children.{stands-in, later}
 
 -- ---- what a step comes to
 
@@ -62,21 +62,6 @@ child-after-same f g (suc n) e =
     let z : suc n ≢ 0 = λ q. absurd (omega arith) in
     rw (ne-eqb (suc n) 0 z, e z)
 
--- children one behind the other
-pub before-upto : (ts : Trees) (i j : ℕ) (y : Tally) → i ≤ j → Upto (before ts i y) (before ts j y)
-unfolding before
-before-upto none i j y h = upto-same y
-before-upto (more t ts) zero zero y h = upto-same y
-before-upto (more t ts) zero (suc j) y h = upto-on (upto-after t y) (upto-before ts j (after t y))
-before-upto (more t ts) (suc i) zero y h = absurd (omega arith)
-before-upto (more t ts) (suc i) (suc j) y h = before-upto ts i j (after t y) (omega arith)
-
-pub linked-grid : (t : Tree) (u : Tally) → link t u ≢ 0 → t ≡ nothing → ⊥
-unfolding link
-linked-grid nothing u z e = z refl
-linked-grid (axes a es) u z e = axes-differ a es e
-linked-grid (bins b ts) u z e = bins-differ b ts e
-
 module _ (xs : List ℕ) (l : ℕ) (f : ℕ → Memory → Outcome Memory) (F : ℕ → model.Grid → Outcome model.Grid) (P : ℕ → model.Grid → Type 0)
     (formed : (w : ℕ) (g : model.Grid) → P w g → formedGrid g ≡ true)
     (deeper : (t : Tree) (u : Tally) (s : Memory) → (t ≡ nothing → ⊥) → Stands xs l t u → after t u .reals ≤ length (s .reals) → after t u .counts ≤ length (s .counts)
@@ -109,32 +94,6 @@ module _ (xs : List ℕ) (l : ℕ) (f : ℕ → Memory → Outcome Memory) (F : 
     abbrev at : ℕ → ℕ
     at i = getD xs (y .words + 7 + i) 0
 
-    stands : (i : ℕ) → i < b .bins → Stands xs l (childAt ts i) (before ts i own)
-    stands i h =
-        let level : suc l - 1 ≡ l = omega arith in
-        subst (λ (n : ℕ). Stands xs n (childAt ts i) (before ts i own)) level (child-record xs (suc l) b ts y i st h .stands)
-
-    -- a child after the first reads as it did
-    later : (i j : ℕ) (s t : Memory) → i < j → j < b .bins → end .reals ≤ length (s .reals) → end .counts ≤ length (s .counts)
-        → Within (before ts i own .reals) (after (childAt ts i) (before ts i own) .reals) (before ts i own .counts) (after (childAt ts i) (before ts i own) .counts) s t
-        → at j ≢ 0 → formedGrid (gridAt l xs (s .reals) (s .counts) (at j)) ≡ true
-        → gridAt l xs (t .reals) (t .counts) (at j) ≡ gridAt l xs (s .reals) (s .counts) (at j)
-    later i j s t h k rr cc w z f =
-        let c = child-record xs (suc l) b ts y j st k in
-        let v = before ts j own in
-        let q = childAt ts j in
-        let there : q ≡ nothing → ⊥ = linked-grid q v (subst (λ (n : ℕ). n ≢ 0) (c .linked) z) in
-        let e : at j ≡ v .words = c .linked ∙ grid-link q v there in
-        let one : suc i ≡ i + 1 = omega arith in
-        let next : before ts (suc i) own ≡ after (childAt ts i) (before ts i own) = before-next ts i own (omega (arith, bins-record xs (suc l) b ts y st .number)) in
-        let past : Upto (after (childAt ts i) (before ts i own)) v = subst (λ (u : Tally). Upto u v) next (before-upto ts (suc i) j own (omega arith)) in
-        let up = same-sym nan (v .reals) (after q v .reals) (t .reals) (s .reals) (w .high (v .reals) (after q v .reals) (past .reals)) in
-        let on = same-sym 0 (v .counts) (after q v .counts) (t .counts) (s .counts) (w .many (v .counts) (after q v .counts) (past .counts)) in
-        let form : formedGrid (gridAt l xs (s .reals) (s .counts) (v .words)) ≡ true = sym (ap (λ (n : ℕ). formedGrid (gridAt l xs (s .reals) (s .counts) n)) e) ∙ f in
-        let same = grid-alike xs (s .reals) (t .reals) (s .counts) (t .counts) l q v there (stands j k) (omega (arith, c .inside .reals)) (omega (arith, c .inside .counts)) form
-        (same-alike nan (v .reals) (after q v .reals) (s .reals) (t .reals) up) (same-alike 0 (v .counts) (after q v .counts) (s .counts) (t .counts) on) in
-        sym (subst (λ (n : ℕ). gridAt l xs (s .reals) (s .counts) n ≡ gridAt l xs (t .reals) (t .counts) n) (sym e) same)
-
     -- the last k children, from child i on, which read as G so far
     pub children-turned : (k i : ℕ) (u : Tally) (s : Memory) → i + k ≡ b .bins → u ≡ before ts i own → u .reals ≤ end .reals → u .counts ≤ end .counts
         → end .reals ≤ length (s .reals) → end .counts ≤ length (s .counts)
@@ -147,7 +106,7 @@ module _ (xs : List ℕ) (l : ℕ) (f : ℕ → Memory → Outcome Memory) (F : 
     children-turned (suc k) i u s e o rr cc h g p q =
         let c = child-record xs (suc l) b ts y i st (omega arith) in
         let t = childAt ts i in
-        let there : Stands xs l t u = subst (λ (v : Tally). Stands xs l t v) (sym o) (stands i (omega arith)) in
+        let there : Stands xs l t u = subst (λ (v : Tally). Stands xs l t v) (sym o) (stands-in xs l b ts y st i (omega arith)) in
         let inside : Upto (after t u) end = subst (λ (v : Tally). Upto (after t v) end) (sym o) (c .inside) in
         let behind : Upto own u = subst (λ (v : Tally). Upto own v) (sym o) (c .behind) in
         let past = upto-after t u in
@@ -167,7 +126,7 @@ module _ (xs : List ℕ) (l : ℕ) (f : ℕ → Memory → Outcome Memory) (F : 
         let near : Within (before ts i own .reals) (after t (before ts i own) .reals) (before ts i own .counts) (after t (before ts i own) .counts) s s₁ =
         subst (λ (x : Tally). Within (x .reals) (after t x .reals) (x .counts) (after t x .counts) s s₁) o (one .within) in
         let still : (j : ℕ) → i + 1 ≤ j → j < b .bins → at j ≢ 0 → gridAt l xs (s₁ .reals) (s₁ .counts) (at j) ≡ G (at j) =
-        λ j x z n. later i j s s₁ (omega arith) z h g near n (ap formedGrid (q j (omega arith) z n) ∙ formed (at j) (G (at j)) (p j (omega arith) z n)) ∙ q j (omega arith) z n in
+        λ j x z n. later xs l b ts y st i j s s₁ (omega arith) z h g near n (ap formedGrid (q j (omega arith) z n) ∙ formed (at j) (G (at j)) (p j (omega arith) z n)) ∙ q j (omega arith) z n in
         let r = children-turned k (i + 1) v s₁ (omega arith) next (inside .reals) (inside .counts) (omega arith) (omega arith) (λ j x. p j (omega arith)) still in
         let last = childrenTurned f xs (y .words) (i + 1) k s₁ .after in
         record {

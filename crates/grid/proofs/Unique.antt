@@ -13,15 +13,19 @@ use Rattle.accumulator.specs.declared.Summed.{Summed}
 use Rattle.accumulator.proofs.Unique.{estimated-one, summed-one}
 use Rattle.plan.specs.declared.Read.{Read}
 use Rattle.plan.proofs.Unique.{paper-read-one}
-use Rattle.grid.specs.Calls.{FreshEnd, CloneEnd, TrainEnd}
+use Rattle.grid.specs.Calls.{FreshEnd, CloneEnd, TrainEnd, MergeEnd}
 use Rattle.grid.proofs.clone_without_samples.Kinds as clone-kinds
 use Rattle.grid.proofs.clone_without_samples.Reads as clone-reads
 use Rattle.grid.proofs.draw.Kinds as draw-kinds
 use Rattle.grid.proofs.draw.Reads as draw-reads
 use Rattle.grid.proofs.fresh.Kinds as fresh-kinds
 use Rattle.grid.proofs.fresh.Reads as fresh-reads
+use Rattle.grid.proofs.is_mergeable.Kinds as mergeable-kinds
+use Rattle.grid.proofs.is_mergeable.Reads as mergeable-reads
 use Rattle.grid.proofs.live_estimate.Kinds as live-kinds
 use Rattle.grid.proofs.live_estimate.Reads as live-reads
+use Rattle.grid.proofs.merge.Kinds as merge-kinds
+use Rattle.grid.proofs.merge.Reads as merge-reads
 use Rattle.grid.proofs.live_estimate_of_bin.Kinds as live-of-bin-kinds
 use Rattle.grid.proofs.live_estimate_of_bin.Reads as live-of-bin-reads
 use Rattle.grid.proofs.summary.Kinds as summary-kinds
@@ -110,3 +114,21 @@ pub update-unique : (κs : Lfts 5) (a : Dens κs update-kinds.ps) (r r′ : ℕ)
 update-unique κs a r r′ s s′ p q =
     let e = p ∙ sym q in
     (ap (λ (x : UpdateEnd). x .answer) e, ap (λ (x : UpdateEnd). x .state .reals) e, ap (λ (x : UpdateEnd). x .state .counts) e)
+
+pub is-mergeable-total : (κs : Lfts 6) (a : Dens κs mergeable-kinds.ps) → mergeable-reads.Pre κs a
+is-mergeable-total κs a = tt
+
+pub is-mergeable-unique : (κs : Lfts 6) (a : Dens κs mergeable-kinds.ps) (r r′ : ℕ) (s s′ : AtExit (endedOf 6 mergeable-kinds.ps mergeable-kinds.r) κs)
+    → mergeable-reads.Post κs a r s → mergeable-reads.Post κs a r′ s′ → r ≡ r′
+is-mergeable-unique κs a r r′ s s′ p q = p ∙ sym q
+
+pub merge-total : (κs : Lfts 6) (a : Dens κs merge-kinds.ps) → merge-reads.Pre κs a
+merge-total κs a = tt
+
+-- the number, and every entry of the two lists
+pub merge-unique : (κs : Lfts 6) (a : Dens κs merge-kinds.ps) (r r′ : ℕ) (s s′ : AtExit (endedOf 6 merge-kinds.ps merge-kinds.r) κs)
+    → merge-reads.Post κs a r s → merge-reads.Post κs a r′ s′
+    → (r ≡ r′) × (now (s .1 .0) ≡ now (s′ .1 .0)) × (now (s .1 .1 .0) ≡ now (s′ .1 .1 .0))
+merge-unique κs a r r′ s s′ p q =
+    let e = p ∙ sym q in
+    (ap (λ (x : MergeEnd). x .answer) e, ap (λ (x : MergeEnd). x .state .reals) e, ap (λ (x : MergeEnd). x .state .counts) e)

@@ -27,9 +27,11 @@ use Rattle.grid.specs.declared.Sample.{Sample}
 use Rattle.grid.specs.Sampled.{entries, laidDrawing, sampleOf}
 use Rattle.grid.specs.Bins.{estimateAlong}
 use Rattle.grid.specs.Probed.{coordinatesOf, pathFrom}
+use Rattle.model.specs.Merge.{mergeFault, mergeOf}
+use Rattle.grid.specs.State.{rootOf, ownOf, judgedTo, stateFault, pairFault}
+use Rattle.grid.specs.United.{unitedGrid}
 use Rattle.grid.specs.Cleared.{clearedRoot}
 use Rattle.grid.specs.Absorbed.{absorbed}
-use Rattle.grid.specs.State.{rootOf, ownOf, judgedTo, stateFault}
 
 -- an answer on a state that may be refused
 abbrev pub onState : {A : Type 0} → ℕ → Paper A → Paper A
@@ -180,3 +182,30 @@ updateBy table binsRate axesRate R C s (plan.refusesAt k at) = updateEnd 12 s
 
 unfoldable pub updateOf : List ℕ → Float → Float → ℕ → ℕ → Memory → UpdateEnd
 updateOf table binsRate axesRate R C s = updateBy table binsRate axesRate R C s (sizesOf table)
+
+-- ---- is_mergeable and merge
+
+-- 0, or the refusal's number
+unfoldable pub mergeableOf : List ℕ → List Float → List ℕ → List ℕ → List Float → List ℕ → ℕ
+mergeableOf table reals counts other theirs tallies =
+    let fault = pairFault table reals counts other theirs tallies in
+    cond (not (eqb fault 0)) fault (mergeFault (rootOf table reals counts) (rootOf other theirs tallies))
+
+-- the number, 0 for none, and the two lists afterwards
+pub record MergeEnd : Type 0 where
+  pub answer : ℕ
+  pub state : Memory
+
+abbrev pub mergeEnd : ℕ → Memory → MergeEnd
+mergeEnd n s = record { answer = n; state = s }
+
+-- the model's answer decides whether anything is written
+unfoldable pub unitedBy : Paper Grid → Memory → Memory → MergeEnd
+unitedBy (gives g) after s = mergeEnd 0 after
+unitedBy (refuses n) after s = mergeEnd n s
+
+unfoldable pub mergeIntoOf : List ℕ → Memory → List ℕ → Memory → MergeEnd
+mergeIntoOf table s other others =
+    let fault = pairFault table (s .reals) (s .counts) other (others .reals) (others .counts) in
+    cond (not (eqb fault 0)) (mergeEnd fault s)
+    (unitedBy (mergeOf (rootOf table (s .reals) (s .counts)) (rootOf other (others .reals) (others .counts))) (unitedGrid table other others 4 0 0 s) s)

@@ -15,6 +15,8 @@ pub mod Probed
 pub mod State
 pub mod Founded
 pub mod Absorbed
+pub mod Matched
+pub mod United
 pub mod Bins
 pub mod Turns
 pub mod Adapted

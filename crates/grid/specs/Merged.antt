@@ -1,13 +1,14 @@
 -- Merging the axes of a grid with those of another, in another lent memory: each waiting column takes the other's.
-use Prim.Native.Nat.{ℕ, zero, suc, _+_, _*_}
+use Prim.Native.Nat.{ℕ, zero, suc, _+_, _*_, _≤_}
 use mathlib.Core.Bool.{cond}
 use mathlib.Core.List.{List, [], _∷_}
+use lib.Dec.{ltb}
 use lib.ListN.{getD}
 use lib.Ieee.{Float, binary64, add, lt}
 use Rattle.recut.specs.Pairs.{pairwise}
 use Rattle.recut.specs.Gather.{joinedCount}
 use Rattle.grid.specs.declared.axes.AxesAt.{AxesAt}
-use Rattle.grid.specs.Layout.{stretch}
+use Rattle.grid.specs.Layout.{stretch, axisReals, axisCounts}
 use Rattle.grid.specs.Memory.{Memory, memory, put, overAxes}
 use Rattle.grid.specs.Onward.{onward}
 
@@ -35,11 +36,14 @@ mergedReals m k n r q others xs =
 unfoldable pub mergedCounts : ℕ → ℕ → ℕ → ℕ → ℕ → List ℕ → List ℕ → List ℕ
 mergedCounts m k n c d others xs = joinAt joinedCount (c + (m + 2)) (d + (k + 2)) n others (joinAt joinedCount (c + 2) (d + 2) n others xs)
 
--- the axis at r and c takes the waiting samples of the other grid's first axis
+-- the axis at r and c takes the waiting samples of the other grid's first axis; one that says it holds more bins than either has room for
+-- stays
 unfoldable pub mergeAt : ℕ → Memory → ℕ → ℕ → AxesAt → Memory → Memory
 mergeAt m others r c o s =
     let n = getD (s .counts) c 0 in
-    memory (mergedReals m (o .most) n r (o .reals) (others .reals) (s .reals)) (mergedCounts m (o .most) n c (o .counts) (others .counts) (s .counts))
+    cond (ltb m n) s
+    (cond (ltb (o .most) n) s
+    (memory (mergedReals m (o .most) n r (o .reals) (others .reals) (s .reals)) (mergedCounts m (o .most) n c (o .counts) (others .counts) (s .counts))))
 
 -- the other grid from each of its axes on
 unfoldable pub eachOf : ℕ → AxesAt → List AxesAt
@@ -48,3 +52,9 @@ eachOf (suc k) o = o ∷ eachOf k (onward o)
 
 unfoldable pub mergedMemory : AxesAt → AxesAt → Memory → Memory → Memory
 mergedMemory g o others s = overAxes (mergeAt (g .most) others) (g .most) (eachOf (g .axes) o) (g .reals) (g .counts) s
+
+-- the axes lie within R reals and C counts
+pub record Spaced (g : AxesAt) (R C : ℕ) : Type 0 where
+  pub most : g .most ≤ 1024
+  pub room : g .reals + g .axes * axisReals (g .most) ≤ R
+  pub places : g .counts + g .axes * axisCounts (g .most) ≤ C

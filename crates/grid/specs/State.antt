@@ -46,3 +46,27 @@ faultBy table reals counts (plan.refusesAt k at) = 12
 
 unfoldable pub stateFault : List ℕ → List Float → List ℕ → ℕ
 stateFault table reals counts = faultBy table reals counts (sizesOf table)
+
+-- ---- two states: of both the table (12), then of both the room (10), then of both the state (12)
+
+unfoldable pub bothJudged : List ℕ → List Float → List ℕ → Needs → List ℕ → List Float → List ℕ → Needs → ℕ
+bothJudged table reals counts n other theirs tallies k =
+    cond (ltb (length reals) (n .reals)) 10
+    (cond (ltb (length counts) (n .counts)) 10
+    (cond (ltb (length theirs) (k .reals)) 10
+    (cond (ltb (length tallies) (k .counts)) 10
+    (cond (not (sound (rootOf table reals counts))) 12
+    (cond (not (sound (rootOf other theirs tallies))) 12 0)))))
+
+unfoldable pub secondBy : List ℕ → List Float → List ℕ → Needs → List ℕ → List Float → List ℕ → plan.Paper Needs → ℕ
+secondBy table reals counts n other theirs tallies (plan.gives k) = bothJudged table reals counts n other theirs tallies k
+secondBy table reals counts n other theirs tallies (plan.refuses k) = 12
+secondBy table reals counts n other theirs tallies (plan.refusesAt k at) = 12
+
+unfoldable pub firstBy : List ℕ → List Float → List ℕ → plan.Paper Needs → List ℕ → List Float → List ℕ → ℕ
+firstBy table reals counts (plan.gives n) other theirs tallies = secondBy table reals counts n other theirs tallies (sizesOf other)
+firstBy table reals counts (plan.refuses k) other theirs tallies = 12
+firstBy table reals counts (plan.refusesAt k at) other theirs tallies = 12
+
+unfoldable pub pairFault : List ℕ → List Float → List ℕ → List ℕ → List Float → List ℕ → ℕ
+pairFault table reals counts other theirs tallies = firstBy table reals counts (sizesOf table) other theirs tallies

@@ -11,7 +11,7 @@ ghost use Rattle.model.specs.Merge.{sameLengths, equalAll, equalEdges, mergeAxi
 ghost use Rattle.grid.specs.Layout.{stretch, axisReals, axisCounts, axisAt};
 ghost use Rattle.grid.specs.Memory.{memory};
 ghost use Rattle.grid.specs.Laid.{Roomy};
-ghost use Rattle.grid.specs.Merged.{mergedReals, mergedCounts, mergedMemory};
+ghost use Rattle.grid.specs.Merged.{mergedReals, mergedCounts, mergeAt, mergedMemory, Spaced};
 ghost use Rattle.grid.specs.Drawn.{axesAt, Stands};
 use crate::axes::AxesAt;
 use crate::joining;
@@ -200,7 +200,33 @@ fn merge_counts(counts: &mut [u64], g: AxesAt, tallies: &[u64], o: AxesAt, n: us
     joining::add_counts(counts, c + (m + 2), tallies, d + (k + 2), n);
 }
 
-// Every axis takes the other's waiting samples, where lengths are the same.
+// The first axis takes the other's waiting samples. Bins held are within both rooms on a well-formed state; else it stays.
+fn merge_axis(
+    reals: &mut [f64],
+    counts: &mut [u64],
+    g: AxesAt,
+    theirs: &[f64],
+    tallies: &[u64],
+    o: AxesAt,
+)
+    requires { ⌜ (g .most ≤ 1024) × (g .reals + axisReals (g .most) ≤ length (now reals)) × (g .counts + axisCounts (g .most) ≤ length (now counts))
+        × (o .most ≤ 1024) × (o .reals + axisReals (o .most) ≤ length (now theirs)) × (o .counts + axisCounts (o .most) ≤ length (now tallies)) ⌝ }
+    ensures { λ _. ⌜ memory (now (reals .exit)) (now (counts .exit)) ≡
+        mergeAt (g .most) (memory (now (theirs .entry)) (now (tallies .entry))) (g .reals) (g .counts) o (memory (now (reals .entry)) (now (counts .entry))) ⌝ }
+{
+    let place = g.counts;
+    let held = counts[place] as usize;
+    if g.most < held {
+        return;
+    }
+    if o.most < held {
+        return;
+    }
+    merge_reals(reals, g, theirs, o, held);
+    merge_counts(counts, g, tallies, o, held);
+}
+
+// Every axis takes the waiting samples of the other's.
 pub fn merge_axes(
     reals: &mut [f64],
     counts: &mut [u64],
@@ -209,18 +235,14 @@ pub fn merge_axes(
     tallies: &[u64],
     o: AxesAt,
 )
-    requires { ⌜ Stands (now reals) (now counts) g × Stands (now theirs) (now tallies) o
-        × (sameLengths (axesAt (now reals) (now counts) g) (axesAt (now theirs) (now tallies) o) ≡ true) ⌝ }
+    requires { ⌜ Spaced g (length (now reals)) (length (now counts)) × Spaced o (length (now theirs)) (length (now tallies)) × (g .axes ≤ o .axes) ⌝ }
     ensures { λ _. ⌜ memory (now (reals .exit)) (now (counts .exit)) ≡
         mergedMemory g o (memory (now (theirs .entry)) (now (tallies .entry))) (memory (now (reals .entry)) (now (counts .entry))) ⌝ }
 {
     let mut left = g;
     let mut right = o;
     while 0 < left.axes {
-        let place = left.counts;
-        let held = counts[place] as usize;
-        merge_reals(reals, left, theirs, right, held);
-        merge_counts(counts, left, tallies, right, held);
+        merge_axis(reals, counts, left, theirs, tallies, right);
         left = onward::after_first(left);
         right = onward::after_first(right);
     }
