@@ -6,6 +6,7 @@ mod adapting;
 mod adding;
 mod along;
 mod axes;
+mod batching;
 mod clearing;
 mod copying;
 mod descent;
@@ -74,6 +75,13 @@ pub struct Region {
 pub struct Drawn {
     pub refused: u64,
     pub drawing: Drawing,
+}
+
+// What a batch answers: 0 or the first refusal's number, how many evaluations were trained, and the stream after their draws.
+pub struct Batched {
+    pub refused: u64,
+    pub done: usize,
+    pub stream: stream::MonteCarloRng,
 }
 
 // Draws a sample. Refused: 10, 12.
