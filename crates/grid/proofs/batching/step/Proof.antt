@@ -1,3 +1,4 @@
+-- The state is clear, so the draw is not refused, and the training is refused only by what stands against the sample.
 use mathlib.Core.Path.{sym, _∙_}
 use native.Mathlib.Omega.{arith}
 use Rattle.grid.specs.Memory.{memory}
