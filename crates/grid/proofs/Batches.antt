@@ -140,3 +140,14 @@ module _ (table : List ℕ) (es : List Float) (i : ℕ) (m : Memory) (s : MonteC
 
     pub steps-next : n ≡ 0 → stepsOf table (drop (i + 1) es) m′ s′ (k + 1) (i + 1) ≡ stepsOf table (drop i es) m s k i
     steps-next z = ap (λ (j : ℕ). stepsOf table (drop j es) m′ s′ (k + 1) (i + 1)) (add-one i) ∙ sym (here ∙ rw z)
+
+-- ---- the call
+
+module _ (table : List ℕ) (m : Memory) (s : MonteCarloRng) (es : List Float) (k : ℕ) where
+  pub batch-refused : (n : ℕ) → n ≡ stateFault table (m .reals) (m .counts) → (n ≡ 0 → ⊥) → batchEnd (batched n 0 s) m ≡ batchOf table m s es k
+  unfolding batchOf
+  batch-refused n q z = rw (sym q, ne-eqb n 0 z)
+
+  pub batch-runs : (o : BatchEnd) → stateFault table (m .reals) (m .counts) ≡ 0 → o ≡ stepsOf table es m s k 0 → o ≡ batchOf table m s es k
+  unfolding batchOf
+  batch-runs o z q = rw z q

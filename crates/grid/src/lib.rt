@@ -34,6 +34,7 @@ ghost use Rattle.plan.specs.Calls.{measureOf};
 ghost use Rattle.grid.specs.Memory.{memory};
 ghost use Rattle.axis.specs.Calls.{paperProbed};
 ghost use Rattle.grid.specs.Calls.{drawnAs, drawOf, probeOf, summaryOf, liveOf, liveOfBin, freshEnd, foundedOf, freshOf, cloneEnd, cloneOf, updateEnd, updateOf, trainEnd, trainCallOf};
+ghost use Rattle.grid.specs.Batched.{batchEnd, batchOf};
 use accumulator::Estimated;
 use accumulator::Summed;
 use plan::Needs;
@@ -232,6 +233,30 @@ pub fn train(
     }
     absorbing::absorb_grid(table, reals, counts, 4, 0, s, 0, evaluation, number);
     0
+}
+
+// Draws a sample for each evaluation and trains it, numbered from the first number on; the state is judged once. The answer is that of `draw`
+// and `train` one by one, up to the first refusal: 10, 12; then as `train`. What was trained before it stays.
+pub fn draw_and_train(
+    table: &[u64],
+    reals: &mut [f64],
+    counts: &mut [u64],
+    start: stream::MonteCarloRng,
+    evaluations: &[f64],
+    first: u64,
+) -> Batched
+    ensures { λ r. ⌜ batchEnd r (memory (now (reals .exit)) (now (counts .exit))) ≡
+        batchOf (now (table .entry)) (memory (now (reals .entry)) (now (counts .entry))) start (now (evaluations .entry)) first ⌝ }
+{
+    let refused = state::fault(table, reals, counts);
+    if refused != 0 {
+        return Batched {
+            refused,
+            done: 0,
+            stream: start,
+        };
+    }
+    batching::steps(table, reals, counts, start, evaluations, first)
 }
 
 // Processes the waiting samples and adapts axes and probabilities, worked out on a spare of the state's size. 0, or refused: 12, 10, 12, the

@@ -65,7 +65,7 @@ loop-less c = omega (arith, c .before .before .before .before .before .before .b
 -- src/batching.rt:61:5
 loop-again : tie.Need-loop-again Inv-loop μ-loop
 loop-again c = let o = step-onward (c .before .before .before .before .before .before .before .before .before .before .before .before .before .before .before .before .args .table .now) (memory (c .before .before .before .before .before .before .before .before .before .before .before .loop .reals) (c .before .before .before .before .before .before .before .before .before .before .before .loop .counts)) (c .before .before .before .before .before .before .before .before .before .before .before .loop .stream) (getD (c .before .before .before .before .before .before .before .before .before .before .before .before .before .before .before .before .args .evaluations .now) (c .before .before .before .before .before .before .before .before .before .before .before .loop .done) nan) (c .before .before .before .before .before .before .before .before .before .before .before .loop .number) (c .before .before .before .before .before .before .before .before .before .before .before .loop .inv .3) (c .before .before .before .before .before .before .step .result .refused) (c .before .before .before .before .before .before .step .result .stream) (memory (c .before .before .before .before .before .before .step .last .1 .0) (c .before .before .before .before .before .before .step .last .1 .1 .0)) (λ i. omega (arith, c .before .before .before .before .before .before .before .before .before .before .before .before .before .before .before .shared-slice-known .given i)) (c .before .before .before .before .before .before .step .ensures) (c .if1 .left) in
- (omega (arith, c .before .before .before .before .before .before .before .before .before .before .loop-test .taken), c .before .before .before .before .before .before .step .kept .1 .0 ∙ c .before .before .before .before .before .before .before .before .before .before .before .loop .inv .1, c .before .before .before .before .before .before .step .kept .1 .1 .0 ∙ c .before .before .before .before .before .before .before .before .before .before .before .loop .inv .2, o .clear, steps-next (c .before .before .before .before .before .before .before .before .before .before .before .before .before .before .before .before .args .table .now) (c .before .before .before .before .before .before .before .before .before .before .before .before .before .before .before .before .args .evaluations .now) (c .before .before .before .before .before .before .before .before .before .before .before .loop .done) (memory (c .before .before .before .before .before .before .before .before .before .before .before .loop .reals) (c .before .before .before .before .before .before .before .before .before .before .before .loop .counts)) (c .before .before .before .before .before .before .before .before .before .before .before .loop .stream) (c .before .before .before .before .before .before .before .before .before .before .before .loop .number) (c .before .before .before .before .before .before .step .result .refused) (c .before .before .before .before .before .before .step .result .stream) (memory (c .before .before .before .before .before .before .step .last .1 .0) (c .before .before .before .before .before .before .step .last .1 .1 .0)) (c .before .before .before .before .before .before .before .before .before .before .loop-test .taken) (c .before .before .before .before .before .before .step .ensures) (c .if1 .left) ∙ c .before .before .before .before .before .before .before .before .before .before .before .loop .inv .4)
+    (omega (arith, c .before .before .before .before .before .before .before .before .before .before .loop-test .taken), c .before .before .before .before .before .before .step .kept .1 .0 ∙ c .before .before .before .before .before .before .before .before .before .before .before .loop .inv .1, c .before .before .before .before .before .before .step .kept .1 .1 .0 ∙ c .before .before .before .before .before .before .before .before .before .before .before .loop .inv .2, o .clear, steps-next (c .before .before .before .before .before .before .before .before .before .before .before .before .before .before .before .before .args .table .now) (c .before .before .before .before .before .before .before .before .before .before .before .before .before .before .before .before .args .evaluations .now) (c .before .before .before .before .before .before .before .before .before .before .before .loop .done) (memory (c .before .before .before .before .before .before .before .before .before .before .before .loop .reals) (c .before .before .before .before .before .before .before .before .before .before .before .loop .counts)) (c .before .before .before .before .before .before .before .before .before .before .before .loop .stream) (c .before .before .before .before .before .before .before .before .before .before .before .loop .number) (c .before .before .before .before .before .before .step .result .refused) (c .before .before .before .before .before .before .step .result .stream) (memory (c .before .before .before .before .before .before .step .last .1 .0) (c .before .before .before .before .before .before .step .last .1 .1 .0)) (c .before .before .before .before .before .before .before .before .before .before .loop-test .taken) (c .before .before .before .before .before .before .step .ensures) (c .if1 .left) ∙ c .before .before .before .before .before .before .before .before .before .before .before .loop .inv .4)
 
 -- src/batching.rt:46:1
 same-length-3 : tie.Need-same-length-3 Inv-loop μ-loop
