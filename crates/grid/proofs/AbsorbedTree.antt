@@ -416,8 +416,8 @@ module _ (table : List ℕ) (m : Memory) (s : Sample) (e : Float) (k : ℕ) wher
     pub answer : called .answer ≡ 0
     pub reads : rootOf table (called .state .reals) (called .state .counts) ≡ g
     pub well : sound g ≡ true
-    pub as-long : length (called .state .reals) ≡ length (m .reals)
-    pub as-many-counts : length (called .state .counts) ≡ length (m .counts)
+    pub reals-long : length (called .state .reals) ≡ length (m .reals)
+    pub counts-long : length (called .state .counts) ≡ length (m .counts)
 
   pub train-trains : (g : model.Grid) → Words table → stateFault table (m .reals) (m .counts) ≡ 0 → trainOf root (sampleOf s) e k ≡ gives g → Trains g
   unfolding needsOf objectionOf
@@ -435,8 +435,8 @@ module _ (table : List ℕ) (m : Memory) (s : Sample) (e : Float) (k : ℕ) wher
         answer = sym (ap (λ (o : TrainEnd). o .answer) done);
         reads = sym (ap (λ (o : TrainEnd). rootOf table (o .state .reals) (o .state .counts)) done) ∙ tied .reads ∙ same;
         well = sym (ap sound same) ∙ sound-trained root (pathLeft s 0) (weightsLeft s 0) (placesIn s) e k (c .well) (q .kept);
-        as-long = sym (ap (λ (o : TrainEnd). length (o .state .reals)) done) ∙ tied .within .low 0 0 (omega arith) .size;
-        as-many-counts = sym (ap (λ (o : TrainEnd). length (o .state .counts)) done) ∙ tied .within .few 0 0 (omega arith) .size;
+        reals-long = sym (ap (λ (o : TrainEnd). length (o .state .reals)) done) ∙ tied .within .low 0 0 (omega arith) .size;
+        counts-long = sym (ap (λ (o : TrainEnd). length (o .state .counts)) done) ∙ tied .within .few 0 0 (omega arith) .size;
       }
 
 -- where the answer is a refusal, nothing was written

@@ -1,7 +1,7 @@
 -- Draws and trainings one by one on a state that was judged once: a trained state is clear again, so no later draw or training is refused for it.
 use mathlib.Core.Path.{_≡_, refl, sym, ap, _∙_}
-use mathlib.Core.Bool.{Bool, true, false, not, cond}
-use mathlib.Core.List.{List, [], _∷_}
+use mathlib.Core.Bool.{Bool, true, false}
+use mathlib.Core.List.{List}
 use Prim.Native.Nat.{ℕ, suc, _+_, _^_, _≤_, _<_}
 use native.Mathlib.Omega.{arith}
 use native.Mathlib.Numerals.{add-one}
@@ -20,13 +20,12 @@ use Rattle.model.specs.Draw.{drawGrid}
 use Rattle.model.specs.Train.{numbered, trainOf}
 use Rattle.grid.specs.declared.Sample.{Sample}
 use Rattle.grid.specs.declared.Drawing.{Drawing}
-use Rattle.grid.specs.declared.Drawn.{Drawn}
 use Rattle.grid.specs.Memory.{Memory}
 use Rattle.grid.specs.Sampled.{sampleOf, laidDrawing}
 use Rattle.grid.specs.Absorbed.{absorbed, objectionOf}
 use Rattle.grid.specs.State.{rootOf, judgedBy, faultBy, stateFault}
-use Rattle.grid.specs.Calls.{onState, TrainEnd, drawnAs, drawOf, trainedBy, trainCallOf}
-use Rattle.grid.specs.Batched.{StepEnd, stepEnd, stepOf, BatchEnd, batchEnd, batched, stepsOf, batchOf}
+use Rattle.grid.specs.Calls.{TrainEnd, drawnAs, drawOf, trainedBy, trainCallOf}
+use Rattle.grid.specs.Batched.{StepEnd, stepEnd, trainedFrom, stepBy, stepOf, BatchEnd, batchEnd, batched, unlessRefused, stepsOf, batchOf}
 use Rattle.grid.proofs.States.{clear, answered-last}
 use Rattle.grid.proofs.Objections.{grants, train-objection, train-done}
 use Rattle.grid.proofs.AbsorbedTree.{train-trains}
@@ -43,9 +42,9 @@ clear-again table m m′ large f r k w =
     let counts : c .needs .counts ≤ length (m′ .counts) = omega (arith, c .counts-fit) in
     rw (c .planned, le-ltb _ _ reals, le-ltb _ _ counts, w)
 
--- what a training that was not refused leaves
-pub record Onward (table : List ℕ) (m m′ : Memory) (k : ℕ) : Type 0 where
-  pub clear : stateFault table (m′ .reals) (m′ .counts) ≡ 0
+-- what a training that was not refused leaves, and its number
+pub record Cleared (table : List ℕ) (m : Memory) (k : ℕ) : Type 0 where
+  pub clear : stateFault table (m .reals) (m .counts) ≡ 0
   pub number : k ≤ 2 ^ 53
 
 number-most : (k : ℕ) → numbered k ≡ true → k ≤ 2 ^ 53
@@ -58,7 +57,7 @@ answer-objects table m s e k (gives g) = refl
 answer-objects table m s e k (refuses n) = refl
 
 trained-onward : (table : List ℕ) (m : Memory) (s : Sample) (e : Float) (k : ℕ) → Words table → stateFault table (m .reals) (m .counts) ≡ 0 → trainCallOf table m s e k .answer ≡ 0
-    → Onward table m (trainCallOf table m s e k .state) k
+    → Cleared table (trainCallOf table m s e k .state) k
 unfolding trainCallOf
 trained-onward table m s e k large f z =
     let root = rootOf table (m .reals) (m .counts) in
@@ -66,7 +65,7 @@ trained-onward table m s e k large f z =
     let none : objectionOf told ≡ 0 = sym (answer-objects table m s e k told) ∙ sym (ap (λ (p : Paper Grid). trainedBy table m s e k p .answer) (answered-last (stateFault table (m .reals) (m .counts)) told f)) ∙ z in
     let q = grants root s e k none in
     let t = train-trains table m s e k _ large f (q .gave) in
-    record { clear = clear-again table m (trainCallOf table m s e k .state) large f (t .as-long) (t .as-many-counts) (ap sound (t .reads) ∙ t .well); number = number-most k (q .number) }
+    record { clear = clear-again table m (trainCallOf table m s e k .state) large f (t .reals-long) (t .counts-long) (ap sound (t .reads) ∙ t .well); number = number-most k (q .number) }
 
 -- ---- one evaluation
 
@@ -79,46 +78,39 @@ module _ (table : List ℕ) (m : Memory) (s : MonteCarloRng) (e : Float) (k : �
   unfolding drawOf drawnAs
   drawn d q = ap (drawnAs s) (answered-last (stateFault table (m .reals) (m .counts)) (gives (drawGrid root s)) clear-now) ∙ ap (λ (o : Drawing). record { refused = 0; drawing = o }) (sym q)
 
-  abbrev stepBy : Drawn → StepEnd
-  stepBy d =
-      let t = trainCallOf table m (d .drawing .sample) e k in
-      cond (not (eqb (d .refused) 0)) (stepEnd (d .refused) s m)
-      (cond (not (eqb (t .answer) 0)) (stepEnd (t .answer) s (t .state))
-      (stepEnd 0 (d .drawing .stream) (t .state)))
-
-  abbrev trainedTo : Drawing → TrainEnd → StepEnd
-  trainedTo d t = cond (not (eqb (t .answer) 0)) (stepEnd (t .answer) s (t .state)) (stepEnd 0 (d .stream) (t .state))
-
   -- so the step is the training of what was drawn
-  step-trains : (d : Drawing) → d ≡ laidDrawing (drawGrid root s) → stepOf table m s e k ≡ trainedTo d (trainCallOf table m (d .sample) e k)
-  unfolding stepOf
-  step-trains d q = ap stepBy (drawn d q)
+  step-trains : (d : Drawing) → d ≡ laidDrawing (drawGrid root s) → stepOf table m s e k ≡ trainedFrom s (d .stream) (trainCallOf table m (d .sample) e k)
+  unfolding stepOf stepBy
+  step-trains d q = ap (stepBy table m s e k) (drawn d q)
 
   pub step-objected : (d : Drawing) (n : ℕ) → d ≡ laidDrawing (drawGrid root s) → n ≡ objectionOf (trainOf root (sampleOf (d .sample)) e k) → (n ≡ 0 → ⊥) → stepEnd n s m ≡ stepOf table m s e k
-  step-objected d n q o z = sym (step-trains d q ∙ ap (trainedTo d) (sym (train-objection table m (d .sample) e k n clear-now o z)) ∙ rw (ne-eqb n 0 z))
+  unfolding trainedFrom
+  step-objected d n q o z = sym (step-trains d q ∙ ap (trainedFrom s (d .stream)) (sym (train-objection table m (d .sample) e k n clear-now o z)) ∙ rw (ne-eqb n 0 z))
 
   pub step-done : (d : Drawing) (n : ℕ) (m′ : Memory) → d ≡ laidDrawing (drawGrid root s) → n ≡ objectionOf (trainOf root (sampleOf (d .sample)) e k) → n ≡ 0 → m′ ≡ absorbed 4 table (d .sample) e k 0 0 m
       → stepEnd n (d .stream) m′ ≡ stepOf table m s e k
+  unfolding trainedFrom
   step-done d n m′ q o z h =
-      ap (λ (j : ℕ). stepEnd j (d .stream) m′) z ∙ sym (step-trains d q ∙ ap (trainedTo d) (sym (train-done table m (d .sample) e k m′ clear-now (sym o ∙ z) h)))
+      ap (λ (j : ℕ). stepEnd j (d .stream) m′) z ∙ sym (step-trains d q ∙ ap (trainedFrom s (d .stream)) (sym (train-done table m (d .sample) e k m′ clear-now (sym o ∙ z) h)))
 
-  abbrev d : Drawing
-  d = laidDrawing (drawGrid root s)
+  abbrev drawing : Drawing
+  drawing = laidDrawing (drawGrid root s)
 
-  abbrev t : TrainEnd
-  t = trainCallOf table m (d .sample) e k
+  abbrev training : TrainEnd
+  training = trainCallOf table m (drawing .sample) e k
 
-  -- a step that was not refused leaves a clear state, and its number was no larger than 2^53
-  pub step-onward : (n : ℕ) (s′ : MonteCarloRng) (m′ : Memory) → Words table → stepEnd n s′ m′ ≡ stepOf table m s e k → n ≡ 0 → Onward table m m′ k
-  step-onward n s′ m′ large q z = told (eqb (t .answer) 0) refl
+  -- a step that was not refused leaves a clear state, and its number was at most 2^53, so that the next one's does not overflow
+  pub step-onward : (n : ℕ) (s′ : MonteCarloRng) (m′ : Memory) → Words table → stepEnd n s′ m′ ≡ stepOf table m s e k → n ≡ 0 → Cleared table m′ k
+  unfolding trainedFrom
+  step-onward n s′ m′ large q z = told (eqb (training .answer) 0) refl
     where
-      told : (b : Bool) → eqb (t .answer) 0 ≡ b → Onward table m m′ k
+      told : (b : Bool) → eqb (training .answer) 0 ≡ b → Cleared table m′ k
       told true b =
-          let same : stepEnd n s′ m′ ≡ stepEnd 0 (d .stream) (t .state) = q ∙ step-trains d refl ∙ rw b in
-          rw (ap (λ (o : StepEnd). o .state) same) (trained-onward table m (d .sample) e k large clear-now (eqb-true (t .answer) 0 b))
+          let same : stepEnd n s′ m′ ≡ stepEnd 0 (drawing .stream) (training .state) = q ∙ step-trains drawing refl ∙ rw b in
+          rw (ap (λ (o : StepEnd). o .state) same) (trained-onward table m (drawing .sample) e k large clear-now (eqb-true (training .answer) 0 b))
       told false b =
-          let same : stepEnd n s′ m′ ≡ stepEnd (t .answer) s (t .state) = q ∙ step-trains d refl ∙ rw b in
-          absurd (eqb-false (t .answer) 0 b (sym (ap (λ (o : StepEnd). o .refused) same) ∙ z))
+          let same : stepEnd n s′ m′ ≡ stepEnd (training .answer) s (training .state) = q ∙ step-trains drawing refl ∙ rw b in
+          absurd (eqb-false (training .answer) 0 b (sym (ap (λ (o : StepEnd). o .refused) same) ∙ z))
 
 -- ---- the evaluations in order
 
@@ -128,17 +120,19 @@ module _ (table : List ℕ) (es : List Float) (i : ℕ) (m : Memory) (s : MonteC
   steps-over h = rw (drop-of-length-le es h)
 
   module _ (n : ℕ) (s′ : MonteCarloRng) (m′ : Memory) (h : i < length es) (q : stepEnd n s′ m′ ≡ stepOf table m s (getD es i nan) k) where
-    abbrev stepsBy : StepEnd → BatchEnd
-    stepsBy o = cond (not (eqb (o .refused) 0)) (batchEnd (batched (o .refused) i (o .stream)) (o .state)) (stepsOf table (drop (suc i) es) (o .state) (o .stream) (k + 1) (i + 1))
-
-    here : stepsOf table (drop i es) m s k i ≡ stepsBy (stepEnd n s′ m′)
+    -- the step, and the rest after it
+    here : stepsOf table (drop i es) m s k i ≡ unlessRefused i (stepEnd n s′ m′) (stepsOf table (drop (suc i) es) m′ s′ (k + 1) (i + 1))
     unfolding stepsOf
-    here = ap (λ (l : List Float). stepsOf table l m s k i) (drop-cons es i nan h) ∙ ap stepsBy (sym q)
+    here =
+        ap (λ (l : List Float). stepsOf table l m s k i) (drop-cons es i nan h)
+        ∙ ap (λ (o : StepEnd). unlessRefused i o (stepsOf table (drop (suc i) es) (o .state) (o .stream) (k + 1) (i + 1))) (sym q)
 
     pub steps-stop : (n ≡ 0 → ⊥) → batchEnd (batched n i s′) m′ ≡ stepsOf table (drop i es) m s k i
+    unfolding unlessRefused
     steps-stop z = sym (here ∙ rw (ne-eqb n 0 z))
 
     pub steps-next : n ≡ 0 → stepsOf table (drop (i + 1) es) m′ s′ (k + 1) (i + 1) ≡ stepsOf table (drop i es) m s k i
+    unfolding unlessRefused
     steps-next z = ap (λ (j : ℕ). stepsOf table (drop j es) m′ s′ (k + 1) (i + 1)) (add-one i) ∙ sym (here ∙ rw z)
 
 -- ---- the call

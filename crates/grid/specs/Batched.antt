@@ -6,9 +6,10 @@ use lib.Dec.{eqb}
 use lib.Ieee.{Float}
 use Rattle.stream.specs.declared.MonteCarloRng.{MonteCarloRng}
 use Rattle.grid.specs.declared.Batched.{Batched}
+use Rattle.grid.specs.declared.Drawn.{Drawn}
 use Rattle.grid.specs.Memory.{Memory}
 use Rattle.grid.specs.State.{stateFault}
-use Rattle.grid.specs.Calls.{drawnAs, drawOf, trainCallOf}
+use Rattle.grid.specs.Calls.{TrainEnd, drawnAs, drawOf, trainCallOf}
 
 -- ---- one evaluation
 
@@ -21,14 +22,18 @@ pub record StepEnd : Type 0 where
 abbrev pub stepEnd : ℕ → MonteCarloRng → Memory → StepEnd
 stepEnd n s m = record { refused = n; stream = s; state = m }
 
--- a draw, then the training of its sample; refused, the stream is the one before the draw
+-- a training's end from the stream before the draw and the one after it: refused, it is the one before
+unfoldable pub trainedFrom : MonteCarloRng → MonteCarloRng → TrainEnd → StepEnd
+trainedFrom s s′ t = cond (not (eqb (t .answer) 0)) (stepEnd (t .answer) s (t .state)) (stepEnd 0 s′ (t .state))
+
+-- what was drawn, trained
+unfoldable pub stepBy : List ℕ → Memory → MonteCarloRng → Float → ℕ → Drawn → StepEnd
+stepBy table m s e number d =
+    cond (not (eqb (d .refused) 0)) (stepEnd (d .refused) s m) (trainedFrom s (d .drawing .stream) (trainCallOf table m (d .drawing .sample) e number))
+
+-- a draw, then the training of its sample
 unfoldable pub stepOf : List ℕ → Memory → MonteCarloRng → Float → ℕ → StepEnd
-stepOf table m s e number =
-    let d = drawnAs s (drawOf table (m .reals) (m .counts) s) in
-    let t = trainCallOf table m (d .drawing .sample) e number in
-    cond (not (eqb (d .refused) 0)) (stepEnd (d .refused) s m)
-    (cond (not (eqb (t .answer) 0)) (stepEnd (t .answer) s (t .state))
-    (stepEnd 0 (d .drawing .stream) (t .state)))
+stepOf table m s e number = stepBy table m s e number (drawnAs s (drawOf table (m .reals) (m .counts) s))
 
 -- ---- the evaluations in order
 
@@ -43,13 +48,15 @@ batchEnd r m = record { answer = r; state = m }
 abbrev pub batched : ℕ → ℕ → MonteCarloRng → Batched
 batched n done s = record { refused = n; done = done; stream = s }
 
--- those left, the next one's number, and how many were trained before it; the first refusal ends it
+-- a refused step ends it, else the rest follows
+unfoldable pub unlessRefused : ℕ → StepEnd → BatchEnd → BatchEnd
+unlessRefused done o rest = cond (not (eqb (o .refused) 0)) (batchEnd (batched (o .refused) done (o .stream)) (o .state)) rest
+
+-- the evaluations left, the next one's number, and how many were trained before it
 unfoldable pub stepsOf : List ℕ → List Float → Memory → MonteCarloRng → ℕ → ℕ → BatchEnd
 stepsOf table [] m s number done = batchEnd (batched 0 done s) m
 stepsOf table (e ∷ es) m s number done =
-    let o = stepOf table m s e number in
-    cond (not (eqb (o .refused) 0)) (batchEnd (batched (o .refused) done (o .stream)) (o .state))
-    (stepsOf table es (o .state) (o .stream) (number + 1) (done + 1))
+    let o = stepOf table m s e number in unlessRefused done o (stepsOf table es (o .state) (o .stream) (number + 1) (done + 1))
 
 -- the call: the state's own refusal, also where there is nothing to train; then the evaluations, numbered from the first number on
 unfoldable pub batchOf : List ℕ → Memory → MonteCarloRng → List Float → ℕ → BatchEnd
