@@ -33,6 +33,7 @@ pub mod Objections
 pub mod Formed
 pub mod AbsorbedOwn
 pub mod AbsorbedTree
+pub mod Batches
 pub mod Fitting
 pub mod Plans
 pub mod Matches

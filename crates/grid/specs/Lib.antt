@@ -21,3 +21,4 @@ pub mod Bins
 pub mod Turns
 pub mod Adapted
 pub mod Calls
+pub mod Batched
