@@ -34,7 +34,7 @@ use Rattle.grid.specs.Sampled.{soundChild, sampleOf}
 use Rattle.grid.specs.Tree.{axesGridAt, headAt, binIn, childIn, binsIn, nodeAt, gridAt}
 use Rattle.grid.specs.Absorbed.{pathLeft, weightsLeft, placesIn, Takes, TakesChild, joinedAt, absorbedChild, absorbedBin, absorbedBins, absorbedNode, absorbed, objectionOf}
 use Rattle.grid.specs.State.{rootOf, stateFault}
-use Rattle.grid.specs.Calls.{onState, TrainEnd, trainEnd, trainedBy, trainCallOf}
+use Rattle.grid.specs.Calls.{onState, StateEnd, stateEnd, trainedBy, trainCallOf}
 use Rattle.grid.proofs.Same.{Same, Alike, same-alike, same-sym, same-on}
 use Rattle.grid.proofs.Laid.{stands-laid, laid-axes}
 use Rattle.grid.proofs.Sounds.{node-axes}
@@ -408,7 +408,7 @@ module _ (table : List ℕ) (m : Memory) (s : Sample) (e : Float) (k : ℕ) wher
   abbrev root : model.Grid
   root = rootOf table (m .reals) (m .counts)
 
-  abbrev called : TrainEnd
+  abbrev called : StateEnd
   called = trainCallOf table m s e k
 
   -- where the model gives a grid, the answer is 0, that grid is read afterwards, and it is well formed; the two lists keep their lengths
@@ -429,14 +429,14 @@ module _ (table : List ℕ) (m : Memory) (s : Sample) (e : Float) (k : ℕ) wher
       let rr : c .needs .reals ≡ after (p .tree) untaken .reals = ap (λ (n : Needs). n .reals) (p .needs) in
       let cc : c .needs .counts ≡ after (p .tree) untaken .counts = ap (λ (n : Needs). n .counts) (p .needs) in
       let tied = all-tied table s e k 4 (p .tree) untaken m 0 (p .grid) (p .stands) (omega (arith, c .reals-fit)) (omega (arith, c .counts-fit)) (takes-root root s e k (c .well) none) (q .kept) in
-      let done : trainEnd 0 (absorbed 4 table s e k 0 0 m) ≡ called = train-done table m s e k (absorbed 4 table s e k 0 0 m) fault none refl in
+      let done : stateEnd 0 (absorbed 4 table s e k 0 0 m) ≡ called = train-done table m s e k (absorbed 4 table s e k 0 0 m) fault none refl in
       let same : trainGrid root (pathLeft s 0) (weightsLeft s 0) (placesIn s) e k ≡ g = whole root s e k ∙ ap (λ (a : Paper model.Grid). gridOf a root) (sym (q .gave) ∙ given) in
       record {
-        answer = sym (ap (λ (o : TrainEnd). o .answer) done);
-        reads = sym (ap (λ (o : TrainEnd). rootOf table (o .state .reals) (o .state .counts)) done) ∙ tied .reads ∙ same;
+        answer = sym (ap (λ (o : StateEnd). o .answer) done);
+        reads = sym (ap (λ (o : StateEnd). rootOf table (o .state .reals) (o .state .counts)) done) ∙ tied .reads ∙ same;
         well = sym (ap sound same) ∙ sound-trained root (pathLeft s 0) (weightsLeft s 0) (placesIn s) e k (c .well) (q .kept);
-        reals-long = sym (ap (λ (o : TrainEnd). length (o .state .reals)) done) ∙ tied .within .low 0 0 (omega arith) .size;
-        counts-long = sym (ap (λ (o : TrainEnd). length (o .state .counts)) done) ∙ tied .within .few 0 0 (omega arith) .size;
+        reals-long = sym (ap (λ (o : StateEnd). length (o .state .reals)) done) ∙ tied .within .low 0 0 (omega arith) .size;
+        counts-long = sym (ap (λ (o : StateEnd). length (o .state .counts)) done) ∙ tied .within .few 0 0 (omega arith) .size;
       }
 
 -- where the answer is a refusal, nothing was written

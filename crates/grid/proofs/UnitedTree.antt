@@ -34,7 +34,7 @@ use Rattle.grid.specs.Founded.{freshChildren}
 use Rattle.grid.specs.Judged.{soundBin}
 use Rattle.grid.specs.Sampled.{soundChild}
 use Rattle.grid.specs.State.{rootOf, pairFault}
-use Rattle.grid.specs.Calls.{MergeEnd, mergeEnd, unitedBy, mergeIntoOf}
+use Rattle.grid.specs.Calls.{StateEnd, stateEnd, unitedBy, mergeIntoOf}
 use Rattle.grid.specs.United.{unitedAxes, unitedOwn, unitedChild, unitedChildren, unitedGrid}
 use Rattle.grid.proofs.Same.{Same, same-refl, same-on, same-sym, same-within}
 use Rattle.grid.proofs.Laid.{stands-laid, laid-axes, laid-bins}
@@ -447,8 +447,8 @@ merge-read table s other others m large wide f e =
     let after-all = unitedGrid table other others 4 0 0 s in
     let fault = pairFault table (s .reals) (s .counts) other (others .reals) (others .counts) in
     let model-says = mergeOf (rootOf table (s .reals) (s .counts)) (rootOf other (others .reals) (others .counts)) in
-    let done : mergeIntoOf table s other others ≡ mergeEnd 0 after-all =
-    went-on fault (mergeEnd fault s) (unitedBy model-says after-all s) f ∙ ap (λ (p : Paper model.Grid). unitedBy p after-all s) e in
+    let done : mergeIntoOf table s other others ≡ stateEnd 0 after-all =
+    went-on fault (stateEnd fault s) (unitedBy model-says after-all s) f ∙ ap (λ (p : Paper model.Grid). unitedBy p after-all s) e in
     let k = pair-clear table (s .reals) (s .counts) other (others .reals) (others .counts) large wide f in
     let p = pair-planned table (s .reals) (s .counts) other (others .reals) (others .counts) f in
     let r = passed-stands table (p .needs) large (p .sized) in
@@ -458,4 +458,4 @@ merge-read table s other others m large wide f e =
     let u = unites table other others 4 (r .tree) untaken 0 s (r .grid) (r .stands) (omega (arith, p .room)) (omega (arith, p .places)) (k .1 .laid)
     (record { mine = k .0 .well; theirs = k .1 .well; same = g .0; kept = g .1 }) in
     let read = u .reads (after-all .reals) (after-all .counts) (same-refl nan (untaken .reals) (after (r .tree) untaken .reals) (after-all .reals)) (same-refl 0 (untaken .counts) (after (r .tree) untaken .counts) (after-all .counts)) in
-    (ap (λ (x : MergeEnd). x .answer) done, ap (λ (x : MergeEnd). rootOf table (x .state .reals) (x .state .counts)) done ∙ read ∙ g .2)
+    (ap (λ (x : StateEnd). x .answer) done, ap (λ (x : StateEnd). rootOf table (x .state .reals) (x .state .counts)) done ∙ read ∙ g .2)

@@ -21,7 +21,7 @@ use Rattle.model.specs.Update as model
 use Rattle.grid.specs.Memory.{Memory, memory}
 use Rattle.grid.specs.State.{rootOf, judgedTo}
 use Rattle.grid.specs.Adapted.{updatedIn}
-use Rattle.grid.specs.Calls.{UpdateEnd, updateEnd, renewedOver, frontOf, inFront, updatedBy, updateOf}
+use Rattle.grid.specs.Calls.{StateEnd, stateEnd, renewedOver, frontOf, inFront, updatedBy, updateOf}
 use Rattle.grid.proofs.Same.{same-refl, inside-alike}
 use Rattle.grid.proofs.Alike.{grid-alike}
 use Rattle.grid.proofs.Clones.{Ready, ready}
@@ -31,13 +31,13 @@ use Rattle.grid.proofs.AdaptedTree.{root-updated}
 use Rattle.grid.proofs.Reformed.{sound-updated}
 
 -- what a call that came to `e` from s says of the model's answer
-unfoldable pub Called : List ℕ → Memory → UpdateEnd → Paper Grid → Type 0
+unfoldable pub Called : List ℕ → Memory → StateEnd → Paper Grid → Type 0
 Called table s e (gives g) = (e .answer ≡ 0) × (rootOf table (e .state .reals) (e .state .counts) ≡ g) × (sound g ≡ true)
-Called table s e (refuses k) = e ≡ updateEnd k s
+Called table s e (refuses k) = e ≡ stateEnd k s
 
 module _ (table : List ℕ) (binsRate axesRate : Float) (s to : Memory) (n : Needs) (large : Words table) (planned : sizesOf table ≡ plan.gives n)
     (clear : judgedTo table (s .reals) (s .counts) (length (to .reals)) (length (to .counts)) n ≡ 0) where
-  abbrev call : UpdateEnd
+  abbrev call : StateEnd
   call = updateOf table binsRate axesRate (length (to .reals)) (length (to .counts)) s
 
   abbrev front : Memory
