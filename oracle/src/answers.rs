@@ -3,6 +3,7 @@
 
 mod accumulator;
 mod axis;
+mod grid;
 mod plan;
 mod real;
 mod stream;
@@ -22,6 +23,7 @@ pub fn list(kind: &str, seed: u64, count: usize) -> Option<Vec<Vec<u64>>> {
         "accumulator" => Some(accumulator::list(dice, count)),
         "axis" => Some(axis::list(dice, count)),
         "tree" => Some(tree::list(dice, count)),
+        "grid" => Some(grid::list(dice, count)),
         _ => None,
     }
 }

@@ -239,6 +239,31 @@ fn tree(c: &mut Cursor) {
     }
 }
 
+fn grid(c: &mut Cursor) {
+    assert_eq!(c.word() as usize, c.rest.len());
+    c.bytes();
+    c.skip(4);
+    while !c.rest.is_empty() {
+        let words = c.word() as usize;
+        let left = c.rest.len() - words;
+        match c.word() {
+            1 => c.answer(24),
+            2 => {
+                c.skip(22);
+                c.answer(1);
+            }
+            3 => c.answer(6),
+            4 => c.answer(3),
+            5 => {
+                c.skip(5);
+                c.answer(3);
+            }
+            other => panic!("opcode {other}"),
+        }
+        assert_eq!(c.rest.len(), left);
+    }
+}
+
 /// Reads a list and holds it to the refusals it must show.
 fn check(kind: &str, count: usize, read: fn(&mut Cursor), expected: &[u64]) {
     let records = list(kind, 5, count).expect("a known kind");
@@ -287,6 +312,11 @@ fn trees() {
 }
 
 #[test]
+fn grids() {
+    check("grid", 300, grid, &[0, 4, 5, 6]);
+}
+
+#[test]
 fn an_unknown_kind_has_no_list() {
-    assert!(list("grid", 1, 1).is_none());
+    assert!(list("grids", 1, 1).is_none());
 }

@@ -190,16 +190,11 @@ module _ (table : List ℕ) (w : ℕ) (s : Memory) where
     adapted : ps ≡ adaptedTo (ofBits binary64 (getD table (w + 3) 0)) (rawsIn table s w 0 (getD table (w + 2) 0))
     adapted = d .0 ∙ ap₂ adaptedTo f e
 
-    judged : ok ≡ allChances ps
-    judged = d .1 ∙ ap allChances (sym (d .0))
-
-    pub chances-refused : not ok ≡ true → finding false true s ≡ chancesAdapted table w s
+    pub chances-laid : (t : List Float) → t ≡ put (getD table (w + 5) 0 + 14) (length ps) ps (s .reals) → finding false (not ok) (memory t (s .counts)) ≡ chancesAdapted table w s
     unfolding chancesAdapted chancesLaid
-    chances-refused n = rw (sym adapted, failed judged n)
-
-    pub chances-laid : (t : List Float) → not ok ≡ false → t ≡ put (getD table (w + 5) 0 + 14) (length ps) ps (s .reals) → finding false false (memory t (s .counts)) ≡ chancesAdapted table w s
-    unfolding chancesAdapted chancesLaid
-    chances-laid t n h = rw (sym adapted, passed judged n, h)
+    chances-laid t h =
+        let judged : ok ≡ allChances ps = d .1 ∙ ap allChances (sym (d .0)) in
+        rw (sym adapted, judged, h)
 
 -- ---- the tree
 

@@ -26,6 +26,13 @@ pub mod Paths
 pub mod States
 pub mod Trains
 pub mod Trained
+pub mod Adds
+pub mod Accepts
+pub mod Absorbs
+pub mod Objections
+pub mod Formed
+pub mod AbsorbedOwn
+pub mod AbsorbedTree
 pub mod Fitting
 pub mod Plans
 pub mod Matches
@@ -45,3 +52,5 @@ pub mod Adapts
 pub mod Spares
 pub mod UnitedOwn
 pub mod UnitedTree
+pub mod AdaptedOwn
+pub mod AdaptedTree

@@ -40,7 +40,7 @@ joined-all v [] xs e = refl
 joined-all v (ax ∷ axs) [] e = absurd (omega (arith, e))
 joined-all v (ax ∷ axs) (x ∷ xs) e = ap (λ (l : List Axis). trainAxis ax x v ∷ l) (joined-all v axs xs (omega (arith, e)))
 
-length-on : (k : ℕ) (axs : List Axis) (xs : List Float) → length axs ≡ k → length xs ≡ k → length (binsOn axs xs) ≡ k
+pub length-on : (k : ℕ) (axs : List Axis) (xs : List Float) → length axs ≡ k → length xs ≡ k → length (binsOn axs xs) ≡ k
 unfolding binsOn
 length-on k [] xs e f = e
 length-on k (ax ∷ axs) [] e f = f
@@ -48,7 +48,7 @@ length-on zero (ax ∷ axs) (x ∷ xs) e f = absurd (omega (arith, e))
 length-on (suc k) (ax ∷ axs) (x ∷ xs) e f = ap suc (length-on k axs xs (omega (arith, e)) (omega (arith, f)))
 
 -- a bin's record that v joins has the six fields that are written
-added-bin : (s q h l : Float) (n z : ℕ) (v : Float)
+pub added-bin : (s q h l : Float) (n z : ℕ) (v : Float)
     → addedOf (binRecord s q h l n z) v 0 ≡ binRecord (add binary64 s v) (add binary64 q (mul binary64 v v)) v v (n + 1) (z + zeroCount v)
 unfolding addedOf binRecord withExtremes withWaiting replaced fresh
 added-bin s q h l n z v = refl

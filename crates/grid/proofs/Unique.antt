@@ -13,7 +13,7 @@ use Rattle.accumulator.specs.declared.Summed.{Summed}
 use Rattle.accumulator.proofs.Unique.{estimated-one, summed-one}
 use Rattle.plan.specs.declared.Read.{Read}
 use Rattle.plan.proofs.Unique.{paper-read-one}
-use Rattle.grid.specs.Calls.{FreshEnd, CloneEnd, MergeEnd}
+use Rattle.grid.specs.Calls.{FreshEnd, CloneEnd, TrainEnd, MergeEnd}
 use Rattle.grid.proofs.clone_without_samples.Kinds as clone-kinds
 use Rattle.grid.proofs.clone_without_samples.Reads as clone-reads
 use Rattle.grid.proofs.draw.Kinds as draw-kinds
@@ -35,6 +35,8 @@ use Rattle.grid.proofs.update.Kinds as update-kinds
 use Rattle.grid.proofs.update.Reads as update-reads
 use Rattle.grid.specs.Calls.{UpdateEnd}
 use Rattle.grid.proofs.probe.Reads as probe-reads
+use Rattle.grid.proofs.train.Kinds as train-kinds
+use Rattle.grid.proofs.train.Reads as train-reads
 
 pub draw-total : (κs : Lfts 3) (a : Dens κs draw-kinds.ps) → draw-reads.Pre κs a
 draw-total κs a = tt
@@ -92,6 +94,16 @@ probe-total κs a = tt
 pub probe-unique : (κs : Lfts 3) (a : Dens κs probe-kinds.ps) (r r′ : Probed) (s s′ : AtExit (endedOf 3 probe-kinds.ps probe-kinds.r) κs)
     → probe-reads.Post κs a r s → probe-reads.Post κs a r′ s′ → r ≡ r′
 probe-unique κs a r r′ s s′ p q = probed-one r r′ (p ∙ sym q)
+
+pub train-total : (κs : Lfts 3) (a : Dens κs train-kinds.ps) → train-reads.Pre κs a
+train-total κs a = tt
+
+-- the answer, and every entry of the two lists
+pub train-unique : (κs : Lfts 3) (a : Dens κs train-kinds.ps) (r r′ : ℕ) (s s′ : AtExit (endedOf 3 train-kinds.ps train-kinds.r) κs)
+    → train-reads.Post κs a r s → train-reads.Post κs a r′ s′ → (r ≡ r′) × (now (s .1 .0) ≡ now (s′ .1 .0)) × (now (s .1 .1 .0) ≡ now (s′ .1 .1 .0))
+train-unique κs a r r′ s s′ p q =
+    let e = p ∙ sym q in
+    (ap (λ (x : TrainEnd). x .answer) e, ap (λ (x : TrainEnd). x .state .reals) e, ap (λ (x : TrainEnd). x .state .counts) e)
 
 pub update-total : (κs : Lfts 5) (a : Dens κs update-kinds.ps) → update-reads.Pre κs a
 update-total κs a = tt

@@ -347,3 +347,17 @@ module _ (rule : Rule) (values : List ℕ) (rate : Float) (m : ℕ) (w : Within 
   pub updates-tied : (floor : Float) (reals : List Float) (counts : List ℕ) (k r c : ℕ) → Standing m reals counts k r c
       → readAxes m k r c (updateAllAt rule values rate m k r c (memory reals counts)) ≡ updateAll (planOf rule values floor) rate (axesFrom m reals counts k r c)
   updates-tied floor reals counts k r c s = updated-axes floor k r c (memory reals counts) (standing-ready m reals counts k r c s)
+
+  -- each axis holds no more bins than it has room for
+  pub updates-holding : (k r c : ℕ) (s : Memory) → Ready m k r c s → Holding m (updateAllAt rule values rate m k r c s .after .counts) k c
+  unfolding Holding updateAllAt axisReals axisCounts
+  updates-holding zero r c s d = tt
+  updates-holding (suc k) r c s d =
+      let here = ready-here m k r c s d in
+      let held = ready-held m k r c s d in
+      let i = inside-update m r c s here rule values rate w held in
+      let s₁ = updateAt rule values rate m r c s .after in
+      let next = ready-next m k r c s d s₁ i in
+      let low = updates-below k (r + (6 * m + 1)) (c + (3 * m + 2)) s₁ next 0 0 c (c + 1) (omega arith) (omega arith) .1 .cells c (omega arith) (omega arith) in
+      let first = updated-held m r c s here held rule values rate w in
+      (omega (arith, low, first), updates-holding k (r + (6 * m + 1)) (c + (3 * m + 2)) s₁ next)

@@ -69,9 +69,9 @@ unfoldable pub rawsIn : List ℕ → Memory → ℕ → ℕ → ℕ → List Flo
 rawsIn table s w i zero = []
 rawsIn table s w i (suc n) = rawOf (averagesAt table w) (binIn table (s .reals) (s .counts) w i .own) ∷ rawsIn table s w (i + 1) n
 
--- probabilities that are laid down, or 9
+-- probabilities laid down, and 9 where one is not finite and above 0
 unfoldable pub chancesLaid : List ℕ → ℕ → List Float → Memory → Outcome Memory
-chancesLaid table w ps s = cond (allChances ps) (finding false false (memory (put (getD table (w + 5) 0 + 14) (length ps) ps (s .reals)) (s .counts))) (finding false true s)
+chancesLaid table w ps s = finding false (not (allChances ps)) (memory (put (getD table (w + 5) 0 + 14) (length ps) ps (s .reals)) (s .counts))
 
 unfoldable pub chancesAdapted : List ℕ → ℕ → Memory → Outcome Memory
 chancesAdapted table w s = chancesLaid table w (adaptedTo (ofBits binary64 (getD table (w + 3) 0)) (rawsIn table s w 0 (getD table (w + 2) 0))) s

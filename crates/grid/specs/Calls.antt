@@ -12,6 +12,8 @@ use Rattle.accumulator.specs.declared.Summary.{Summary}
 use Rattle.accumulator.specs.Calls.{summarizeOf, liveEstimateOf}
 use Rattle.model.specs.Draw.{Drawing, drawGrid, drawNothing}
 use Rattle.model.specs.Probe.{probeGrid}
+use Rattle.model.specs.Grid.{Grid}
+use Rattle.model.specs.Train.{trainOf}
 use Rattle.grid.specs.declared.Drawn.{Drawn}
 use Rattle.plan.specs.Paper as plan
 use Rattle.plan.specs.declared.Needs.{Needs}
@@ -21,14 +23,15 @@ use Rattle.grid.specs.Founded.{laidGrid}
 use Rattle.grid.specs.Adapted.{updatedIn}
 use Rattle.model.specs.Update.{rateFits}
 use Rattle.grid.specs.declared.Region.{Region}
-use Rattle.grid.specs.Sampled.{entries, laidDrawing}
+use Rattle.grid.specs.declared.Sample.{Sample}
+use Rattle.grid.specs.Sampled.{entries, laidDrawing, sampleOf}
 use Rattle.grid.specs.Bins.{estimateAlong}
 use Rattle.grid.specs.Probed.{coordinatesOf, pathFrom}
-use Rattle.model.specs.Grid.{Grid}
 use Rattle.model.specs.Merge.{mergeFault, mergeOf}
 use Rattle.grid.specs.State.{rootOf, ownOf, judgedTo, stateFault, pairFault}
 use Rattle.grid.specs.United.{unitedGrid}
 use Rattle.grid.specs.Cleared.{clearedRoot}
+use Rattle.grid.specs.Absorbed.{absorbed}
 
 -- an answer on a state that may be refused
 abbrev pub onState : {A : Type 0} → ℕ → Paper A → Paper A
@@ -120,6 +123,25 @@ cloneOf table s to = cloneBy table s to (sizesOf table)
 -- the model's answer, from the top of the path
 unfoldable pub probeOf : List ℕ → List Float → List ℕ → Region → Paper Float
 probeOf table reals counts p = onState (stateFault table reals counts) (probeGrid (rootOf table reals counts) (pathFrom p 0) (coordinatesOf (p .coordinates)))
+
+-- ---- train
+
+-- the answer, 0 or a refusal, and the two lists afterwards
+pub record TrainEnd : Type 0 where
+  pub answer : ℕ
+  pub state : Memory
+
+abbrev pub trainEnd : ℕ → Memory → TrainEnd
+trainEnd n m = record { answer = n; state = m }
+
+-- the model's answer decides: where it refuses all stays, else the sample is taken in
+unfoldable pub trainedBy : List ℕ → Memory → Sample → Float → ℕ → Paper Grid → TrainEnd
+trainedBy table m s e number (gives g) = trainEnd 0 (absorbed 4 table s e number 0 0 m)
+trainedBy table m s e number (refuses n) = trainEnd n m
+
+unfoldable pub trainCallOf : List ℕ → Memory → Sample → Float → ℕ → TrainEnd
+trainCallOf table m s e number =
+    trainedBy table m s e number (onState (stateFault table (m .reals) (m .counts)) (trainOf (rootOf table (m .reals) (m .counts)) (sampleOf s) e number))
 
 -- ---- update
 

@@ -16,6 +16,7 @@ pub mod State
 pub mod Founded
 pub mod Matched
 pub mod United
+pub mod Absorbed
 pub mod Bins
 pub mod Turns
 pub mod Adapted

@@ -184,7 +184,7 @@ fn find_raws(table: &[u64], reals: &[f64], counts: &[u64], level: usize, w: usiz
     }
 }
 
-// The probabilities that follow from the bins, laid down where every one is finite and above 0: else 9. The last is work room.
+// The probabilities that follow from the bins, laid down; 9 where one is not finite and above 0. The last is work room.
 fn lay_chances(
     table: &[u64],
     reals: &mut [f64],
@@ -198,16 +198,11 @@ fn lay_chances(
     ensures { λ f. ⌜ found f (memory (now (reals .exit)) (now (counts .entry))) ≡ chancesAdapted (now (table .entry)) w (memory (now (reals .entry)) (now (counts .entry))) ⌝ }
 {
     find_raws(table, reals, counts, level, w, room);
-    if !recut::adapt(room, layout::double(table[w + 3])) {
-        return Found {
-            eight: false,
-            nine: true,
-        };
-    }
+    let fit = recut::adapt(room, layout::double(table[w + 3]));
     renewal::put_reals(reals, table[w + 5] as usize + 14, room);
     Found {
         eight: false,
-        nine: false,
+        nine: !fit,
     }
 }
 

@@ -13,7 +13,7 @@ use crate::training;
 
 // At an axes grid: no path is left, one weight, and a coordinate in [0, 1] for each axis.
 fn axes_fault(table: &[u64], w: usize, s: Sample, depth: usize) -> u64
-    requires { ⌜ (w + 11 ≤ length (now table)) × (s .axes ≤ 8) × (depth ≤ 4) ⌝ }
+    requires { ⌜ (w + 11 ≤ length (now table)) × (getD (now table) (w + 2) 0 ≤ 8) × (depth ≤ 4) ⌝ }
     ensures { λ n. ⌜ n ≡ formFault (getD (now (table .entry)) (w + 2) 0) (entries 0 (s .path) depth (s .levels - depth)) (entries nan (s .weights) depth (s .given - depth)) (entries nan (s .coordinates) 0 (s .axes)) ⌝ }
 {
     if depth < s.levels {
@@ -58,7 +58,7 @@ fn child_fault(
     s: Sample,
     depth: usize,
 ) -> u64
-    requires { ⌜ ChildLaid level (now table) (length (now reals)) (length (now counts)) link × (s .levels ≤ 4) × (s .axes ≤ 8) × (depth + level ≤ 4) ⌝ }
+    requires { ⌜ ChildLaid level (now table) (length (now reals)) (length (now counts)) link × (depth + level ≤ 4) ⌝ }
     ensures { λ n. ⌜ n ≡ faultOfChild (childIn (gridAt level (now (table .entry)) (now (reals .entry)) (now (counts .entry))) link) (entries 0 (s .path) depth (s .levels - depth)) (entries nan (s .weights) depth (s .given - depth)) (entries nan (s .coordinates) 0 (s .axes)) ⌝ }
 {
     if link == 0 {
@@ -77,7 +77,7 @@ fn bins_fault(
     s: Sample,
     depth: usize,
 ) -> u64
-    requires { ⌜ BinsLaid (Laid level (now table) (length (now reals)) (length (now counts))) (now table) (length (now reals)) (length (now counts)) w × (s .levels ≤ 4) × (s .axes ≤ 8) × (depth + level ≤ 3) ⌝ }
+    requires { ⌜ BinsLaid (Laid level (now table) (length (now reals)) (length (now counts))) (now table) (length (now reals)) (length (now counts)) w × (depth + level ≤ 3) ⌝ }
     ensures { λ n. ⌜ n ≡ faultOf (bins (headAt (now (table .entry)) (now (reals .entry)) (now (counts .entry)) w)
         (binsIn (gridAt level (now (table .entry)) (now (reals .entry)) (now (counts .entry))) (now (table .entry)) (now (reals .entry)) (now (counts .entry)) w 0 (getD (now (table .entry)) (w + 2) 0)))
         (entries 0 (s .path) depth (s .levels - depth)) (entries nan (s .weights) depth (s .given - depth)) (entries nan (s .coordinates) 0 (s .axes)) ⌝ }
@@ -106,7 +106,7 @@ pub fn grid_fault(
     s: Sample,
     depth: usize,
 ) -> u64
-    requires { ⌜ Laid level (now table) (length (now reals)) (length (now counts)) w × (s .levels ≤ 4) × (s .axes ≤ 8) × (depth + level ≤ 4) ⌝ }
+    requires { ⌜ Laid level (now table) (length (now reals)) (length (now counts)) w × (depth + level ≤ 4) ⌝ }
     ensures { λ n. ⌜ n ≡ faultOf (gridAt level (now (table .entry)) (now (reals .entry)) (now (counts .entry)) w) (entries 0 (s .path) depth (s .levels - depth)) (entries nan (s .weights) depth (s .given - depth)) (entries nan (s .coordinates) 0 (s .axes)) ⌝ }
 {
     if table[w] == 1 {

@@ -1,6 +1,9 @@
 // Grids in lent memory.
+mod absorbing;
+mod acceptance;
 mod accounts;
 mod adapting;
+mod adding;
 mod along;
 mod axes;
 mod clearing;
@@ -31,7 +34,7 @@ ghost use Rattle.plan.specs.Paper.{gives, planRead, paperRead};
 ghost use Rattle.plan.specs.Calls.{measureOf};
 ghost use Rattle.grid.specs.Memory.{memory};
 ghost use Rattle.axis.specs.Calls.{paperProbed};
-ghost use Rattle.grid.specs.Calls.{drawnAs, drawOf, probeOf, summaryOf, liveOf, liveOfBin, freshEnd, foundedOf, freshOf, cloneEnd, cloneOf, updateEnd, updateOf, mergeableOf, mergeEnd, mergeIntoOf};
+ghost use Rattle.grid.specs.Calls.{drawnAs, drawOf, probeOf, summaryOf, liveOf, liveOfBin, freshEnd, foundedOf, freshOf, cloneEnd, cloneOf, updateEnd, updateOf, trainEnd, trainCallOf, mergeableOf, mergeEnd, mergeIntoOf};
 use accumulator::Estimated;
 use accumulator::Summed;
 use plan::Needs;
@@ -198,6 +201,31 @@ pub fn probe(table: &[u64], reals: &[f64], counts: &[u64], p: Region) -> axis::P
         return axis::Probed::Refused(refused);
     }
     descent::probe_grid(table, reals, counts, 4, 0, p, 0)
+}
+
+// A sample joins the grid with its evaluation and its number. The answer is 0, or a refusal's number: 10, 12; 3; along the path 4, 6; then
+// 4, 5; 7; 8. Nothing is written then.
+pub fn train(
+    table: &[u64],
+    reals: &mut [f64],
+    counts: &mut [u64],
+    s: Sample,
+    evaluation: f64,
+    number: u64,
+) -> u64
+    ensures { λ r. ⌜ trainEnd r (memory (now (reals .exit)) (now (counts .exit))) ≡
+        trainCallOf (now (table .entry)) (memory (now (reals .entry)) (now (counts .entry))) s evaluation number ⌝ }
+{
+    let refused = state::fault(table, reals, counts);
+    if refused != 0 {
+        return refused;
+    }
+    let objection = acceptance::objection(table, reals, counts, s, evaluation, number);
+    if objection != 0 {
+        return objection;
+    }
+    absorbing::absorb_grid(table, reals, counts, 4, 0, s, 0, evaluation, number);
+    0
 }
 
 // Processes the waiting samples and adapts axes and probabilities, worked out on a spare of the state's size. 0, or refused: 12, 10, 12, the

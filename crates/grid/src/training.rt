@@ -5,6 +5,7 @@ ghost use Prim.Native.Nat.{_≤_};
 ghost use lib.ListN.{take};
 ghost use lib.Ieee.{nan};
 ghost use Rattle.grid.specs.Sampled.{entries};
+ghost use Rattle.real.specs.Total.{allFinite};
 ghost use Rattle.accumulator.specs.Steps.{zeroCount};
 ghost use Rattle.grid.specs.Drawn.{axesAt, Stands};
 ghost use Rattle.grid.specs.Memory.{memory};
@@ -20,6 +21,20 @@ pub fn are_in_unit(xs: [f64; 8], n: usize) -> bool
     let mut i = 0;
     while i < n {
         ok = ok & axis::scans::in_unit(xs[i]);
+        i += 1;
+    }
+    ok
+}
+
+// Whether the first n weights are finite.
+pub fn are_finite(ws: [f64; 5], n: usize) -> bool
+    requires { ⌜ n ≤ 5 ⌝ }
+    ensures { λ r. ⌜ r ≡ allFinite (entries nan ws 0 n) ⌝ }
+{
+    let mut ok = true;
+    let mut i = 0;
+    while i < n {
+        ok = ok & real::finite(ws[i]);
         i += 1;
     }
     ok

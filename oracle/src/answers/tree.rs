@@ -630,7 +630,7 @@ fn drawn_point(tape: &mut Tape, place: usize) -> Point {
 }
 
 /// A point changed in one thing, so that it may no longer fit.
-fn changed(dice: &mut Dice, mut point: Point) -> Point {
+pub(super) fn changed(dice: &mut Dice, mut point: Point) -> Point {
     match dice.below(7) {
         0 if !point.path.is_empty() => {
             let level = dice.below(point.path.len());

@@ -77,14 +77,14 @@ bins-fault-mul-bin :
     (child-fault-below t, child-fault.Post)
     (bins-fault-at t)
     bins-fault.Post
-bins-fault-mul-bin t c = omega (arith, c .if1 .left, (c .before .before .before .before .pre .1) .1)
+bins-fault-mul-bin t c = omega (arith, (c .before .before .before .before .pre .1) .1)
 
 -- src/forms.rt:72:15
 bins-fault-element-copy-out-bin : (t : ℕ) → bins-fault-lts.Need-element-copy-out-bin (
   child-fault-below t,
   child-fault.Post,
 ) (bins-fault-at t) bins-fault.Post
-bins-fault-element-copy-out-bin t c = omega (arith, c .if1 .left, (c .before .before .before .before .pre .1) .1)
+bins-fault-element-copy-out-bin t c = omega (arith, (c .before .before .before .before .pre .1) .1)
 
 -- src/forms.rt:73:14
 bins-fault-add-if2 :
@@ -158,7 +158,7 @@ bins-fault-add-child-fault : (t : ℕ) → bins-fault-lts.Need-add-child-fault (
   child-fault-below t,
   child-fault.Post,
 ) (bins-fault-at t) bins-fault.Post
-bins-fault-add-child-fault t c = omega (arith, (c .before .before .before .before .before .before .before .before .before .pre .1) .3)
+bins-fault-add-child-fault t c = omega (arith, (c .before .before .before .before .before .before .before .before .before .pre .1) .1)
 
 -- src/forms.rt:80:5
 bins-fault-child-fault-requires : (t : ℕ) → bins-fault-lts.Need-child-fault-requires (
@@ -166,7 +166,7 @@ bins-fault-child-fault-requires : (t : ℕ) → bins-fault-lts.Need-child-fault-
   child-fault.Post,
 ) (bins-fault-at t) bins-fault.Post
 unfolding ChildLaid
-bins-fault-child-fault-requires t c κs = (omega (arith, c .before .before .before .before .before .before .before .before .before .pre .0), (λ z. (c .before .before .before .before .before .before .before .before .before .pre .1) .0 .children (getD ((c .before .before .before .before .before .before .before .before .before .args .t6) .path) (c .before .before .before .before .before .before .before .before .before .args .depth) 0) (c .before .before .if2 .left) z, (c .before .before .before .before .before .before .before .before .before .pre .1) .1, (c .before .before .before .before .before .before .before .before .before .pre .1) .2, omega (arith, (c .before .before .before .before .before .before .before .before .before .pre .1) .3)))
+bins-fault-child-fault-requires t c κs = (omega (arith, c .before .before .before .before .before .before .before .before .before .pre .0), (λ z. (c .before .before .before .before .before .before .before .before .before .pre .1) .0 .children (getD ((c .before .before .before .before .before .before .before .before .before .args .t6) .path) (c .before .before .before .before .before .before .before .before .before .args .depth) 0) (c .before .before .if2 .left) z, omega (arith, (c .before .before .before .before .before .before .before .before .before .pre .1) .1)))
 
 -- src/forms.rt:63:1
 bins-fault-returns-4 : (t : ℕ) → bins-fault-lts.Need-returns-4 (
@@ -201,7 +201,7 @@ child-fault-grid-fault-requires : (t : ℕ) → child-fault-lts.Need-grid-fault-
   grid-fault.Post,
 ) (child-fault-at t) child-fault.Post
 unfolding ChildLaid
-child-fault-grid-fault-requires t c κs = (omega (arith, c .before .before .before .before .pre .0), ((c .before .before .before .before .pre .1) .0 (c .if1 .left), (c .before .before .before .before .pre .1) .1, (c .before .before .before .before .pre .1) .2, (c .before .before .before .before .pre .1) .3))
+child-fault-grid-fault-requires t c κs = (omega (arith, c .before .before .before .before .pre .0), ((c .before .before .before .before .pre .1) .0 (c .if1 .left), (c .before .before .before .before .pre .1) .1))
 
 -- src/forms.rt:52:1
 child-fault-returns-2 : (t : ℕ) → child-fault-lts.Need-returns-2 (
@@ -237,7 +237,7 @@ grid-fault-axes-fault-requires : (t : ℕ) → grid-fault-lts.Need-axes-fault-re
   bins-fault-below t,
   bins-fault.Post,
 ) (grid-fault-at t) grid-fault.Post
-grid-fault-axes-fault-requires t c κs = let q = laid-axes (c .before .before .before .before .before .args .level) (c .before .before .before .before .before .args .table .now) (length (c .before .before .before .before .before .args .reals .now)) (length (c .before .before .before .before .before .args .counts .now)) (c .before .before .before .before .before .args .w) ((c .before .before .before .before .before .pre .1) .0) (c .if1 .taken) in (omega arith, (c .before .before .before .before .before .pre .1) .2, omega (arith, (c .before .before .before .before .before .pre .1) .3))
+grid-fault-axes-fault-requires t c κs = let q = laid-axes (c .before .before .before .before .before .args .level) (c .before .before .before .before .before .args .table .now) (length (c .before .before .before .before .before .args .reals .now)) (length (c .before .before .before .before .before .args .counts .now)) (c .before .before .before .before .before .args .w) ((c .before .before .before .before .before .pre .1) .0) (c .if1 .taken) in (omega arith, q .axes, omega (arith, (c .before .before .before .before .before .pre .1) .1))
 
 -- src/forms.rt:89:9
 grid-fault-returns : (t : ℕ) → grid-fault-lts.Need-returns (
@@ -264,7 +264,7 @@ grid-fault-bins-fault-requires : (t : ℕ) → grid-fault-lts.Need-bins-fault-re
   bins-fault-below t,
   bins-fault.Post,
 ) (grid-fault-at t) grid-fault.Post
-grid-fault-bins-fault-requires t c κs = let q = laid-bins (c .before .before .before .before .before .args .level) (c .before .before .before .before .before .args .table .now) (length (c .before .before .before .before .before .args .reals .now)) (length (c .before .before .before .before .before .args .counts .now)) (c .before .before .before .before .before .args .w) ((c .before .before .before .before .before .pre .1) .0) (c .if1 .left) in (omega (arith, c .before .before .before .before .before .pre .0, q .level), (q .bins, (c .before .before .before .before .before .pre .1) .1, (c .before .before .before .before .before .pre .1) .2, omega (arith, (c .before .before .before .before .before .pre .1) .3, q .level)))
+grid-fault-bins-fault-requires t c κs = let q = laid-bins (c .before .before .before .before .before .args .level) (c .before .before .before .before .before .args .table .now) (length (c .before .before .before .before .before .args .reals .now)) (length (c .before .before .before .before .before .args .counts .now)) (c .before .before .before .before .before .args .w) ((c .before .before .before .before .before .pre .1) .0) (c .if1 .left) in (omega (arith, c .before .before .before .before .before .pre .0, q .level), (q .bins, omega (arith, (c .before .before .before .before .before .pre .1) .1, q .level)))
 
 -- src/forms.rt:84:1
 grid-fault-returns-2 : (t : ℕ) → grid-fault-lts.Need-returns-2 (

@@ -46,7 +46,7 @@ returns-3 c = rw ((none-left 0 ((c .before .before .before .before .before .befo
 
 -- src/forms.rt:29:9
 are-in-unit-requires : tie.Need-are-in-unit-requires
-are-in-unit-requires c κs = search needs
+are-in-unit-requires c κs = omega (arith, c .before .before .before .before .before .before .before .before .before .pre .1, c .before .if3 .left)
 
 -- src/forms.rt:30:9
 returns-4 : tie.Need-returns-4

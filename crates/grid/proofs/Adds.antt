@@ -1,0 +1,76 @@
+-- A value that joins an accumulator: what the accumulator answers, against the record after it.
+use mathlib.Core.Path.{_≡_, refl, sym, ap, _∙_}
+use mathlib.Core.Bool.{Bool, true, false, not, cond, false≢true}
+use Prim.Native.Nat.{ℕ, _^_}
+use lib.Dec.{leb}
+use lib.Ieee.{Float}
+use Rattle.real.specs.Finite.{finiteOf}
+use Rattle.real.specs.Paper.{Paper, gives, refuses}
+use Rattle.real.proofs.Truth.{both}
+use Rattle.accumulator.specs.declared.StatisticsAccumulator.{StatisticsAccumulator}
+use Rattle.accumulator.specs.declared.Changed.{Changed}
+use Rattle.accumulator.specs.declared.Changed.the-variants as changed
+use Rattle.accumulator.specs.Record.{finiteSums, boundedCounts, wellFormed}
+use Rattle.accumulator.specs.Steps.{addedOf}
+use Rattle.accumulator.specs.Calls.{paperChanged, keptOf, addSampleOf}
+use Rattle.accumulator.specs.Calls as account
+use Rattle.accumulator.proofs.Accepted.{accepted}
+use Rattle.model.specs.Train.{numbered}
+use Rattle.grid.specs.Absorbed.{answered, withSample}
+
+-- whether an answer is one that gives
+abbrev given : Paper StatisticsAccumulator → Bool
+given (gives a) = true
+given (refuses n) = false
+
+-- a training sample's number is one that an accumulator takes
+number-taken : (k : ℕ) → numbered k ≡ true → account.numbered k ≡ true
+unfolding numbered account.numbered
+number-taken k e = both (leb 1 k) (leb k (2 ^ 53)) e .1
+
+module _ (a : StatisticsAccumulator) (v : Float) (k : ℕ) (well : wellFormed a ≡ true) (n : numbered k ≡ true) where
+  pub takes-it : wellFormed (addedOf a v k) ≡ true → addSampleOf a v k ≡ gives (addedOf a v k)
+  unfolding wellFormed
+  takes-it e = accepted a v k (both (finiteSums a) (boundedCounts a) well .1) (rw (number-taken k n) e)
+
+  refuses-it : wellFormed (addedOf a v k) ≡ false → (b : StatisticsAccumulator) → addSampleOf a v k ≡ gives b → ⊥
+  unfolding addSampleOf keptOf
+  refuses-it e b h = last (finiteOf v) (rw (well, number-taken k n, e) at h)
+    where
+      last : (f : Bool) → cond (not f) (refuses 7) (refuses 8) ≡ gives b → ⊥
+      last true q = false≢true (ap given q)
+      last false q = false≢true (ap given q)
+
+  pub kept-told : (b : StatisticsAccumulator) → addSampleOf a v k ≡ gives b → true ≡ wellFormed (addedOf a v k)
+  kept-told b h = told (wellFormed (addedOf a v k)) refl
+    where
+      told : (t : Bool) → wellFormed (addedOf a v k) ≡ t → true ≡ t
+      told true e = refl
+      told false e = absurd (refuses-it e b h)
+
+  pub lost-told : (m : ℕ) → addSampleOf a v k ≡ refuses m → false ≡ wellFormed (addedOf a v k)
+  lost-told m h = told (wellFormed (addedOf a v k)) refl
+    where
+      apart : gives (addedOf a v k) ≡ refuses m → ⊥
+      apart q = false≢true (sym (ap given q))
+
+      told : (t : Bool) → wellFormed (addedOf a v k) ≡ t → false ≡ t
+      told true e = absurd (apart (sym (takes-it e) ∙ h))
+      told false e = refl
+
+-- the answer as the code has it
+pub told-record : (p : Changed) (b : StatisticsAccumulator) (o : Paper StatisticsAccumulator) → paperChanged p ≡ o → changed.Record b ≡ p → o ≡ gives b
+unfolding paperChanged
+told-record p b o e q = sym e ∙ sym (ap paperChanged q)
+
+pub told-refused : (p : Changed) (m : ℕ) (o : Paper StatisticsAccumulator) → paperChanged p ≡ o → changed.Refused m ≡ p → o ≡ refuses m
+unfolding paperChanged
+told-refused p m o e q = sym e ∙ sym (ap paperChanged q)
+
+pub with-record : (a b : StatisticsAccumulator) (v : Float) (k : ℕ) → addSampleOf a v k ≡ gives b → b ≡ withSample a v k
+unfolding withSample answered
+with-record a b v k e = ap (answered a) (sym e)
+
+pub with-refused : (a : StatisticsAccumulator) (v : Float) (k m : ℕ) → addSampleOf a v k ≡ refuses m → a ≡ withSample a v k
+unfolding withSample answered
+with-refused a v k m e = ap (answered a) (sym e)

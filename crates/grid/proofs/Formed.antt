@@ -1,0 +1,55 @@
+-- Training keeps a grid's form; so a grid that was well formed is so again where what it would leave is kept.
+use mathlib.Core.Path.{_≡_, refl}
+use mathlib.Core.Bool.{true}
+use mathlib.Core.List.{List, [], _∷_}
+use Prim.Native.Nat.{ℕ, zero, suc}
+use lib.ListN.{length-set, getD}
+use lib.Ieee.{Float, binary64, mul}
+use Rattle.real.proofs.Truth.{both}
+use Rattle.accumulator.specs.Record.{fresh}
+use Rattle.accumulator.specs.Steps.{addedOf}
+use Rattle.axis.specs.Edges.{binOf}
+use Rattle.model.specs.Axes.{Axis, AxesPlan}
+use Rattle.model.specs.Grid.{Grid, Bins, Child, axes, bins, none, more, nothing, grid, withBin}
+use Rattle.model.specs.Draw.{weightAt}
+use Rattle.model.specs.Sound.{sound, formedAxis, formedAxisList, formedGrid, formedBins, formedChild, keptGrid}
+use Rattle.model.specs.Train.{trainAxis, trainAll, trainAxes, trainGrid, trainBin, trainChild}
+
+axis-formed : (plan : AxesPlan) (ax : Axis) (x v : Float) → formedAxis plan (trainAxis ax x v) ≡ formedAxis plan ax
+unfolding formedAxis trainAxis
+axis-formed plan ax x v =
+    let i = binOf (ax .edges) x in
+    rw (length-set (ax .bins) i (addedOf (getD (ax .bins) i fresh) v 0))
+
+pub axes-formed : (plan : AxesPlan) (axs : List Axis) (xs : List Float) (v : Float) → formedAxisList plan (trainAll axs xs v) ≡ formedAxisList plan axs
+unfolding formedAxisList trainAll
+axes-formed plan [] xs v = refl
+axes-formed plan (ax ∷ axs) [] v = refl
+axes-formed plan (ax ∷ axs) (x ∷ xs) v = rw (axis-formed plan ax x v, axes-formed plan axs xs v)
+
+mutual
+  unfolding formedGrid formedBins formedChild trainGrid trainAxes trainBin trainChild withBin
+
+  pub grid-formed : (g : Grid) (path : List ℕ) (ws xs : List Float) (e : Float) (k : ℕ) → formedGrid (trainGrid g path ws xs e k) ≡ formedGrid g
+  grid-formed (axes g) path ws xs e k = axes-formed (g .plan) (g .axes) xs (mul binary64 (weightAt ws) e)
+  grid-formed (bins h bs) [] ws xs e k = refl
+  grid-formed (bins h bs) (i ∷ path) [] xs e k = refl
+  grid-formed (bins h bs) (i ∷ path) (w ∷ ws) xs e k = bins-formed bs i w path ws xs e k
+
+  bins-formed : (bs : Bins) (i : ℕ) (w : Float) (path : List ℕ) (ws xs : List Float) (e : Float) (k : ℕ) → formedBins (trainBin bs i w path ws xs e k) ≡ formedBins bs
+  bins-formed none i w path ws xs e k = refl
+  bins-formed (more b c bs) zero w path ws xs e k = rw (child-formed c path ws xs e k)
+  bins-formed (more b c bs) (suc i) w path ws xs e k = rw (bins-formed bs i w path ws xs e k)
+
+  child-formed : (c : Child) (path : List ℕ) (ws xs : List Float) (e : Float) (k : ℕ) → formedChild (trainChild c path ws xs e k) ≡ formedChild c
+  child-formed nothing path ws xs e k = refl
+  child-formed (grid g) path ws xs e k = grid-formed g path ws xs e k
+
+-- the form of a well-formed grid, and well formed again
+pub sound-formed : (g : Grid) → sound g ≡ true → formedGrid g ≡ true
+unfolding sound
+sound-formed g e = both (formedGrid g) (keptGrid g) e .0
+
+pub sound-trained : (g : Grid) (path : List ℕ) (ws xs : List Float) (e : Float) (k : ℕ) → sound g ≡ true → keptGrid (trainGrid g path ws xs e k) ≡ true → sound (trainGrid g path ws xs e k) ≡ true
+unfolding sound
+sound-trained g path ws xs e k w q = rw (grid-formed g path ws xs e k, both (formedGrid g) (keptGrid g) w .0, q)

@@ -1,0 +1,685 @@
+-- Both records are read before what hangs below is written, so all is the definition's step on memory as it was.
+use mathlib.Core.Path.{_∙_, subst}
+use native.Mathlib.Omega.{arith}
+use Prim.Native.Nat.{_+_, _-_, _*_}
+use lib.ListN.{length, getD}
+use Rattle.model.specs.Grid.{Grid}
+use Rattle.grid.specs.Memory.{memory}
+use Rattle.grid.specs.Tree.{headAt, gridAt}
+use Rattle.grid.specs.Sampled.{ChildLaid}
+use Rattle.grid.specs.Absorbed.{Takes, absorbed}
+use Rattle.grid.proofs.Laid.{laid-axes, laid-bins, laid-head}
+use Rattle.grid.proofs.Sounds.{node-axes, node-bins}
+use Rattle.grid.proofs.Accepts.{formed, takes-below, takes-grid}
+use Rattle.grid.proofs.Absorbs.{bins-absorbed, nothing-absorbed, child-absorbed, absorbed-axes, absorbed-bins}
+use Prim.Native.Nat.{ℕ, _<_}
+use borrow.Fn.Kinds.{In}
+use borrow.Fn.PlainCycle.{Measures, is, falls, and}
+use Rattle.grid.proofs.absorbing.absorb_bins.Reads as absorb-bins
+use Rattle.grid.proofs.absorbing.absorb_bins.Kinds as absorb-bins-kinds
+use Rattle.grid.proofs.absorbing.+absorb_bins+absorb_child+absorb_grid.Lts-absorb_bins as absorb-bins-lts
+use Rattle.grid.proofs.absorbing.absorb_child.Reads as absorb-child
+use Rattle.grid.proofs.absorbing.absorb_child.Kinds as absorb-child-kinds
+use Rattle.grid.proofs.absorbing.+absorb_bins+absorb_child+absorb_grid.Lts-absorb_child as absorb-child-lts
+use Rattle.grid.proofs.absorbing.absorb_grid.Reads as absorb-grid
+use Rattle.grid.proofs.absorbing.absorb_grid.Kinds as absorb-grid-kinds
+use Rattle.grid.proofs.absorbing.+absorb_bins+absorb_child+absorb_grid.Lts-absorb_grid as absorb-grid-lts
+use Rattle.grid.proofs.absorbing.absorb_axes.Reads as absorb-axes-reads
+use Rattle.grid.proofs.accounts.store.Reads as store-reads
+use Rattle.grid.proofs.adding.with_sample.Reads as with-sample-reads
+use Rattle.grid.proofs.absorbing.+absorb_bins+absorb_child+absorb_grid.{statement}
+use Rattle.grid.proofs.absorbing.+absorb_bins+absorb_child+absorb_grid.Tie.{close}
+
+abbrev μ-absorb-bins : Measures 3 absorb-bins-kinds.ps ℕ
+μ-absorb-bins κs a = 3 * a .1 .1 .1 .0 + 2
+
+abbrev μ-absorb-child : Measures 3 absorb-child-kinds.ps ℕ
+μ-absorb-child κs a = 3 * a .1 .1 .1 .0 + 1
+
+abbrev μ-absorb-grid : Measures 3 absorb-grid-kinds.ps ℕ
+μ-absorb-grid κs a = 3 * a .1 .1 .1 .0
+
+abbrev absorb-bins-at : ℕ → In 3 absorb-bins-kinds.ps
+absorb-bins-at t =
+    and 3 absorb-bins-kinds.ps (is 3 absorb-bins-kinds.ps μ-absorb-bins t) absorb-bins.Pre
+
+abbrev absorb-bins-below : ℕ → In 3 absorb-bins-kinds.ps
+absorb-bins-below t =
+    and 3 absorb-bins-kinds.ps (falls 3 absorb-bins-kinds.ps _<_ μ-absorb-bins t) absorb-bins.Pre
+
+abbrev absorb-child-at : ℕ → In 3 absorb-child-kinds.ps
+absorb-child-at t =
+    and 3 absorb-child-kinds.ps (is 3 absorb-child-kinds.ps μ-absorb-child t) absorb-child.Pre
+
+abbrev absorb-child-below : ℕ → In 3 absorb-child-kinds.ps
+absorb-child-below t =
+    and
+    3
+    absorb-child-kinds.ps
+    (falls 3 absorb-child-kinds.ps _<_ μ-absorb-child t)
+    absorb-child.Pre
+
+abbrev absorb-grid-at : ℕ → In 3 absorb-grid-kinds.ps
+absorb-grid-at t =
+    and 3 absorb-grid-kinds.ps (is 3 absorb-grid-kinds.ps μ-absorb-grid t) absorb-grid.Pre
+
+abbrev absorb-grid-below : ℕ → In 3 absorb-grid-kinds.ps
+absorb-grid-below t =
+    and 3 absorb-grid-kinds.ps (falls 3 absorb-grid-kinds.ps _<_ μ-absorb-grid t) absorb-grid.Pre
+
+-- src/absorbing.rt:80:15
+absorb-bins-mul-bin : (t : ℕ) → absorb-bins-lts.Need-mul-bin (
+  with-sample-reads.Asked,
+  with-sample-reads.Learnt,
+  absorb-child-below t,
+  absorb-child.Post,
+  store-reads.Asked,
+  store-reads.Learnt,
+) (absorb-bins-at t) absorb-bins.Post
+absorb-bins-mul-bin t c = omega (arith, c .before .before .before .before .pre .1 .1)
+
+-- src/absorbing.rt:80:15
+absorb-bins-array-read-bin : (t : ℕ) → absorb-bins-lts.Need-array-read-bin (
+  with-sample-reads.Asked,
+  with-sample-reads.Learnt,
+  absorb-child-below t,
+  absorb-child.Post,
+  store-reads.Asked,
+  store-reads.Learnt,
+) (absorb-bins-at t) absorb-bins.Post
+absorb-bins-array-read-bin t c = omega (arith, c .before .before .before .before .pre .1 .1)
+
+-- src/absorbing.rt:82:18
+absorb-bins-mul-weight : (t : ℕ) → absorb-bins-lts.Need-mul-weight (
+  with-sample-reads.Asked,
+  with-sample-reads.Learnt,
+  absorb-child-below t,
+  absorb-child.Post,
+  store-reads.Asked,
+  store-reads.Learnt,
+) (absorb-bins-at t) absorb-bins.Post
+absorb-bins-mul-weight t c = omega (arith, c .before .before .before .before .before .pre .1 .1)
+
+-- src/absorbing.rt:82:18
+absorb-bins-array-read-weight : (t : ℕ) → absorb-bins-lts.Need-array-read-weight (
+  with-sample-reads.Asked,
+  with-sample-reads.Learnt,
+  absorb-child-below t,
+  absorb-child.Post,
+  store-reads.Asked,
+  store-reads.Learnt,
+) (absorb-bins-at t) absorb-bins.Post
+absorb-bins-array-read-weight t c = omega (arith, c .before .before .before .before .before .pre .1 .1)
+
+-- src/absorbing.rt:83:19
+absorb-bins-add-n : (t : ℕ) → absorb-bins-lts.Need-add-n (
+  with-sample-reads.Asked,
+  with-sample-reads.Learnt,
+  absorb-child-below t,
+  absorb-child.Post,
+  store-reads.Asked,
+  store-reads.Learnt,
+) (absorb-bins-at t) absorb-bins.Post
+absorb-bins-add-n t c = omega (arith, (c .before .before .before .before .before .pre .1 .0))
+
+-- src/absorbing.rt:83:13
+absorb-bins-mul-n : (t : ℕ) → absorb-bins-lts.Need-mul-n (
+  with-sample-reads.Asked,
+  with-sample-reads.Learnt,
+  absorb-child-below t,
+  absorb-child.Post,
+  store-reads.Asked,
+  store-reads.Learnt,
+) (absorb-bins-at t) absorb-bins.Post
+absorb-bins-mul-n t c = omega (arith, (c .before .before .before .before .before .pre .1 .0))
+
+-- src/absorbing.rt:83:13
+absorb-bins-shared-slice-read-n : (t : ℕ) → absorb-bins-lts.Need-shared-slice-read-n (
+  with-sample-reads.Asked,
+  with-sample-reads.Learnt,
+  absorb-child-below t,
+  absorb-child.Post,
+  store-reads.Asked,
+  store-reads.Learnt,
+) (absorb-bins-at t) absorb-bins.Post
+absorb-bins-shared-slice-read-n t c = omega (arith, (c .before .before .before .before .before .before .pre .1 .0))
+
+-- src/absorbing.rt:84:19
+absorb-bins-add-r : (t : ℕ) → absorb-bins-lts.Need-add-r (
+  with-sample-reads.Asked,
+  with-sample-reads.Learnt,
+  absorb-child-below t,
+  absorb-child.Post,
+  store-reads.Asked,
+  store-reads.Learnt,
+) (absorb-bins-at t) absorb-bins.Post
+absorb-bins-add-r t c = omega (arith, (c .before .before .before .before .before .before .pre .1 .0))
+
+-- src/absorbing.rt:84:13
+absorb-bins-mul-r : (t : ℕ) → absorb-bins-lts.Need-mul-r (
+  with-sample-reads.Asked,
+  with-sample-reads.Learnt,
+  absorb-child-below t,
+  absorb-child.Post,
+  store-reads.Asked,
+  store-reads.Learnt,
+) (absorb-bins-at t) absorb-bins.Post
+absorb-bins-mul-r t c = omega (arith, (c .before .before .before .before .before .before .pre .1 .0))
+
+-- src/absorbing.rt:84:13
+absorb-bins-shared-slice-read-r : (t : ℕ) → absorb-bins-lts.Need-shared-slice-read-r (
+  with-sample-reads.Asked,
+  with-sample-reads.Learnt,
+  absorb-child-below t,
+  absorb-child.Post,
+  store-reads.Asked,
+  store-reads.Learnt,
+) (absorb-bins-at t) absorb-bins.Post
+absorb-bins-shared-slice-read-r t c = omega (arith, (c .before .before .before .before .before .before .before .pre .1 .0))
+
+-- src/absorbing.rt:85:19
+absorb-bins-add-c : (t : ℕ) → absorb-bins-lts.Need-add-c (
+  with-sample-reads.Asked,
+  with-sample-reads.Learnt,
+  absorb-child-below t,
+  absorb-child.Post,
+  store-reads.Asked,
+  store-reads.Learnt,
+) (absorb-bins-at t) absorb-bins.Post
+absorb-bins-add-c t c = omega (arith, (c .before .before .before .before .before .before .before .pre .1 .0))
+
+-- src/absorbing.rt:85:13
+absorb-bins-mul-c : (t : ℕ) → absorb-bins-lts.Need-mul-c (
+  with-sample-reads.Asked,
+  with-sample-reads.Learnt,
+  absorb-child-below t,
+  absorb-child.Post,
+  store-reads.Asked,
+  store-reads.Learnt,
+) (absorb-bins-at t) absorb-bins.Post
+absorb-bins-mul-c t c = omega (arith, (c .before .before .before .before .before .before .before .pre .1 .0))
+
+-- src/absorbing.rt:85:13
+absorb-bins-shared-slice-read-c : (t : ℕ) → absorb-bins-lts.Need-shared-slice-read-c (
+  with-sample-reads.Asked,
+  with-sample-reads.Learnt,
+  absorb-child-below t,
+  absorb-child.Post,
+  store-reads.Asked,
+  store-reads.Learnt,
+) (absorb-bins-at t) absorb-bins.Post
+absorb-bins-shared-slice-read-c t c = omega (arith, (c .before .before .before .before .before .before .before .before .pre .1 .0))
+
+-- src/absorbing.rt:86:22
+absorb-bins-add-link : (t : ℕ) → absorb-bins-lts.Need-add-link (
+  with-sample-reads.Asked,
+  with-sample-reads.Learnt,
+  absorb-child-below t,
+  absorb-child.Post,
+  store-reads.Asked,
+  store-reads.Learnt,
+) (absorb-bins-at t) absorb-bins.Post
+absorb-bins-add-link t c = omega (arith, (c .before .before .before .before .before .before .before .before .pre .1 .0), (formed (gridAt (c .before .before .before .before .before .before .before .before .args .level) (c .before .before .before .before .before .before .before .before .args .table .now) (c .before .before .before .before .before .before .before .before .args .reals .now) (c .before .before .before .before .before .before .before .before .args .counts .now)) (c .before .before .before .before .before .before .before .before .args .table .now) (c .before .before .before .before .before .before .before .before .args .reals .now) (c .before .before .before .before .before .before .before .before .args .counts .now) (c .before .before .before .before .before .before .before .before .args .w) (getD (c .before .before .before .before .before .before .before .before .args .table .now) ((c .before .before .before .before .before .before .before .before .args .w) + 2) 0) (headAt (c .before .before .before .before .before .before .before .before .args .table .now) (c .before .before .before .before .before .before .before .before .args .reals .now) (c .before .before .before .before .before .before .before .before .args .counts .now) (c .before .before .before .before .before .before .before .before .args .w)) (c .before .before .before .before .before .before .before .before .args .s) (c .before .before .before .before .before .before .before .before .args .depth) (c .before .before .before .before .before .before .before .before .args .number) (c .before .before .before .before .before .before .before .before .pre .1 .2)) .bin)
+
+-- src/absorbing.rt:86:22
+absorb-bins-add-link-2 : (t : ℕ) → absorb-bins-lts.Need-add-link-2 (
+  with-sample-reads.Asked,
+  with-sample-reads.Learnt,
+  absorb-child-below t,
+  absorb-child.Post,
+  store-reads.Asked,
+  store-reads.Learnt,
+) (absorb-bins-at t) absorb-bins.Post
+absorb-bins-add-link-2 t c = omega (arith, (c .before .before .before .before .before .before .before .before .pre .1 .0), (formed (gridAt (c .before .before .before .before .before .before .before .before .args .level) (c .before .before .before .before .before .before .before .before .args .table .now) (c .before .before .before .before .before .before .before .before .args .reals .now) (c .before .before .before .before .before .before .before .before .args .counts .now)) (c .before .before .before .before .before .before .before .before .args .table .now) (c .before .before .before .before .before .before .before .before .args .reals .now) (c .before .before .before .before .before .before .before .before .args .counts .now) (c .before .before .before .before .before .before .before .before .args .w) (getD (c .before .before .before .before .before .before .before .before .args .table .now) ((c .before .before .before .before .before .before .before .before .args .w) + 2) 0) (headAt (c .before .before .before .before .before .before .before .before .args .table .now) (c .before .before .before .before .before .before .before .before .args .reals .now) (c .before .before .before .before .before .before .before .before .args .counts .now) (c .before .before .before .before .before .before .before .before .args .w)) (c .before .before .before .before .before .before .before .before .args .s) (c .before .before .before .before .before .before .before .before .args .depth) (c .before .before .before .before .before .before .before .before .args .number) (c .before .before .before .before .before .before .before .before .pre .1 .2)) .bin)
+
+-- src/absorbing.rt:86:16
+absorb-bins-mul-link : (t : ℕ) → absorb-bins-lts.Need-mul-link (
+  with-sample-reads.Asked,
+  with-sample-reads.Learnt,
+  absorb-child-below t,
+  absorb-child.Post,
+  store-reads.Asked,
+  store-reads.Learnt,
+) (absorb-bins-at t) absorb-bins.Post
+absorb-bins-mul-link t c = omega (arith, (c .before .before .before .before .before .before .before .before .pre .1 .0), (formed (gridAt (c .before .before .before .before .before .before .before .before .args .level) (c .before .before .before .before .before .before .before .before .args .table .now) (c .before .before .before .before .before .before .before .before .args .reals .now) (c .before .before .before .before .before .before .before .before .args .counts .now)) (c .before .before .before .before .before .before .before .before .args .table .now) (c .before .before .before .before .before .before .before .before .args .reals .now) (c .before .before .before .before .before .before .before .before .args .counts .now) (c .before .before .before .before .before .before .before .before .args .w) (getD (c .before .before .before .before .before .before .before .before .args .table .now) ((c .before .before .before .before .before .before .before .before .args .w) + 2) 0) (headAt (c .before .before .before .before .before .before .before .before .args .table .now) (c .before .before .before .before .before .before .before .before .args .reals .now) (c .before .before .before .before .before .before .before .before .args .counts .now) (c .before .before .before .before .before .before .before .before .args .w)) (c .before .before .before .before .before .before .before .before .args .s) (c .before .before .before .before .before .before .before .before .args .depth) (c .before .before .before .before .before .before .before .before .args .number) (c .before .before .before .before .before .before .before .before .pre .1 .2)) .bin)
+
+-- src/absorbing.rt:86:16
+absorb-bins-shared-slice-read-link : (t : ℕ) → absorb-bins-lts.Need-shared-slice-read-link (
+  with-sample-reads.Asked,
+  with-sample-reads.Learnt,
+  absorb-child-below t,
+  absorb-child.Post,
+  store-reads.Asked,
+  store-reads.Learnt,
+) (absorb-bins-at t) absorb-bins.Post
+absorb-bins-shared-slice-read-link t c = omega (arith, (c .before .before .before .before .before .before .before .before .before .pre .1 .0), (formed (gridAt (c .before .before .before .before .before .before .before .before .before .args .level) (c .before .before .before .before .before .before .before .before .before .args .table .now) (c .before .before .before .before .before .before .before .before .before .args .reals .now) (c .before .before .before .before .before .before .before .before .before .args .counts .now)) (c .before .before .before .before .before .before .before .before .before .args .table .now) (c .before .before .before .before .before .before .before .before .before .args .reals .now) (c .before .before .before .before .before .before .before .before .before .args .counts .now) (c .before .before .before .before .before .before .before .before .before .args .w) (getD (c .before .before .before .before .before .before .before .before .before .args .table .now) ((c .before .before .before .before .before .before .before .before .before .args .w) + 2) 0) (headAt (c .before .before .before .before .before .before .before .before .before .args .table .now) (c .before .before .before .before .before .before .before .before .before .args .reals .now) (c .before .before .before .before .before .before .before .before .before .args .counts .now) (c .before .before .before .before .before .before .before .before .before .args .w)) (c .before .before .before .before .before .before .before .before .before .args .s) (c .before .before .before .before .before .before .before .before .before .args .depth) (c .before .before .before .before .before .before .before .before .before .args .number) (c .before .before .before .before .before .before .before .before .before .pre .1 .2)) .bin)
+
+-- src/absorbing.rt:87:33
+absorb-bins-add-value : (t : ℕ) → absorb-bins-lts.Need-add-value (
+  with-sample-reads.Asked,
+  with-sample-reads.Learnt,
+  absorb-child-below t,
+  absorb-child.Post,
+  store-reads.Asked,
+  store-reads.Learnt,
+) (absorb-bins-at t) absorb-bins.Post
+absorb-bins-add-value t c = omega (arith, (c .before .before .before .before .before .before .before .before .before .pre .1 .0), (formed (gridAt (c .before .before .before .before .before .before .before .before .before .args .level) (c .before .before .before .before .before .before .before .before .before .args .table .now) (c .before .before .before .before .before .before .before .before .before .args .reals .now) (c .before .before .before .before .before .before .before .before .before .args .counts .now)) (c .before .before .before .before .before .before .before .before .before .args .table .now) (c .before .before .before .before .before .before .before .before .before .args .reals .now) (c .before .before .before .before .before .before .before .before .before .args .counts .now) (c .before .before .before .before .before .before .before .before .before .args .w) (getD (c .before .before .before .before .before .before .before .before .before .args .table .now) ((c .before .before .before .before .before .before .before .before .before .args .w) + 2) 0) (headAt (c .before .before .before .before .before .before .before .before .before .args .table .now) (c .before .before .before .before .before .before .before .before .before .args .reals .now) (c .before .before .before .before .before .before .before .before .before .args .counts .now) (c .before .before .before .before .before .before .before .before .before .args .w)) (c .before .before .before .before .before .before .before .before .before .args .s) (c .before .before .before .before .before .before .before .before .before .args .depth) (c .before .before .before .before .before .before .before .before .before .args .number) (c .before .before .before .before .before .before .before .before .before .pre .1 .2)) .bin)
+
+-- src/absorbing.rt:87:33
+absorb-bins-add-value-2 : (t : ℕ) → absorb-bins-lts.Need-add-value-2 (
+  with-sample-reads.Asked,
+  with-sample-reads.Learnt,
+  absorb-child-below t,
+  absorb-child.Post,
+  store-reads.Asked,
+  store-reads.Learnt,
+) (absorb-bins-at t) absorb-bins.Post
+absorb-bins-add-value-2 t c = omega (arith, (c .before .before .before .before .before .before .before .before .before .pre .1 .0), (formed (gridAt (c .before .before .before .before .before .before .before .before .before .args .level) (c .before .before .before .before .before .before .before .before .before .args .table .now) (c .before .before .before .before .before .before .before .before .before .args .reals .now) (c .before .before .before .before .before .before .before .before .before .args .counts .now)) (c .before .before .before .before .before .before .before .before .before .args .table .now) (c .before .before .before .before .before .before .before .before .before .args .reals .now) (c .before .before .before .before .before .before .before .before .before .args .counts .now) (c .before .before .before .before .before .before .before .before .before .args .w) (getD (c .before .before .before .before .before .before .before .before .before .args .table .now) ((c .before .before .before .before .before .before .before .before .before .args .w) + 2) 0) (headAt (c .before .before .before .before .before .before .before .before .before .args .table .now) (c .before .before .before .before .before .before .before .before .before .args .reals .now) (c .before .before .before .before .before .before .before .before .before .args .counts .now) (c .before .before .before .before .before .before .before .before .before .args .w)) (c .before .before .before .before .before .before .before .before .before .args .s) (c .before .before .before .before .before .before .before .before .before .args .depth) (c .before .before .before .before .before .before .before .before .before .args .number) (c .before .before .before .before .before .before .before .before .before .pre .1 .2)) .bin)
+
+-- src/absorbing.rt:87:27
+absorb-bins-mul-value : (t : ℕ) → absorb-bins-lts.Need-mul-value (
+  with-sample-reads.Asked,
+  with-sample-reads.Learnt,
+  absorb-child-below t,
+  absorb-child.Post,
+  store-reads.Asked,
+  store-reads.Learnt,
+) (absorb-bins-at t) absorb-bins.Post
+absorb-bins-mul-value t c = omega (arith, (c .before .before .before .before .before .before .before .before .before .pre .1 .0), (formed (gridAt (c .before .before .before .before .before .before .before .before .before .args .level) (c .before .before .before .before .before .before .before .before .before .args .table .now) (c .before .before .before .before .before .before .before .before .before .args .reals .now) (c .before .before .before .before .before .before .before .before .before .args .counts .now)) (c .before .before .before .before .before .before .before .before .before .args .table .now) (c .before .before .before .before .before .before .before .before .before .args .reals .now) (c .before .before .before .before .before .before .before .before .before .args .counts .now) (c .before .before .before .before .before .before .before .before .before .args .w) (getD (c .before .before .before .before .before .before .before .before .before .args .table .now) ((c .before .before .before .before .before .before .before .before .before .args .w) + 2) 0) (headAt (c .before .before .before .before .before .before .before .before .before .args .table .now) (c .before .before .before .before .before .before .before .before .before .args .reals .now) (c .before .before .before .before .before .before .before .before .before .args .counts .now) (c .before .before .before .before .before .before .before .before .before .args .w)) (c .before .before .before .before .before .before .before .before .before .args .s) (c .before .before .before .before .before .before .before .before .before .args .depth) (c .before .before .before .before .before .before .before .before .before .args .number) (c .before .before .before .before .before .before .before .before .before .pre .1 .2)) .bin)
+
+-- src/absorbing.rt:87:27
+absorb-bins-slice-read-value : (t : ℕ) → absorb-bins-lts.Need-slice-read-value (
+  with-sample-reads.Asked,
+  with-sample-reads.Learnt,
+  absorb-child-below t,
+  absorb-child.Post,
+  store-reads.Asked,
+  store-reads.Learnt,
+) (absorb-bins-at t) absorb-bins.Post
+absorb-bins-slice-read-value t c = omega (arith, (c .before .before .before .before .before .before .before .before .before .before .pre .1 .0), (formed (gridAt (c .before .before .before .before .before .before .before .before .before .before .args .level) (c .before .before .before .before .before .before .before .before .before .before .args .table .now) (c .before .before .before .before .before .before .before .before .before .before .args .reals .now) (c .before .before .before .before .before .before .before .before .before .before .args .counts .now)) (c .before .before .before .before .before .before .before .before .before .before .args .table .now) (c .before .before .before .before .before .before .before .before .before .before .args .reals .now) (c .before .before .before .before .before .before .before .before .before .before .args .counts .now) (c .before .before .before .before .before .before .before .before .before .before .args .w) (getD (c .before .before .before .before .before .before .before .before .before .before .args .table .now) ((c .before .before .before .before .before .before .before .before .before .before .args .w) + 2) 0) (headAt (c .before .before .before .before .before .before .before .before .before .before .args .table .now) (c .before .before .before .before .before .before .before .before .before .before .args .reals .now) (c .before .before .before .before .before .before .before .before .before .before .args .counts .now) (c .before .before .before .before .before .before .before .before .before .before .args .w)) (c .before .before .before .before .before .before .before .before .before .before .args .s) (c .before .before .before .before .before .before .before .before .before .before .args .depth) (c .before .before .before .before .before .before .before .before .before .before .args .number) (c .before .before .before .before .before .before .before .before .before .before .pre .1 .2)) .bin)
+
+-- src/absorbing.rt:88:9
+absorb-bins-with-sample-requires : (t : ℕ) → absorb-bins-lts.Need-with-sample-requires (
+  with-sample-reads.Asked,
+  with-sample-reads.Learnt,
+  absorb-child-below t,
+  absorb-child.Post,
+  store-reads.Asked,
+  store-reads.Learnt,
+) (absorb-bins-at t) absorb-bins.Post
+absorb-bins-with-sample-requires t c κs = (omega (arith, (c .before .before .before .before .before .before .before .before .before .before .before .before .pre .1 .0)), omega (arith, (c .before .before .before .before .before .before .before .before .before .before .before .before .pre .1 .0)))
+
+-- src/absorbing.rt:89:19
+absorb-bins-add-inner-r : (t : ℕ) → absorb-bins-lts.Need-add-inner-r (
+  with-sample-reads.Asked,
+  with-sample-reads.Learnt,
+  absorb-child-below t,
+  absorb-child.Post,
+  store-reads.Asked,
+  store-reads.Learnt,
+) (absorb-bins-at t) absorb-bins.Post
+absorb-bins-add-inner-r t c = omega (arith, (c .before .before .before .before .before .before .before .before .before .before .before .before .before .pre .1 .0), (formed (gridAt (c .before .before .before .before .before .before .before .before .before .before .before .before .before .args .level) (c .before .before .before .before .before .before .before .before .before .before .before .before .before .args .table .now) (c .before .before .before .before .before .before .before .before .before .before .before .before .before .args .reals .now) (c .before .before .before .before .before .before .before .before .before .before .before .before .before .args .counts .now)) (c .before .before .before .before .before .before .before .before .before .before .before .before .before .args .table .now) (c .before .before .before .before .before .before .before .before .before .before .before .before .before .args .reals .now) (c .before .before .before .before .before .before .before .before .before .before .before .before .before .args .counts .now) (c .before .before .before .before .before .before .before .before .before .before .before .before .before .args .w) (getD (c .before .before .before .before .before .before .before .before .before .before .before .before .before .args .table .now) ((c .before .before .before .before .before .before .before .before .before .before .before .before .before .args .w) + 2) 0) (headAt (c .before .before .before .before .before .before .before .before .before .before .before .before .before .args .table .now) (c .before .before .before .before .before .before .before .before .before .before .before .before .before .args .reals .now) (c .before .before .before .before .before .before .before .before .before .before .before .before .before .args .counts .now) (c .before .before .before .before .before .before .before .before .before .before .before .before .before .args .w)) (c .before .before .before .before .before .before .before .before .before .before .before .before .before .args .s) (c .before .before .before .before .before .before .before .before .before .before .before .before .before .args .depth) (c .before .before .before .before .before .before .before .before .before .before .before .before .before .args .number) (c .before .before .before .before .before .before .before .before .before .before .before .before .before .pre .1 .2)) .bin)
+
+-- src/absorbing.rt:89:19
+absorb-bins-add-inner-r-2 : (t : ℕ) → absorb-bins-lts.Need-add-inner-r-2 (
+  with-sample-reads.Asked,
+  with-sample-reads.Learnt,
+  absorb-child-below t,
+  absorb-child.Post,
+  store-reads.Asked,
+  store-reads.Learnt,
+) (absorb-bins-at t) absorb-bins.Post
+absorb-bins-add-inner-r-2 t c = omega (arith, (c .before .before .before .before .before .before .before .before .before .before .before .before .before .pre .1 .0), (formed (gridAt (c .before .before .before .before .before .before .before .before .before .before .before .before .before .args .level) (c .before .before .before .before .before .before .before .before .before .before .before .before .before .args .table .now) (c .before .before .before .before .before .before .before .before .before .before .before .before .before .args .reals .now) (c .before .before .before .before .before .before .before .before .before .before .before .before .before .args .counts .now)) (c .before .before .before .before .before .before .before .before .before .before .before .before .before .args .table .now) (c .before .before .before .before .before .before .before .before .before .before .before .before .before .args .reals .now) (c .before .before .before .before .before .before .before .before .before .before .before .before .before .args .counts .now) (c .before .before .before .before .before .before .before .before .before .before .before .before .before .args .w) (getD (c .before .before .before .before .before .before .before .before .before .before .before .before .before .args .table .now) ((c .before .before .before .before .before .before .before .before .before .before .before .before .before .args .w) + 2) 0) (headAt (c .before .before .before .before .before .before .before .before .before .before .before .before .before .args .table .now) (c .before .before .before .before .before .before .before .before .before .before .before .before .before .args .reals .now) (c .before .before .before .before .before .before .before .before .before .before .before .before .before .args .counts .now) (c .before .before .before .before .before .before .before .before .before .before .before .before .before .args .w)) (c .before .before .before .before .before .before .before .before .before .before .before .before .before .args .s) (c .before .before .before .before .before .before .before .before .before .before .before .before .before .args .depth) (c .before .before .before .before .before .before .before .before .before .before .before .before .before .args .number) (c .before .before .before .before .before .before .before .before .before .before .before .before .before .pre .1 .2)) .bin)
+
+-- src/absorbing.rt:89:32
+absorb-bins-mul-inner-r : (t : ℕ) → absorb-bins-lts.Need-mul-inner-r (
+  with-sample-reads.Asked,
+  with-sample-reads.Learnt,
+  absorb-child-below t,
+  absorb-child.Post,
+  store-reads.Asked,
+  store-reads.Learnt,
+) (absorb-bins-at t) absorb-bins.Post
+absorb-bins-mul-inner-r t c = omega (arith, (c .before .before .before .before .before .before .before .before .before .before .before .before .before .pre .1 .0), (formed (gridAt (c .before .before .before .before .before .before .before .before .before .before .before .before .before .args .level) (c .before .before .before .before .before .before .before .before .before .before .before .before .before .args .table .now) (c .before .before .before .before .before .before .before .before .before .before .before .before .before .args .reals .now) (c .before .before .before .before .before .before .before .before .before .before .before .before .before .args .counts .now)) (c .before .before .before .before .before .before .before .before .before .before .before .before .before .args .table .now) (c .before .before .before .before .before .before .before .before .before .before .before .before .before .args .reals .now) (c .before .before .before .before .before .before .before .before .before .before .before .before .before .args .counts .now) (c .before .before .before .before .before .before .before .before .before .before .before .before .before .args .w) (getD (c .before .before .before .before .before .before .before .before .before .before .before .before .before .args .table .now) ((c .before .before .before .before .before .before .before .before .before .before .before .before .before .args .w) + 2) 0) (headAt (c .before .before .before .before .before .before .before .before .before .before .before .before .before .args .table .now) (c .before .before .before .before .before .before .before .before .before .before .before .before .before .args .reals .now) (c .before .before .before .before .before .before .before .before .before .before .before .before .before .args .counts .now) (c .before .before .before .before .before .before .before .before .before .before .before .before .before .args .w)) (c .before .before .before .before .before .before .before .before .before .before .before .before .before .args .s) (c .before .before .before .before .before .before .before .before .before .before .before .before .before .args .depth) (c .before .before .before .before .before .before .before .before .before .before .before .before .before .args .number) (c .before .before .before .before .before .before .before .before .before .before .before .before .before .pre .1 .2)) .bin)
+
+-- src/absorbing.rt:89:19
+absorb-bins-add-inner-r-3 : (t : ℕ) → absorb-bins-lts.Need-add-inner-r-3 (
+  with-sample-reads.Asked,
+  with-sample-reads.Learnt,
+  absorb-child-below t,
+  absorb-child.Post,
+  store-reads.Asked,
+  store-reads.Learnt,
+) (absorb-bins-at t) absorb-bins.Post
+absorb-bins-add-inner-r-3 t c = omega (arith, (c .before .before .before .before .before .before .before .before .before .before .before .before .before .pre .1 .0), (formed (gridAt (c .before .before .before .before .before .before .before .before .before .before .before .before .before .args .level) (c .before .before .before .before .before .before .before .before .before .before .before .before .before .args .table .now) (c .before .before .before .before .before .before .before .before .before .before .before .before .before .args .reals .now) (c .before .before .before .before .before .before .before .before .before .before .before .before .before .args .counts .now)) (c .before .before .before .before .before .before .before .before .before .before .before .before .before .args .table .now) (c .before .before .before .before .before .before .before .before .before .before .before .before .before .args .reals .now) (c .before .before .before .before .before .before .before .before .before .before .before .before .before .args .counts .now) (c .before .before .before .before .before .before .before .before .before .before .before .before .before .args .w) (getD (c .before .before .before .before .before .before .before .before .before .before .before .before .before .args .table .now) ((c .before .before .before .before .before .before .before .before .before .before .before .before .before .args .w) + 2) 0) (headAt (c .before .before .before .before .before .before .before .before .before .before .before .before .before .args .table .now) (c .before .before .before .before .before .before .before .before .before .before .before .before .before .args .reals .now) (c .before .before .before .before .before .before .before .before .before .before .before .before .before .args .counts .now) (c .before .before .before .before .before .before .before .before .before .before .before .before .before .args .w)) (c .before .before .before .before .before .before .before .before .before .before .before .before .before .args .s) (c .before .before .before .before .before .before .before .before .before .before .before .before .before .args .depth) (c .before .before .before .before .before .before .before .before .before .before .before .before .before .args .number) (c .before .before .before .before .before .before .before .before .before .before .before .before .before .pre .1 .2)) .bin)
+
+-- src/absorbing.rt:90:19
+absorb-bins-add-inner-c : (t : ℕ) → absorb-bins-lts.Need-add-inner-c (
+  with-sample-reads.Asked,
+  with-sample-reads.Learnt,
+  absorb-child-below t,
+  absorb-child.Post,
+  store-reads.Asked,
+  store-reads.Learnt,
+) (absorb-bins-at t) absorb-bins.Post
+absorb-bins-add-inner-c t c = omega (arith, (c .before .before .before .before .before .before .before .before .before .before .before .before .before .pre .1 .0), (formed (gridAt (c .before .before .before .before .before .before .before .before .before .before .before .before .before .args .level) (c .before .before .before .before .before .before .before .before .before .before .before .before .before .args .table .now) (c .before .before .before .before .before .before .before .before .before .before .before .before .before .args .reals .now) (c .before .before .before .before .before .before .before .before .before .before .before .before .before .args .counts .now)) (c .before .before .before .before .before .before .before .before .before .before .before .before .before .args .table .now) (c .before .before .before .before .before .before .before .before .before .before .before .before .before .args .reals .now) (c .before .before .before .before .before .before .before .before .before .before .before .before .before .args .counts .now) (c .before .before .before .before .before .before .before .before .before .before .before .before .before .args .w) (getD (c .before .before .before .before .before .before .before .before .before .before .before .before .before .args .table .now) ((c .before .before .before .before .before .before .before .before .before .before .before .before .before .args .w) + 2) 0) (headAt (c .before .before .before .before .before .before .before .before .before .before .before .before .before .args .table .now) (c .before .before .before .before .before .before .before .before .before .before .before .before .before .args .reals .now) (c .before .before .before .before .before .before .before .before .before .before .before .before .before .args .counts .now) (c .before .before .before .before .before .before .before .before .before .before .before .before .before .args .w)) (c .before .before .before .before .before .before .before .before .before .before .before .before .before .args .s) (c .before .before .before .before .before .before .before .before .before .before .before .before .before .args .depth) (c .before .before .before .before .before .before .before .before .before .before .before .before .before .args .number) (c .before .before .before .before .before .before .before .before .before .before .before .before .before .pre .1 .2)) .bin)
+
+-- src/absorbing.rt:90:27
+absorb-bins-mul-inner-c : (t : ℕ) → absorb-bins-lts.Need-mul-inner-c (
+  with-sample-reads.Asked,
+  with-sample-reads.Learnt,
+  absorb-child-below t,
+  absorb-child.Post,
+  store-reads.Asked,
+  store-reads.Learnt,
+) (absorb-bins-at t) absorb-bins.Post
+absorb-bins-mul-inner-c t c = omega (arith, (c .before .before .before .before .before .before .before .before .before .before .before .before .before .pre .1 .0), (formed (gridAt (c .before .before .before .before .before .before .before .before .before .before .before .before .before .args .level) (c .before .before .before .before .before .before .before .before .before .before .before .before .before .args .table .now) (c .before .before .before .before .before .before .before .before .before .before .before .before .before .args .reals .now) (c .before .before .before .before .before .before .before .before .before .before .before .before .before .args .counts .now)) (c .before .before .before .before .before .before .before .before .before .before .before .before .before .args .table .now) (c .before .before .before .before .before .before .before .before .before .before .before .before .before .args .reals .now) (c .before .before .before .before .before .before .before .before .before .before .before .before .before .args .counts .now) (c .before .before .before .before .before .before .before .before .before .before .before .before .before .args .w) (getD (c .before .before .before .before .before .before .before .before .before .before .before .before .before .args .table .now) ((c .before .before .before .before .before .before .before .before .before .before .before .before .before .args .w) + 2) 0) (headAt (c .before .before .before .before .before .before .before .before .before .before .before .before .before .args .table .now) (c .before .before .before .before .before .before .before .before .before .before .before .before .before .args .reals .now) (c .before .before .before .before .before .before .before .before .before .before .before .before .before .args .counts .now) (c .before .before .before .before .before .before .before .before .before .before .before .before .before .args .w)) (c .before .before .before .before .before .before .before .before .before .before .before .before .before .args .s) (c .before .before .before .before .before .before .before .before .before .before .before .before .before .args .depth) (c .before .before .before .before .before .before .before .before .before .before .before .before .before .args .number) (c .before .before .before .before .before .before .before .before .before .before .before .before .before .pre .1 .2)) .bin)
+
+-- src/absorbing.rt:90:19
+absorb-bins-add-inner-c-2 : (t : ℕ) → absorb-bins-lts.Need-add-inner-c-2 (
+  with-sample-reads.Asked,
+  with-sample-reads.Learnt,
+  absorb-child-below t,
+  absorb-child.Post,
+  store-reads.Asked,
+  store-reads.Learnt,
+) (absorb-bins-at t) absorb-bins.Post
+absorb-bins-add-inner-c-2 t c = omega (arith, (c .before .before .before .before .before .before .before .before .before .before .before .before .before .pre .1 .0), (formed (gridAt (c .before .before .before .before .before .before .before .before .before .before .before .before .before .args .level) (c .before .before .before .before .before .before .before .before .before .before .before .before .before .args .table .now) (c .before .before .before .before .before .before .before .before .before .before .before .before .before .args .reals .now) (c .before .before .before .before .before .before .before .before .before .before .before .before .before .args .counts .now)) (c .before .before .before .before .before .before .before .before .before .before .before .before .before .args .table .now) (c .before .before .before .before .before .before .before .before .before .before .before .before .before .args .reals .now) (c .before .before .before .before .before .before .before .before .before .before .before .before .before .args .counts .now) (c .before .before .before .before .before .before .before .before .before .before .before .before .before .args .w) (getD (c .before .before .before .before .before .before .before .before .before .before .before .before .before .args .table .now) ((c .before .before .before .before .before .before .before .before .before .before .before .before .before .args .w) + 2) 0) (headAt (c .before .before .before .before .before .before .before .before .before .before .before .before .before .args .table .now) (c .before .before .before .before .before .before .before .before .before .before .before .before .before .args .reals .now) (c .before .before .before .before .before .before .before .before .before .before .before .before .before .args .counts .now) (c .before .before .before .before .before .before .before .before .before .before .before .before .before .args .w)) (c .before .before .before .before .before .before .before .before .before .before .before .before .before .args .s) (c .before .before .before .before .before .before .before .before .before .before .before .before .before .args .depth) (c .before .before .before .before .before .before .before .before .before .before .before .before .before .args .number) (c .before .before .before .before .before .before .before .before .before .before .before .before .before .pre .1 .2)) .bin)
+
+-- src/absorbing.rt:91:9
+absorb-bins-with-sample-requires-2 : (t : ℕ) → absorb-bins-lts.Need-with-sample-requires-2 (
+  with-sample-reads.Asked,
+  with-sample-reads.Learnt,
+  absorb-child-below t,
+  absorb-child.Post,
+  store-reads.Asked,
+  store-reads.Learnt,
+) (absorb-bins-at t) absorb-bins.Post
+absorb-bins-with-sample-requires-2 t c κs = (omega (arith, (c .before .before .before .before .before .before .before .before .before .before .before .before .before .before .before .pre .1 .0), (formed (gridAt (c .before .before .before .before .before .before .before .before .before .before .before .before .before .before .before .args .level) (c .before .before .before .before .before .before .before .before .before .before .before .before .before .before .before .args .table .now) (c .before .before .before .before .before .before .before .before .before .before .before .before .before .before .before .args .reals .now) (c .before .before .before .before .before .before .before .before .before .before .before .before .before .before .before .args .counts .now)) (c .before .before .before .before .before .before .before .before .before .before .before .before .before .before .before .args .table .now) (c .before .before .before .before .before .before .before .before .before .before .before .before .before .before .before .args .reals .now) (c .before .before .before .before .before .before .before .before .before .before .before .before .before .before .before .args .counts .now) (c .before .before .before .before .before .before .before .before .before .before .before .before .before .before .before .args .w) (getD (c .before .before .before .before .before .before .before .before .before .before .before .before .before .before .before .args .table .now) ((c .before .before .before .before .before .before .before .before .before .before .before .before .before .before .before .args .w) + 2) 0) (headAt (c .before .before .before .before .before .before .before .before .before .before .before .before .before .before .before .args .table .now) (c .before .before .before .before .before .before .before .before .before .before .before .before .before .before .before .args .reals .now) (c .before .before .before .before .before .before .before .before .before .before .before .before .before .before .before .args .counts .now) (c .before .before .before .before .before .before .before .before .before .before .before .before .before .before .before .args .w)) (c .before .before .before .before .before .before .before .before .before .before .before .before .before .before .before .args .s) (c .before .before .before .before .before .before .before .before .before .before .before .before .before .before .before .args .depth) (c .before .before .before .before .before .before .before .before .before .before .before .before .before .before .before .args .number) (c .before .before .before .before .before .before .before .before .before .before .before .before .before .before .before .pre .1 .2)) .bin), omega (arith, (c .before .before .before .before .before .before .before .before .before .before .before .before .before .before .before .pre .1 .0), (formed (gridAt (c .before .before .before .before .before .before .before .before .before .before .before .before .before .before .before .args .level) (c .before .before .before .before .before .before .before .before .before .before .before .before .before .before .before .args .table .now) (c .before .before .before .before .before .before .before .before .before .before .before .before .before .before .before .args .reals .now) (c .before .before .before .before .before .before .before .before .before .before .before .before .before .before .before .args .counts .now)) (c .before .before .before .before .before .before .before .before .before .before .before .before .before .before .before .args .table .now) (c .before .before .before .before .before .before .before .before .before .before .before .before .before .before .before .args .reals .now) (c .before .before .before .before .before .before .before .before .before .before .before .before .before .before .before .args .counts .now) (c .before .before .before .before .before .before .before .before .before .before .before .before .before .before .before .args .w) (getD (c .before .before .before .before .before .before .before .before .before .before .before .before .before .before .before .args .table .now) ((c .before .before .before .before .before .before .before .before .before .before .before .before .before .before .before .args .w) + 2) 0) (headAt (c .before .before .before .before .before .before .before .before .before .before .before .before .before .before .before .args .table .now) (c .before .before .before .before .before .before .before .before .before .before .before .before .before .before .before .args .reals .now) (c .before .before .before .before .before .before .before .before .before .before .before .before .before .before .before .args .counts .now) (c .before .before .before .before .before .before .before .before .before .before .before .before .before .before .before .args .w)) (c .before .before .before .before .before .before .before .before .before .before .before .before .before .before .before .args .s) (c .before .before .before .before .before .before .before .before .before .before .before .before .before .before .before .args .depth) (c .before .before .before .before .before .before .before .before .before .before .before .before .before .before .before .args .number) (c .before .before .before .before .before .before .before .before .before .before .before .before .before .before .before .pre .1 .2)) .bin))
+
+-- src/absorbing.rt:92:56
+absorb-bins-add-absorb-child : (t : ℕ) → absorb-bins-lts.Need-add-absorb-child (
+  with-sample-reads.Asked,
+  with-sample-reads.Learnt,
+  absorb-child-below t,
+  absorb-child.Post,
+  store-reads.Asked,
+  store-reads.Learnt,
+) (absorb-bins-at t) absorb-bins.Post
+absorb-bins-add-absorb-child t c = omega (arith, c .before .before .before .before .before .before .before .before .before .before .before .before .before .before .before .before .before .before .pre .1 .1)
+
+-- src/absorbing.rt:92:5
+absorb-bins-absorb-child-requires : (t : ℕ) → absorb-bins-lts.Need-absorb-child-requires (
+  with-sample-reads.Asked,
+  with-sample-reads.Learnt,
+  absorb-child-below t,
+  absorb-child.Post,
+  store-reads.Asked,
+  store-reads.Learnt,
+) (absorb-bins-at t) absorb-bins.Post
+unfolding ChildLaid
+absorb-bins-absorb-child-requires t c κs = (omega (arith, c .before .before .before .before .before .before .before .before .before .before .before .before .before .before .before .before .before .before .pre .0), (λ z. (c .before .before .before .before .before .before .before .before .before .before .before .before .before .before .before .before .before .before .pre .1 .0) .children (getD ((c .before .before .before .before .before .before .before .before .before .before .before .before .before .before .before .before .before .before .args .s) .path) (c .before .before .before .before .before .before .before .before .before .before .before .before .before .before .before .before .before .before .args .depth) 0) ((formed (gridAt (c .before .before .before .before .before .before .before .before .before .before .before .before .before .before .before .before .before .before .args .level) (c .before .before .before .before .before .before .before .before .before .before .before .before .before .before .before .before .before .before .args .table .now) (c .before .before .before .before .before .before .before .before .before .before .before .before .before .before .before .before .before .before .args .reals .now) (c .before .before .before .before .before .before .before .before .before .before .before .before .before .before .before .before .before .before .args .counts .now)) (c .before .before .before .before .before .before .before .before .before .before .before .before .before .before .before .before .before .before .args .table .now) (c .before .before .before .before .before .before .before .before .before .before .before .before .before .before .before .before .before .before .args .reals .now) (c .before .before .before .before .before .before .before .before .before .before .before .before .before .before .before .before .before .before .args .counts .now) (c .before .before .before .before .before .before .before .before .before .before .before .before .before .before .before .before .before .before .args .w) (getD (c .before .before .before .before .before .before .before .before .before .before .before .before .before .before .before .before .before .before .args .table .now) ((c .before .before .before .before .before .before .before .before .before .before .before .before .before .before .before .before .before .before .args .w) + 2) 0) (headAt (c .before .before .before .before .before .before .before .before .before .before .before .before .before .before .before .before .before .before .args .table .now) (c .before .before .before .before .before .before .before .before .before .before .before .before .before .before .before .before .before .before .args .reals .now) (c .before .before .before .before .before .before .before .before .before .before .before .before .before .before .before .before .before .before .args .counts .now) (c .before .before .before .before .before .before .before .before .before .before .before .before .before .before .before .before .before .before .args .w)) (c .before .before .before .before .before .before .before .before .before .before .before .before .before .before .before .before .before .before .args .s) (c .before .before .before .before .before .before .before .before .before .before .before .before .before .before .before .before .before .before .args .depth) (c .before .before .before .before .before .before .before .before .before .before .before .before .before .before .before .before .before .before .args .number) (c .before .before .before .before .before .before .before .before .before .before .before .before .before .before .before .before .before .before .pre .1 .2)) .bin) z, omega (arith, c .before .before .before .before .before .before .before .before .before .before .before .before .before .before .before .before .before .before .pre .1 .1), takes-below (gridAt (c .before .before .before .before .before .before .before .before .before .before .before .before .before .before .before .before .before .before .args .level) (c .before .before .before .before .before .before .before .before .before .before .before .before .before .before .before .before .before .before .args .table .now) (c .before .before .before .before .before .before .before .before .before .before .before .before .before .before .before .before .before .before .args .reals .now) (c .before .before .before .before .before .before .before .before .before .before .before .before .before .before .before .before .before .before .args .counts .now)) (c .before .before .before .before .before .before .before .before .before .before .before .before .before .before .before .before .before .before .args .table .now) (c .before .before .before .before .before .before .before .before .before .before .before .before .before .before .before .before .before .before .args .reals .now) (c .before .before .before .before .before .before .before .before .before .before .before .before .before .before .before .before .before .before .args .counts .now) (c .before .before .before .before .before .before .before .before .before .before .before .before .before .before .before .before .before .before .args .w) (getD (c .before .before .before .before .before .before .before .before .before .before .before .before .before .before .before .before .before .before .args .table .now) ((c .before .before .before .before .before .before .before .before .before .before .before .before .before .before .before .before .before .before .args .w) + 2) 0) (headAt (c .before .before .before .before .before .before .before .before .before .before .before .before .before .before .before .before .before .before .args .table .now) (c .before .before .before .before .before .before .before .before .before .before .before .before .before .before .before .before .before .before .args .reals .now) (c .before .before .before .before .before .before .before .before .before .before .before .before .before .before .before .before .before .before .args .counts .now) (c .before .before .before .before .before .before .before .before .before .before .before .before .before .before .before .before .before .before .args .w)) (c .before .before .before .before .before .before .before .before .before .before .before .before .before .before .before .before .before .before .args .s) (c .before .before .before .before .before .before .before .before .before .before .before .before .before .before .before .before .before .before .args .depth) (c .before .before .before .before .before .before .before .before .before .before .before .before .before .before .before .before .before .before .args .number) (c .before .before .before .before .before .before .before .before .before .before .before .before .before .before .before .before .before .before .pre .1 .2)))
+
+-- src/absorbing.rt:93:5
+absorb-bins-store-requires : (t : ℕ) → absorb-bins-lts.Need-store-requires (
+  with-sample-reads.Asked,
+  with-sample-reads.Learnt,
+  absorb-child-below t,
+  absorb-child.Post,
+  store-reads.Asked,
+  store-reads.Learnt,
+) (absorb-bins-at t) absorb-bins.Post
+absorb-bins-store-requires t c κs = (omega (arith, (c .before .before .before .before .before .before .before .before .before .before .before .before .before .before .before .before .before .before .before .before .before .before .before .before .before .pre .1 .0), (formed (gridAt (c .before .before .before .before .before .before .before .before .before .before .before .before .before .before .before .before .before .before .before .before .before .before .before .before .before .args .level) (c .before .before .before .before .before .before .before .before .before .before .before .before .before .before .before .before .before .before .before .before .before .before .before .before .before .args .table .now) (c .before .before .before .before .before .before .before .before .before .before .before .before .before .before .before .before .before .before .before .before .before .before .before .before .before .args .reals .now) (c .before .before .before .before .before .before .before .before .before .before .before .before .before .before .before .before .before .before .before .before .before .before .before .before .before .args .counts .now)) (c .before .before .before .before .before .before .before .before .before .before .before .before .before .before .before .before .before .before .before .before .before .before .before .before .before .args .table .now) (c .before .before .before .before .before .before .before .before .before .before .before .before .before .before .before .before .before .before .before .before .before .before .before .before .before .args .reals .now) (c .before .before .before .before .before .before .before .before .before .before .before .before .before .before .before .before .before .before .before .before .before .before .before .before .before .args .counts .now) (c .before .before .before .before .before .before .before .before .before .before .before .before .before .before .before .before .before .before .before .before .before .before .before .before .before .args .w) (getD (c .before .before .before .before .before .before .before .before .before .before .before .before .before .before .before .before .before .before .before .before .before .before .before .before .before .args .table .now) ((c .before .before .before .before .before .before .before .before .before .before .before .before .before .before .before .before .before .before .before .before .before .before .before .before .before .args .w) + 2) 0) (headAt (c .before .before .before .before .before .before .before .before .before .before .before .before .before .before .before .before .before .before .before .before .before .before .before .before .before .args .table .now) (c .before .before .before .before .before .before .before .before .before .before .before .before .before .before .before .before .before .before .before .before .before .before .before .before .before .args .reals .now) (c .before .before .before .before .before .before .before .before .before .before .before .before .before .before .before .before .before .before .before .before .before .before .before .before .before .args .counts .now) (c .before .before .before .before .before .before .before .before .before .before .before .before .before .before .before .before .before .before .before .before .before .before .before .before .before .args .w)) (c .before .before .before .before .before .before .before .before .before .before .before .before .before .before .before .before .before .before .before .before .before .before .before .before .before .args .s) (c .before .before .before .before .before .before .before .before .before .before .before .before .before .before .before .before .before .before .before .before .before .before .before .before .before .args .depth) (c .before .before .before .before .before .before .before .before .before .before .before .before .before .before .before .before .before .before .before .before .before .before .before .before .before .args .number) (c .before .before .before .before .before .before .before .before .before .before .before .before .before .before .before .before .before .before .before .before .before .before .before .before .before .pre .1 .2)) .bin, c .before .before .before .before .before .before .absorb-child .kept .1 .0), omega (arith, (c .before .before .before .before .before .before .before .before .before .before .before .before .before .before .before .before .before .before .before .before .before .before .before .before .before .pre .1 .0), (formed (gridAt (c .before .before .before .before .before .before .before .before .before .before .before .before .before .before .before .before .before .before .before .before .before .before .before .before .before .args .level) (c .before .before .before .before .before .before .before .before .before .before .before .before .before .before .before .before .before .before .before .before .before .before .before .before .before .args .table .now) (c .before .before .before .before .before .before .before .before .before .before .before .before .before .before .before .before .before .before .before .before .before .before .before .before .before .args .reals .now) (c .before .before .before .before .before .before .before .before .before .before .before .before .before .before .before .before .before .before .before .before .before .before .before .before .before .args .counts .now)) (c .before .before .before .before .before .before .before .before .before .before .before .before .before .before .before .before .before .before .before .before .before .before .before .before .before .args .table .now) (c .before .before .before .before .before .before .before .before .before .before .before .before .before .before .before .before .before .before .before .before .before .before .before .before .before .args .reals .now) (c .before .before .before .before .before .before .before .before .before .before .before .before .before .before .before .before .before .before .before .before .before .before .before .before .before .args .counts .now) (c .before .before .before .before .before .before .before .before .before .before .before .before .before .before .before .before .before .before .before .before .before .before .before .before .before .args .w) (getD (c .before .before .before .before .before .before .before .before .before .before .before .before .before .before .before .before .before .before .before .before .before .before .before .before .before .args .table .now) ((c .before .before .before .before .before .before .before .before .before .before .before .before .before .before .before .before .before .before .before .before .before .before .before .before .before .args .w) + 2) 0) (headAt (c .before .before .before .before .before .before .before .before .before .before .before .before .before .before .before .before .before .before .before .before .before .before .before .before .before .args .table .now) (c .before .before .before .before .before .before .before .before .before .before .before .before .before .before .before .before .before .before .before .before .before .before .before .before .before .args .reals .now) (c .before .before .before .before .before .before .before .before .before .before .before .before .before .before .before .before .before .before .before .before .before .before .before .before .before .args .counts .now) (c .before .before .before .before .before .before .before .before .before .before .before .before .before .before .before .before .before .before .before .before .before .before .before .before .before .args .w)) (c .before .before .before .before .before .before .before .before .before .before .before .before .before .before .before .before .before .before .before .before .before .before .before .before .before .args .s) (c .before .before .before .before .before .before .before .before .before .before .before .before .before .before .before .before .before .before .before .before .before .before .before .before .before .args .depth) (c .before .before .before .before .before .before .before .before .before .before .before .before .before .before .before .before .before .before .before .before .before .before .before .before .before .args .number) (c .before .before .before .before .before .before .before .before .before .before .before .before .before .before .before .before .before .before .before .before .before .before .before .before .before .pre .1 .2)) .bin, c .before .before .before .before .before .before .absorb-child .kept .1 .1 .0))
+
+-- src/absorbing.rt:94:5
+absorb-bins-store-requires-2 : (t : ℕ) → absorb-bins-lts.Need-store-requires-2 (
+  with-sample-reads.Asked,
+  with-sample-reads.Learnt,
+  absorb-child-below t,
+  absorb-child.Post,
+  store-reads.Asked,
+  store-reads.Learnt,
+) (absorb-bins-at t) absorb-bins.Post
+absorb-bins-store-requires-2 t c κs = (omega (arith, (c .before .before .before .before .before .before .before .before .before .before .before .before .before .before .before .before .before .before .before .before .before .before .before .before .before .before .before .before .before .before .before .before .pre .1 .0), c .before .before .before .before .before .before .before .before .before .before .before .before .before .absorb-child .kept .1 .0, c .before .before .before .before .before .before .store .kept .0), omega (arith, (c .before .before .before .before .before .before .before .before .before .before .before .before .before .before .before .before .before .before .before .before .before .before .before .before .before .before .before .before .before .before .before .before .pre .1 .0), c .before .before .before .before .before .before .before .before .before .before .before .before .before .absorb-child .kept .1 .1 .0, c .before .before .before .before .before .before .store .kept .1 .0))
+
+-- src/absorbing.rt:64:1
+absorb-bins-same-length : (t : ℕ) → absorb-bins-lts.Need-same-length (
+  with-sample-reads.Asked,
+  with-sample-reads.Learnt,
+  absorb-child-below t,
+  absorb-child.Post,
+  store-reads.Asked,
+  store-reads.Learnt,
+) (absorb-bins-at t) absorb-bins.Post
+absorb-bins-same-length t c = c .before .before .before .before .store2 .kept .0 ∙ c .before .before .before .before .before .before .before .before .before .before .before .store .kept .0 ∙ c .before .before .before .before .before .before .before .before .before .before .before .before .before .before .before .before .before .before .absorb-child .kept .1 .0
+
+-- src/absorbing.rt:64:1
+absorb-bins-same-length-2 : (t : ℕ) → absorb-bins-lts.Need-same-length-2 (
+  with-sample-reads.Asked,
+  with-sample-reads.Learnt,
+  absorb-child-below t,
+  absorb-child.Post,
+  store-reads.Asked,
+  store-reads.Learnt,
+) (absorb-bins-at t) absorb-bins.Post
+absorb-bins-same-length-2 t c = c .before .before .before .before .store2 .kept .1 .0 ∙ c .before .before .before .before .before .before .before .before .before .before .before .store .kept .1 .0 ∙ c .before .before .before .before .before .before .before .before .before .before .before .before .before .before .before .before .before .before .absorb-child .kept .1 .1 .0
+
+-- src/absorbing.rt:64:1
+absorb-bins-returns : (t : ℕ) → absorb-bins-lts.Need-returns (
+  with-sample-reads.Asked,
+  with-sample-reads.Learnt,
+  absorb-child-below t,
+  absorb-child.Post,
+  store-reads.Asked,
+  store-reads.Learnt,
+) (absorb-bins-at t) absorb-bins.Post
+absorb-bins-returns t c = bins-absorbed (c .before .before .before .before .before .before .before .before .before .before .before .before .before .before .before .before .before .before .before .before .before .before .before .before .before .before .before .before .before .before .before .before .before .before .before .before .before .args .table .now) (c .before .before .before .before .before .before .before .before .before .before .before .before .before .before .before .before .before .before .before .before .before .before .before .before .before .before .before .before .before .before .before .before .before .before .before .before .before .args .s) (c .before .before .before .before .before .before .before .before .before .before .before .before .before .before .before .before .before .before .before .before .before .before .before .before .before .before .before .before .before .before .before .before .before .before .before .before .before .args .evaluation) (c .before .before .before .before .before .before .before .before .before .before .before .before .before .before .before .before .before .before .before .before .before .before .before .before .before .before .before .before .before .before .before .before .before .before .before .before .before .args .number) (c .before .before .before .before .before .before .before .before .before .before .before .before .before .before .before .before .before .before .before .before .before .before .before .before .before .before .before .before .before .before .before .before .before .before .before .before .before .args .w) (c .before .before .before .before .before .before .before .before .before .before .before .before .before .before .before .before .before .before .before .before .before .before .before .before .before .before .before .before .before .before .before .before .before .before .before .before .before .args .depth) (absorbed (c .before .before .before .before .before .before .before .before .before .before .before .before .before .before .before .before .before .before .before .before .before .before .before .before .before .before .before .before .before .before .before .before .before .before .before .before .before .args .level) (c .before .before .before .before .before .before .before .before .before .before .before .before .before .before .before .before .before .before .before .before .before .before .before .before .before .before .before .before .before .before .before .before .before .before .before .before .before .args .table .now) (c .before .before .before .before .before .before .before .before .before .before .before .before .before .before .before .before .before .before .before .before .before .before .before .before .before .before .before .before .before .before .before .before .before .before .before .before .before .args .s) (c .before .before .before .before .before .before .before .before .before .before .before .before .before .before .before .before .before .before .before .before .before .before .before .before .before .before .before .before .before .before .before .before .before .before .before .before .before .args .evaluation) (c .before .before .before .before .before .before .before .before .before .before .before .before .before .before .before .before .before .before .before .before .before .before .before .before .before .before .before .before .before .before .before .before .before .before .before .before .before .args .number)) (memory (c .before .before .before .before .before .before .before .before .before .before .before .before .before .before .before .before .before .before .before .before .before .before .before .before .before .before .before .before .before .before .before .before .before .before .before .before .before .args .reals .now) (c .before .before .before .before .before .before .before .before .before .before .before .before .before .before .before .before .before .before .before .before .before .before .before .before .before .before .before .before .before .before .before .before .before .before .before .before .before .args .counts .now)) (memory (c .before .before .before .before .before .before .before .before .before .before .before .before .before .before .before .before .before .before .absorb-child .last .1 .0) (c .before .before .before .before .before .before .before .before .before .before .before .before .before .before .before .before .before .before .absorb-child .last .1 .1 .0)) (memory (c .before .before .before .before .before .before .before .before .before .before .before .store .last .0) (c .before .before .before .before .before .before .before .before .before .before .before .store .last .1 .0)) (memory (c .before .before .before .before .store2 .last .0) (c .before .before .before .before .store2 .last .1 .0)) (c .before .before .before .before .before .before .before .before .before .before .before .before .before .before .before .before .before .before .before .before .before .before .before .before .with-sample .result) (c .before .before .before .before .before .before .before .before .before .before .before .before .before .before .before .before .before .before .before .before .before .with-sample2 .result) (c .before .before .before .before .before .before .before .before .before .before .before .before .before .before .before .before .before .before .before .before .before .before .before .before .with-sample .ensures) (c .before .before .before .before .before .before .before .before .before .before .before .before .before .before .before .before .before .before .before .before .before .with-sample2 .ensures) (c .before .before .before .before .before .before .before .before .before .before .before .before .before .before .before .before .before .before .absorb-child .ensures) (c .before .before .before .before .before .before .before .before .before .before .before .store .ensures) (c .before .before .before .before .store2 .ensures)
+
+-- src/absorbing.rt:58:9
+absorb-child-returns : (t : ℕ) → absorb-child-lts.Need-returns (
+  absorb-grid-below t,
+  absorb-grid.Post,
+) (absorb-child-at t) absorb-child.Post
+absorb-child-returns t c = nothing-absorbed (absorbed (c .before .before .before .before .args .level) (c .before .before .before .before .args .table .now) (c .before .before .before .before .args .s) (c .before .before .before .before .args .evaluation) (c .before .before .before .before .args .number)) (c .before .before .before .before .args .link) (c .before .before .before .before .args .depth) (memory (c .before .before .before .before .args .reals .now) (c .before .before .before .before .args .counts .now)) (c .if1 .taken)
+
+-- src/absorbing.rt:60:5
+absorb-child-absorb-grid-requires : (t : ℕ) → absorb-child-lts.Need-absorb-grid-requires (
+  absorb-grid-below t,
+  absorb-grid.Post,
+) (absorb-child-at t) absorb-child.Post
+unfolding ChildLaid
+absorb-child-absorb-grid-requires t c κs = (omega (arith, c .before .before .before .before .before .before .pre .0), (c .before .before .before .before .before .before .pre .1 .0 (c .before .before .if1 .left), c .before .before .before .before .before .before .pre .1 .1, takes-grid (gridAt (c .before .before .before .before .before .before .args .level) (c .before .before .before .before .before .before .args .table .now) (c .before .before .before .before .before .before .args .reals .now) (c .before .before .before .before .before .before .args .counts .now)) (c .before .before .before .before .before .before .args .link) (c .before .before .before .before .before .before .args .s) (c .before .before .before .before .before .before .args .depth) (c .before .before .before .before .before .before .args .number) (c .before .before .if1 .left) (c .before .before .before .before .before .before .pre .1 .2)))
+
+-- src/absorbing.rt:43:1
+absorb-child-same-length : (t : ℕ) → absorb-child-lts.Need-same-length (
+  absorb-grid-below t,
+  absorb-grid.Post,
+) (absorb-child-at t) absorb-child.Post
+absorb-child-same-length t c = c .before .before .before .before .absorb-grid .kept .1 .0
+
+-- src/absorbing.rt:43:1
+absorb-child-same-length-2 : (t : ℕ) → absorb-child-lts.Need-same-length-2 (
+  absorb-grid-below t,
+  absorb-grid.Post,
+) (absorb-child-at t) absorb-child.Post
+absorb-child-same-length-2 t c = c .before .before .before .before .absorb-grid .kept .1 .1 .0
+
+-- src/absorbing.rt:43:1
+absorb-child-returns-2 : (t : ℕ) → absorb-child-lts.Need-returns-2 (
+  absorb-grid-below t,
+  absorb-grid.Post,
+) (absorb-child-at t) absorb-child.Post
+absorb-child-returns-2 t c = c .before .before .before .before .absorb-grid .ensures ∙ child-absorbed (absorbed (c .before .before .before .before .before .before .before .before .before .before .before .args .level) (c .before .before .before .before .before .before .before .before .before .before .before .args .table .now) (c .before .before .before .before .before .before .before .before .before .before .before .args .s) (c .before .before .before .before .before .before .before .before .before .before .before .args .evaluation) (c .before .before .before .before .before .before .before .before .before .before .before .args .number)) (c .before .before .before .before .before .before .before .before .before .before .before .args .link) (c .before .before .before .before .before .before .before .before .before .before .before .args .depth) (memory (c .before .before .before .before .before .before .before .before .before .before .before .args .reals .now) (c .before .before .before .before .before .before .before .before .before .before .before .args .counts .now)) (c .before .before .before .before .before .before .before .if1 .left)
+
+-- src/absorbing.rt:112:8
+absorb-grid-mul-if1 : (t : ℕ) → absorb-grid-lts.Need-mul-if1 (
+  absorb-axes-reads.Asked,
+  absorb-axes-reads.Learnt,
+  absorb-bins-below t,
+  absorb-bins.Post,
+) (absorb-grid-at t) absorb-grid.Post
+absorb-grid-mul-if1 t c = let q = (laid-head (c .before .before .before .args .level) (c .before .before .before .args .table .now) (length (c .before .before .before .args .reals .now)) (length (c .before .before .before .args .counts .now)) (c .before .before .before .args .w) (c .before .before .before .pre .1 .0)) in omega arith
+
+-- src/absorbing.rt:112:8
+absorb-grid-shared-slice-read-if1 : (t : ℕ) → absorb-grid-lts.Need-shared-slice-read-if1 (
+  absorb-axes-reads.Asked,
+  absorb-axes-reads.Learnt,
+  absorb-bins-below t,
+  absorb-bins.Post,
+) (absorb-grid-at t) absorb-grid.Post
+absorb-grid-shared-slice-read-if1 t c = let q = (laid-head (c .before .before .before .before .args .level) (c .before .before .before .before .args .table .now) (length (c .before .before .before .before .args .reals .now)) (length (c .before .before .before .before .args .counts .now)) (c .before .before .before .before .args .w) (c .before .before .before .before .pre .1 .0)) in omega arith
+
+-- src/absorbing.rt:113:9
+absorb-grid-absorb-axes-requires : (t : ℕ) → absorb-grid-lts.Need-absorb-axes-requires (
+  absorb-axes-reads.Asked,
+  absorb-axes-reads.Learnt,
+  absorb-bins-below t,
+  absorb-bins.Post,
+) (absorb-grid-at t) absorb-grid.Post
+absorb-grid-absorb-axes-requires t c κs = ((laid-axes (c .before .before .before .before .before .before .before .args .level) (c .before .before .before .before .before .before .before .args .table .now) (length (c .before .before .before .before .before .before .before .args .reals .now)) (length (c .before .before .before .before .before .before .before .args .counts .now)) (c .before .before .before .before .before .before .before .args .w) (c .before .before .before .before .before .before .before .pre .1 .0) (c .before .before .if1 .taken)), omega (arith, c .before .before .before .before .before .before .before .pre .1 .1), subst (λ (g : Grid). Takes g (c .before .before .before .before .before .before .before .args .s) (c .before .before .before .before .before .before .before .args .depth) (c .before .before .before .before .before .before .before .args .number)) (node-axes (c .before .before .before .before .before .before .before .args .level) (c .before .before .before .before .before .before .before .args .table .now) (c .before .before .before .before .before .before .before .args .reals .now) (c .before .before .before .before .before .before .before .args .counts .now) (c .before .before .before .before .before .before .before .args .w) (c .before .before .if1 .taken)) (c .before .before .before .before .before .before .before .pre .1 .2))
+
+-- src/absorbing.rt:114:9
+absorb-grid-same-length : (t : ℕ) → absorb-grid-lts.Need-same-length (
+  absorb-axes-reads.Asked,
+  absorb-axes-reads.Learnt,
+  absorb-bins-below t,
+  absorb-bins.Post,
+) (absorb-grid-at t) absorb-grid.Post
+absorb-grid-same-length t c = c .before .before .before .before .absorb-axes .kept .1 .0
+
+-- src/absorbing.rt:114:9
+absorb-grid-same-length-2 : (t : ℕ) → absorb-grid-lts.Need-same-length-2 (
+  absorb-axes-reads.Asked,
+  absorb-axes-reads.Learnt,
+  absorb-bins-below t,
+  absorb-bins.Post,
+) (absorb-grid-at t) absorb-grid.Post
+absorb-grid-same-length-2 t c = c .before .before .before .before .absorb-axes .kept .1 .1 .0
+
+-- src/absorbing.rt:114:9
+absorb-grid-returns : (t : ℕ) → absorb-grid-lts.Need-returns (
+  absorb-axes-reads.Asked,
+  absorb-axes-reads.Learnt,
+  absorb-bins-below t,
+  absorb-bins.Post,
+) (absorb-grid-at t) absorb-grid.Post
+absorb-grid-returns t c = c .before .before .before .before .absorb-axes .ensures ∙ absorbed-axes (c .before .before .before .before .before .before .before .before .before .before .before .before .args .table .now) (c .before .before .before .before .before .before .before .before .before .before .before .before .args .s) (c .before .before .before .before .before .before .before .before .before .before .before .before .args .evaluation) (c .before .before .before .before .before .before .before .before .before .before .before .before .args .number) (c .before .before .before .before .before .before .before .before .before .before .before .before .args .w) (c .before .before .before .before .before .before .before .before .before .before .before .before .args .depth) (memory (c .before .before .before .before .before .before .before .before .before .before .before .before .args .reals .now) (c .before .before .before .before .before .before .before .before .before .before .before .before .args .counts .now)) (c .before .before .before .before .before .before .before .before .before .before .before .before .args .level) (c .before .before .before .before .before .before .before .if1 .taken)
+
+-- src/absorbing.rt:116:39
+absorb-grid-sub-absorb-bins : (t : ℕ) → absorb-grid-lts.Need-sub-absorb-bins (
+  absorb-axes-reads.Asked,
+  absorb-axes-reads.Learnt,
+  absorb-bins-below t,
+  absorb-bins.Post,
+) (absorb-grid-at t) absorb-grid.Post
+absorb-grid-sub-absorb-bins t c = omega (arith, (laid-bins (c .before .before .before .before .before .before .before .args .level) (c .before .before .before .before .before .before .before .args .table .now) (length (c .before .before .before .before .before .before .before .args .reals .now)) (length (c .before .before .before .before .before .before .before .args .counts .now)) (c .before .before .before .before .before .before .before .args .w) (c .before .before .before .before .before .before .before .pre .1 .0) (c .before .before .if1 .left)) .level)
+
+-- src/absorbing.rt:116:5
+absorb-grid-absorb-bins-requires : (t : ℕ) → absorb-grid-lts.Need-absorb-bins-requires (
+  absorb-axes-reads.Asked,
+  absorb-axes-reads.Learnt,
+  absorb-bins-below t,
+  absorb-bins.Post,
+) (absorb-grid-at t) absorb-grid.Post
+absorb-grid-absorb-bins-requires t c κs = (omega (arith, c .before .before .before .before .before .before .before .pre .0, (laid-bins (c .before .before .before .before .before .before .before .args .level) (c .before .before .before .before .before .before .before .args .table .now) (length (c .before .before .before .before .before .before .before .args .reals .now)) (length (c .before .before .before .before .before .before .before .args .counts .now)) (c .before .before .before .before .before .before .before .args .w) (c .before .before .before .before .before .before .before .pre .1 .0) (c .before .before .if1 .left)) .level), ((laid-bins (c .before .before .before .before .before .before .before .args .level) (c .before .before .before .before .before .before .before .args .table .now) (length (c .before .before .before .before .before .before .before .args .reals .now)) (length (c .before .before .before .before .before .before .before .args .counts .now)) (c .before .before .before .before .before .before .before .args .w) (c .before .before .before .before .before .before .before .pre .1 .0) (c .before .before .if1 .left)) .bins, omega (arith, c .before .before .before .before .before .before .before .pre .1 .1, (laid-bins (c .before .before .before .before .before .before .before .args .level) (c .before .before .before .before .before .before .before .args .table .now) (length (c .before .before .before .before .before .before .before .args .reals .now)) (length (c .before .before .before .before .before .before .before .args .counts .now)) (c .before .before .before .before .before .before .before .args .w) (c .before .before .before .before .before .before .before .pre .1 .0) (c .before .before .if1 .left)) .level), subst (λ (g : Grid). Takes g (c .before .before .before .before .before .before .before .args .s) (c .before .before .before .before .before .before .before .args .depth) (c .before .before .before .before .before .before .before .args .number)) (node-bins (c .before .before .before .before .before .before .before .args .level) (c .before .before .before .before .before .before .before .args .table .now) (c .before .before .before .before .before .before .before .args .reals .now) (c .before .before .before .before .before .before .before .args .counts .now) (c .before .before .before .before .before .before .before .args .w) (c .before .before .if1 .left) ((laid-bins (c .before .before .before .before .before .before .before .args .level) (c .before .before .before .before .before .before .before .args .table .now) (length (c .before .before .before .before .before .before .before .args .reals .now)) (length (c .before .before .before .before .before .before .before .args .counts .now)) (c .before .before .before .before .before .before .before .args .w) (c .before .before .before .before .before .before .before .pre .1 .0) (c .before .before .if1 .left)) .level)) (c .before .before .before .before .before .before .before .pre .1 .2)))
+
+-- src/absorbing.rt:98:1
+absorb-grid-same-length-3 : (t : ℕ) → absorb-grid-lts.Need-same-length-3 (
+  absorb-axes-reads.Asked,
+  absorb-axes-reads.Learnt,
+  absorb-bins-below t,
+  absorb-bins.Post,
+) (absorb-grid-at t) absorb-grid.Post
+absorb-grid-same-length-3 t c = c .before .before .before .before .absorb-bins .kept .1 .0
+
+-- src/absorbing.rt:98:1
+absorb-grid-same-length-4 : (t : ℕ) → absorb-grid-lts.Need-same-length-4 (
+  absorb-axes-reads.Asked,
+  absorb-axes-reads.Learnt,
+  absorb-bins-below t,
+  absorb-bins.Post,
+) (absorb-grid-at t) absorb-grid.Post
+absorb-grid-same-length-4 t c = c .before .before .before .before .absorb-bins .kept .1 .1 .0
+
+-- src/absorbing.rt:98:1
+absorb-grid-returns-2 : (t : ℕ) → absorb-grid-lts.Need-returns-2 (
+  absorb-axes-reads.Asked,
+  absorb-axes-reads.Learnt,
+  absorb-bins-below t,
+  absorb-bins.Post,
+) (absorb-grid-at t) absorb-grid.Post
+absorb-grid-returns-2 t c = c .before .before .before .before .absorb-bins .ensures ∙ absorbed-bins (c .before .before .before .before .before .before .before .before .before .before .before .before .args .table .now) (c .before .before .before .before .before .before .before .before .before .before .before .before .args .s) (c .before .before .before .before .before .before .before .before .before .before .before .before .args .evaluation) (c .before .before .before .before .before .before .before .before .before .before .before .before .args .number) (c .before .before .before .before .before .before .before .before .before .before .before .before .args .w) (c .before .before .before .before .before .before .before .before .before .before .before .before .args .depth) (memory (c .before .before .before .before .before .before .before .before .before .before .before .before .args .reals .now) (c .before .before .before .before .before .before .before .before .before .before .before .before .args .counts .now)) (c .before .before .before .before .before .before .before .before .before .before .before .before .args .level) (c .before .before .before .before .before .before .before .if1 .left) ((laid-bins (c .before .before .before .before .before .before .before .before .before .before .before .before .args .level) (c .before .before .before .before .before .before .before .before .before .before .before .before .args .table .now) (length (c .before .before .before .before .before .before .before .before .before .before .before .before .args .reals .now)) (length (c .before .before .before .before .before .before .before .before .before .before .before .before .args .counts .now)) (c .before .before .before .before .before .before .before .before .before .before .before .before .args .w) (c .before .before .before .before .before .before .before .before .before .before .before .before .pre .1 .0) (c .before .before .before .before .before .before .before .if1 .left)) .level)
+
+pub +absorb-bins+absorb-child+absorb-grid-spec : {M : Type 1} → statement M
++absorb-bins+absorb-child+absorb-grid-spec =
+    close μ-absorb-bins μ-absorb-child μ-absorb-grid (λ t. absorb-bins-lts.spec (
+      with-sample-reads.Asked,
+      with-sample-reads.Learnt,
+      absorb-child-below t,
+      absorb-child.Post,
+      store-reads.Asked,
+      store-reads.Learnt,
+    )
+    (absorb-bins-at t)
+    absorb-bins.Post
+    (absorb-bins-mul-bin t)
+    (absorb-bins-array-read-bin t)
+    (absorb-bins-mul-weight t)
+    (absorb-bins-array-read-weight t)
+    (absorb-bins-add-n t)
+    (absorb-bins-mul-n t)
+    (absorb-bins-shared-slice-read-n t)
+    (absorb-bins-add-r t)
+    (absorb-bins-mul-r t)
+    (absorb-bins-shared-slice-read-r t)
+    (absorb-bins-add-c t)
+    (absorb-bins-mul-c t)
+    (absorb-bins-shared-slice-read-c t)
+    (absorb-bins-add-link t)
+    (absorb-bins-add-link-2 t)
+    (absorb-bins-mul-link t)
+    (absorb-bins-shared-slice-read-link t)
+    (absorb-bins-add-value t)
+    (absorb-bins-add-value-2 t)
+    (absorb-bins-mul-value t)
+    (absorb-bins-slice-read-value t)
+    (absorb-bins-with-sample-requires t)
+    (absorb-bins-add-inner-r t)
+    (absorb-bins-add-inner-r-2 t)
+    (absorb-bins-mul-inner-r t)
+    (absorb-bins-add-inner-r-3 t)
+    (absorb-bins-add-inner-c t)
+    (absorb-bins-mul-inner-c t)
+    (absorb-bins-add-inner-c-2 t)
+    (absorb-bins-with-sample-requires-2 t)
+    (absorb-bins-add-absorb-child t)
+    (absorb-bins-absorb-child-requires t)
+    (absorb-bins-store-requires t)
+    (absorb-bins-store-requires-2 t)
+    (absorb-bins-same-length t)
+    (absorb-bins-same-length-2 t)
+    (absorb-bins-returns t))
+    (λ t. absorb-child-lts.spec
+    (absorb-grid-below t, absorb-grid.Post)
+    (absorb-child-at t)
+    absorb-child.Post
+    (absorb-child-returns t)
+    (absorb-child-absorb-grid-requires t)
+    (absorb-child-same-length t)
+    (absorb-child-same-length-2 t)
+    (absorb-child-returns-2 t))
+    λ t. absorb-grid-lts.spec
+    (absorb-axes-reads.Asked, absorb-axes-reads.Learnt, absorb-bins-below t, absorb-bins.Post)
+    (absorb-grid-at t)
+    absorb-grid.Post
+    (absorb-grid-mul-if1 t)
+    (absorb-grid-shared-slice-read-if1 t)
+    (absorb-grid-absorb-axes-requires t)
+    (absorb-grid-same-length t)
+    (absorb-grid-same-length-2 t)
+    (absorb-grid-returns t)
+    (absorb-grid-sub-absorb-bins t)
+    (absorb-grid-absorb-bins-requires t)
+    (absorb-grid-same-length-3 t)
+    (absorb-grid-same-length-4 t)
+    (absorb-grid-returns-2 t)

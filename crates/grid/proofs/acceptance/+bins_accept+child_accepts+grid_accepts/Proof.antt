@@ -1,0 +1,520 @@
+-- Of a well-formed grid only what the sample touches may fail: along the path an accumulator, the bin's, and what hangs there.
+use mathlib.Core.Path.{sym, ap, ap₂, _∙_, subst}
+use mathlib.Core.Bool.{_&&_}
+use native.Mathlib.Omega.{arith}
+use Prim.Native.Nat.{_+_, _-_, _*_}
+use lib.ListN.{length, getD}
+use Rattle.model.specs.Grid.{Grid}
+use Rattle.model.specs.Sound.{keptGrid}
+use Rattle.model.specs.Train.{trainGrid}
+use Rattle.grid.specs.Tree.{headAt, binIn, gridAt}
+use Rattle.grid.specs.Sampled.{ChildLaid}
+use Rattle.grid.specs.Absorbed.{pathLeft, weightsLeft, placesIn, Takes}
+use Rattle.grid.proofs.Laid.{laid-axes, laid-bins, laid-head}
+use Rattle.grid.proofs.Sounds.{node-axes, node-bins}
+use Rattle.grid.proofs.Accepts.{formed, head-sound, spot-sound, takes-below, bins-told, none-told, grid-told, takes-grid}
+use Prim.Native.Nat.{ℕ, _<_}
+use borrow.Fn.Kinds.{In}
+use borrow.Fn.PlainCycle.{Measures, is, falls, and}
+use Rattle.grid.proofs.acceptance.bins_accept.Reads as bins-accept
+use Rattle.grid.proofs.acceptance.bins_accept.Kinds as bins-accept-kinds
+use Rattle.grid.proofs.acceptance.+bins_accept+child_accepts+grid_accepts.Lts-bins_accept as bins-accept-lts
+use Rattle.grid.proofs.acceptance.child_accepts.Reads as child-accepts
+use Rattle.grid.proofs.acceptance.child_accepts.Kinds as child-accepts-kinds
+use Rattle.grid.proofs.acceptance.+bins_accept+child_accepts+grid_accepts.Lts-child_accepts as child-accepts-lts
+use Rattle.grid.proofs.acceptance.grid_accepts.Reads as grid-accepts
+use Rattle.grid.proofs.acceptance.grid_accepts.Kinds as grid-accepts-kinds
+use Rattle.grid.proofs.acceptance.+bins_accept+child_accepts+grid_accepts.Lts-grid_accepts as grid-accepts-lts
+use Rattle.grid.proofs.acceptance.axes_accept.Reads as axes-accept-reads
+use Rattle.grid.proofs.adding.fits_with.Reads as fits-with-reads
+use Rattle.grid.proofs.acceptance.+bins_accept+child_accepts+grid_accepts.{statement}
+use Rattle.grid.proofs.acceptance.+bins_accept+child_accepts+grid_accepts.Tie.{close}
+
+abbrev μ-bins-accept : Measures 3 bins-accept-kinds.ps ℕ
+μ-bins-accept κs a = 3 * a .1 .1 .1 .0 + 2
+
+abbrev μ-child-accepts : Measures 3 child-accepts-kinds.ps ℕ
+μ-child-accepts κs a = 3 * a .1 .1 .1 .0 + 1
+
+abbrev μ-grid-accepts : Measures 3 grid-accepts-kinds.ps ℕ
+μ-grid-accepts κs a = 3 * a .1 .1 .1 .0
+
+abbrev bins-accept-at : ℕ → In 3 bins-accept-kinds.ps
+bins-accept-at t =
+    and 3 bins-accept-kinds.ps (is 3 bins-accept-kinds.ps μ-bins-accept t) bins-accept.Pre
+
+abbrev bins-accept-below : ℕ → In 3 bins-accept-kinds.ps
+bins-accept-below t =
+    and 3 bins-accept-kinds.ps (falls 3 bins-accept-kinds.ps _<_ μ-bins-accept t) bins-accept.Pre
+
+abbrev child-accepts-at : ℕ → In 3 child-accepts-kinds.ps
+child-accepts-at t =
+    and 3 child-accepts-kinds.ps (is 3 child-accepts-kinds.ps μ-child-accepts t) child-accepts.Pre
+
+abbrev child-accepts-below : ℕ → In 3 child-accepts-kinds.ps
+child-accepts-below t =
+    and
+    3
+    child-accepts-kinds.ps
+    (falls 3 child-accepts-kinds.ps _<_ μ-child-accepts t)
+    child-accepts.Pre
+
+abbrev grid-accepts-at : ℕ → In 3 grid-accepts-kinds.ps
+grid-accepts-at t =
+    and 3 grid-accepts-kinds.ps (is 3 grid-accepts-kinds.ps μ-grid-accepts t) grid-accepts.Pre
+
+abbrev grid-accepts-below : ℕ → In 3 grid-accepts-kinds.ps
+grid-accepts-below t =
+    and
+    3
+    grid-accepts-kinds.ps
+    (falls 3 grid-accepts-kinds.ps _<_ μ-grid-accepts t)
+    grid-accepts.Pre
+
+-- src/acceptance.rt:82:15
+bins-accept-mul-bin : (t : ℕ) → bins-accept-lts.Need-mul-bin (
+  fits-with-reads.Asked,
+  fits-with-reads.Learnt,
+  child-accepts-below t,
+  child-accepts.Post,
+) (bins-accept-at t) bins-accept.Post
+bins-accept-mul-bin t c = omega (arith, c .before .before .before .before .pre .1 .1)
+
+-- src/acceptance.rt:82:15
+bins-accept-array-read-bin : (t : ℕ) → bins-accept-lts.Need-array-read-bin (
+  fits-with-reads.Asked,
+  fits-with-reads.Learnt,
+  child-accepts-below t,
+  child-accepts.Post,
+) (bins-accept-at t) bins-accept.Post
+bins-accept-array-read-bin t c = omega (arith, c .before .before .before .before .pre .1 .1)
+
+-- src/acceptance.rt:84:18
+bins-accept-mul-weight : (t : ℕ) → bins-accept-lts.Need-mul-weight (
+  fits-with-reads.Asked,
+  fits-with-reads.Learnt,
+  child-accepts-below t,
+  child-accepts.Post,
+) (bins-accept-at t) bins-accept.Post
+bins-accept-mul-weight t c = omega (arith, c .before .before .before .before .before .pre .1 .1)
+
+-- src/acceptance.rt:84:18
+bins-accept-array-read-weight : (t : ℕ) → bins-accept-lts.Need-array-read-weight (
+  fits-with-reads.Asked,
+  fits-with-reads.Learnt,
+  child-accepts-below t,
+  child-accepts.Post,
+) (bins-accept-at t) bins-accept.Post
+bins-accept-array-read-weight t c = omega (arith, c .before .before .before .before .before .pre .1 .1)
+
+-- src/acceptance.rt:85:19
+bins-accept-add-n : (t : ℕ) → bins-accept-lts.Need-add-n (
+  fits-with-reads.Asked,
+  fits-with-reads.Learnt,
+  child-accepts-below t,
+  child-accepts.Post,
+) (bins-accept-at t) bins-accept.Post
+bins-accept-add-n t c = omega (arith, (c .before .before .before .before .before .pre .1 .0))
+
+-- src/acceptance.rt:85:13
+bins-accept-mul-n : (t : ℕ) → bins-accept-lts.Need-mul-n (
+  fits-with-reads.Asked,
+  fits-with-reads.Learnt,
+  child-accepts-below t,
+  child-accepts.Post,
+) (bins-accept-at t) bins-accept.Post
+bins-accept-mul-n t c = omega (arith, (c .before .before .before .before .before .pre .1 .0))
+
+-- src/acceptance.rt:85:13
+bins-accept-shared-slice-read-n : (t : ℕ) → bins-accept-lts.Need-shared-slice-read-n (
+  fits-with-reads.Asked,
+  fits-with-reads.Learnt,
+  child-accepts-below t,
+  child-accepts.Post,
+) (bins-accept-at t) bins-accept.Post
+bins-accept-shared-slice-read-n t c = omega (arith, (c .before .before .before .before .before .before .pre .1 .0))
+
+-- src/acceptance.rt:86:19
+bins-accept-add-r : (t : ℕ) → bins-accept-lts.Need-add-r (
+  fits-with-reads.Asked,
+  fits-with-reads.Learnt,
+  child-accepts-below t,
+  child-accepts.Post,
+) (bins-accept-at t) bins-accept.Post
+bins-accept-add-r t c = omega (arith, (c .before .before .before .before .before .before .pre .1 .0))
+
+-- src/acceptance.rt:86:13
+bins-accept-mul-r : (t : ℕ) → bins-accept-lts.Need-mul-r (
+  fits-with-reads.Asked,
+  fits-with-reads.Learnt,
+  child-accepts-below t,
+  child-accepts.Post,
+) (bins-accept-at t) bins-accept.Post
+bins-accept-mul-r t c = omega (arith, (c .before .before .before .before .before .before .pre .1 .0))
+
+-- src/acceptance.rt:86:13
+bins-accept-shared-slice-read-r : (t : ℕ) → bins-accept-lts.Need-shared-slice-read-r (
+  fits-with-reads.Asked,
+  fits-with-reads.Learnt,
+  child-accepts-below t,
+  child-accepts.Post,
+) (bins-accept-at t) bins-accept.Post
+bins-accept-shared-slice-read-r t c = omega (arith, (c .before .before .before .before .before .before .before .pre .1 .0))
+
+-- src/acceptance.rt:87:19
+bins-accept-add-c : (t : ℕ) → bins-accept-lts.Need-add-c (
+  fits-with-reads.Asked,
+  fits-with-reads.Learnt,
+  child-accepts-below t,
+  child-accepts.Post,
+) (bins-accept-at t) bins-accept.Post
+bins-accept-add-c t c = omega (arith, (c .before .before .before .before .before .before .before .pre .1 .0))
+
+-- src/acceptance.rt:87:13
+bins-accept-mul-c : (t : ℕ) → bins-accept-lts.Need-mul-c (
+  fits-with-reads.Asked,
+  fits-with-reads.Learnt,
+  child-accepts-below t,
+  child-accepts.Post,
+) (bins-accept-at t) bins-accept.Post
+bins-accept-mul-c t c = omega (arith, (c .before .before .before .before .before .before .before .pre .1 .0))
+
+-- src/acceptance.rt:87:13
+bins-accept-shared-slice-read-c : (t : ℕ) → bins-accept-lts.Need-shared-slice-read-c (
+  fits-with-reads.Asked,
+  fits-with-reads.Learnt,
+  child-accepts-below t,
+  child-accepts.Post,
+) (bins-accept-at t) bins-accept.Post
+bins-accept-shared-slice-read-c t c = omega (arith, (c .before .before .before .before .before .before .before .before .pre .1 .0))
+
+-- src/acceptance.rt:88:33
+bins-accept-add-value : (t : ℕ) → bins-accept-lts.Need-add-value (
+  fits-with-reads.Asked,
+  fits-with-reads.Learnt,
+  child-accepts-below t,
+  child-accepts.Post,
+) (bins-accept-at t) bins-accept.Post
+bins-accept-add-value t c = omega (arith, (c .before .before .before .before .before .before .before .before .pre .1 .0), (formed (gridAt (c .before .before .before .before .before .before .before .before .args .level) (c .before .before .before .before .before .before .before .before .args .table .now) (c .before .before .before .before .before .before .before .before .args .reals .now) (c .before .before .before .before .before .before .before .before .args .counts .now)) (c .before .before .before .before .before .before .before .before .args .table .now) (c .before .before .before .before .before .before .before .before .args .reals .now) (c .before .before .before .before .before .before .before .before .args .counts .now) (c .before .before .before .before .before .before .before .before .args .w) (getD (c .before .before .before .before .before .before .before .before .args .table .now) ((c .before .before .before .before .before .before .before .before .args .w) + 2) 0) (headAt (c .before .before .before .before .before .before .before .before .args .table .now) (c .before .before .before .before .before .before .before .before .args .reals .now) (c .before .before .before .before .before .before .before .before .args .counts .now) (c .before .before .before .before .before .before .before .before .args .w)) (c .before .before .before .before .before .before .before .before .args .s) (c .before .before .before .before .before .before .before .before .args .depth) (c .before .before .before .before .before .before .before .before .args .number) (c .before .before .before .before .before .before .before .before .pre .1 .2)) .bin)
+
+-- src/acceptance.rt:88:33
+bins-accept-add-value-2 : (t : ℕ) → bins-accept-lts.Need-add-value-2 (
+  fits-with-reads.Asked,
+  fits-with-reads.Learnt,
+  child-accepts-below t,
+  child-accepts.Post,
+) (bins-accept-at t) bins-accept.Post
+bins-accept-add-value-2 t c = omega (arith, (c .before .before .before .before .before .before .before .before .pre .1 .0), (formed (gridAt (c .before .before .before .before .before .before .before .before .args .level) (c .before .before .before .before .before .before .before .before .args .table .now) (c .before .before .before .before .before .before .before .before .args .reals .now) (c .before .before .before .before .before .before .before .before .args .counts .now)) (c .before .before .before .before .before .before .before .before .args .table .now) (c .before .before .before .before .before .before .before .before .args .reals .now) (c .before .before .before .before .before .before .before .before .args .counts .now) (c .before .before .before .before .before .before .before .before .args .w) (getD (c .before .before .before .before .before .before .before .before .args .table .now) ((c .before .before .before .before .before .before .before .before .args .w) + 2) 0) (headAt (c .before .before .before .before .before .before .before .before .args .table .now) (c .before .before .before .before .before .before .before .before .args .reals .now) (c .before .before .before .before .before .before .before .before .args .counts .now) (c .before .before .before .before .before .before .before .before .args .w)) (c .before .before .before .before .before .before .before .before .args .s) (c .before .before .before .before .before .before .before .before .args .depth) (c .before .before .before .before .before .before .before .before .args .number) (c .before .before .before .before .before .before .before .before .pre .1 .2)) .bin)
+
+-- src/acceptance.rt:88:27
+bins-accept-mul-value : (t : ℕ) → bins-accept-lts.Need-mul-value (
+  fits-with-reads.Asked,
+  fits-with-reads.Learnt,
+  child-accepts-below t,
+  child-accepts.Post,
+) (bins-accept-at t) bins-accept.Post
+bins-accept-mul-value t c = omega (arith, (c .before .before .before .before .before .before .before .before .pre .1 .0), (formed (gridAt (c .before .before .before .before .before .before .before .before .args .level) (c .before .before .before .before .before .before .before .before .args .table .now) (c .before .before .before .before .before .before .before .before .args .reals .now) (c .before .before .before .before .before .before .before .before .args .counts .now)) (c .before .before .before .before .before .before .before .before .args .table .now) (c .before .before .before .before .before .before .before .before .args .reals .now) (c .before .before .before .before .before .before .before .before .args .counts .now) (c .before .before .before .before .before .before .before .before .args .w) (getD (c .before .before .before .before .before .before .before .before .args .table .now) ((c .before .before .before .before .before .before .before .before .args .w) + 2) 0) (headAt (c .before .before .before .before .before .before .before .before .args .table .now) (c .before .before .before .before .before .before .before .before .args .reals .now) (c .before .before .before .before .before .before .before .before .args .counts .now) (c .before .before .before .before .before .before .before .before .args .w)) (c .before .before .before .before .before .before .before .before .args .s) (c .before .before .before .before .before .before .before .before .args .depth) (c .before .before .before .before .before .before .before .before .args .number) (c .before .before .before .before .before .before .before .before .pre .1 .2)) .bin)
+
+-- src/acceptance.rt:88:27
+bins-accept-shared-slice-read-value : (t : ℕ) → bins-accept-lts.Need-shared-slice-read-value (
+  fits-with-reads.Asked,
+  fits-with-reads.Learnt,
+  child-accepts-below t,
+  child-accepts.Post,
+) (bins-accept-at t) bins-accept.Post
+bins-accept-shared-slice-read-value t c = omega (arith, (c .before .before .before .before .before .before .before .before .before .pre .1 .0), (formed (gridAt (c .before .before .before .before .before .before .before .before .before .args .level) (c .before .before .before .before .before .before .before .before .before .args .table .now) (c .before .before .before .before .before .before .before .before .before .args .reals .now) (c .before .before .before .before .before .before .before .before .before .args .counts .now)) (c .before .before .before .before .before .before .before .before .before .args .table .now) (c .before .before .before .before .before .before .before .before .before .args .reals .now) (c .before .before .before .before .before .before .before .before .before .args .counts .now) (c .before .before .before .before .before .before .before .before .before .args .w) (getD (c .before .before .before .before .before .before .before .before .before .args .table .now) ((c .before .before .before .before .before .before .before .before .before .args .w) + 2) 0) (headAt (c .before .before .before .before .before .before .before .before .before .args .table .now) (c .before .before .before .before .before .before .before .before .before .args .reals .now) (c .before .before .before .before .before .before .before .before .before .args .counts .now) (c .before .before .before .before .before .before .before .before .before .args .w)) (c .before .before .before .before .before .before .before .before .before .args .s) (c .before .before .before .before .before .before .before .before .before .args .depth) (c .before .before .before .before .before .before .before .before .before .args .number) (c .before .before .before .before .before .before .before .before .before .pre .1 .2)) .bin)
+
+-- src/acceptance.rt:89:9
+bins-accept-fits-with-requires : (t : ℕ) → bins-accept-lts.Need-fits-with-requires (
+  fits-with-reads.Asked,
+  fits-with-reads.Learnt,
+  child-accepts-below t,
+  child-accepts.Post,
+) (bins-accept-at t) bins-accept.Post
+unfolding headAt
+bins-accept-fits-with-requires t c κs = (omega (arith, (c .before .before .before .before .before .before .before .before .before .pre .1 .0)), omega (arith, (c .before .before .before .before .before .before .before .before .before .pre .1 .0)), head-sound (gridAt (c .before .before .before .before .before .before .before .before .before .args .level) (c .before .before .before .before .before .before .before .before .before .args .table .now) (c .before .before .before .before .before .before .before .before .before .args .reals .now) (c .before .before .before .before .before .before .before .before .before .args .counts .now)) (c .before .before .before .before .before .before .before .before .before .args .table .now) (c .before .before .before .before .before .before .before .before .before .args .reals .now) (c .before .before .before .before .before .before .before .before .before .args .counts .now) (c .before .before .before .before .before .before .before .before .before .args .w) (getD (c .before .before .before .before .before .before .before .before .before .args .table .now) ((c .before .before .before .before .before .before .before .before .before .args .w) + 2) 0) (headAt (c .before .before .before .before .before .before .before .before .before .args .table .now) (c .before .before .before .before .before .before .before .before .before .args .reals .now) (c .before .before .before .before .before .before .before .before .before .args .counts .now) (c .before .before .before .before .before .before .before .before .before .args .w)) (c .before .before .before .before .before .before .before .before .before .args .s) (c .before .before .before .before .before .before .before .before .before .args .depth) (c .before .before .before .before .before .before .before .before .before .args .number) (c .before .before .before .before .before .before .before .before .before .pre .1 .2), (c .before .before .before .before .before .before .before .before .before .pre .1 .2) .number)
+
+-- src/acceptance.rt:90:50
+bins-accept-add-inner-r : (t : ℕ) → bins-accept-lts.Need-add-inner-r (
+  fits-with-reads.Asked,
+  fits-with-reads.Learnt,
+  child-accepts-below t,
+  child-accepts.Post,
+) (bins-accept-at t) bins-accept.Post
+bins-accept-add-inner-r t c = omega (arith, (c .before .before .before .before .before .before .before .before .before .before .pre .1 .0), (formed (gridAt (c .before .before .before .before .before .before .before .before .before .before .args .level) (c .before .before .before .before .before .before .before .before .before .before .args .table .now) (c .before .before .before .before .before .before .before .before .before .before .args .reals .now) (c .before .before .before .before .before .before .before .before .before .before .args .counts .now)) (c .before .before .before .before .before .before .before .before .before .before .args .table .now) (c .before .before .before .before .before .before .before .before .before .before .args .reals .now) (c .before .before .before .before .before .before .before .before .before .before .args .counts .now) (c .before .before .before .before .before .before .before .before .before .before .args .w) (getD (c .before .before .before .before .before .before .before .before .before .before .args .table .now) ((c .before .before .before .before .before .before .before .before .before .before .args .w) + 2) 0) (headAt (c .before .before .before .before .before .before .before .before .before .before .args .table .now) (c .before .before .before .before .before .before .before .before .before .before .args .reals .now) (c .before .before .before .before .before .before .before .before .before .before .args .counts .now) (c .before .before .before .before .before .before .before .before .before .before .args .w)) (c .before .before .before .before .before .before .before .before .before .before .args .s) (c .before .before .before .before .before .before .before .before .before .before .args .depth) (c .before .before .before .before .before .before .before .before .before .before .args .number) (c .before .before .before .before .before .before .before .before .before .before .pre .1 .2)) .bin)
+
+-- src/acceptance.rt:90:50
+bins-accept-add-inner-r-2 : (t : ℕ) → bins-accept-lts.Need-add-inner-r-2 (
+  fits-with-reads.Asked,
+  fits-with-reads.Learnt,
+  child-accepts-below t,
+  child-accepts.Post,
+) (bins-accept-at t) bins-accept.Post
+bins-accept-add-inner-r-2 t c = omega (arith, (c .before .before .before .before .before .before .before .before .before .before .pre .1 .0), (formed (gridAt (c .before .before .before .before .before .before .before .before .before .before .args .level) (c .before .before .before .before .before .before .before .before .before .before .args .table .now) (c .before .before .before .before .before .before .before .before .before .before .args .reals .now) (c .before .before .before .before .before .before .before .before .before .before .args .counts .now)) (c .before .before .before .before .before .before .before .before .before .before .args .table .now) (c .before .before .before .before .before .before .before .before .before .before .args .reals .now) (c .before .before .before .before .before .before .before .before .before .before .args .counts .now) (c .before .before .before .before .before .before .before .before .before .before .args .w) (getD (c .before .before .before .before .before .before .before .before .before .before .args .table .now) ((c .before .before .before .before .before .before .before .before .before .before .args .w) + 2) 0) (headAt (c .before .before .before .before .before .before .before .before .before .before .args .table .now) (c .before .before .before .before .before .before .before .before .before .before .args .reals .now) (c .before .before .before .before .before .before .before .before .before .before .args .counts .now) (c .before .before .before .before .before .before .before .before .before .before .args .w)) (c .before .before .before .before .before .before .before .before .before .before .args .s) (c .before .before .before .before .before .before .before .before .before .before .args .depth) (c .before .before .before .before .before .before .before .before .before .before .args .number) (c .before .before .before .before .before .before .before .before .before .before .pre .1 .2)) .bin)
+
+-- src/acceptance.rt:90:63
+bins-accept-mul-inner-r : (t : ℕ) → bins-accept-lts.Need-mul-inner-r (
+  fits-with-reads.Asked,
+  fits-with-reads.Learnt,
+  child-accepts-below t,
+  child-accepts.Post,
+) (bins-accept-at t) bins-accept.Post
+bins-accept-mul-inner-r t c = omega (arith, (c .before .before .before .before .before .before .before .before .before .before .pre .1 .0), (formed (gridAt (c .before .before .before .before .before .before .before .before .before .before .args .level) (c .before .before .before .before .before .before .before .before .before .before .args .table .now) (c .before .before .before .before .before .before .before .before .before .before .args .reals .now) (c .before .before .before .before .before .before .before .before .before .before .args .counts .now)) (c .before .before .before .before .before .before .before .before .before .before .args .table .now) (c .before .before .before .before .before .before .before .before .before .before .args .reals .now) (c .before .before .before .before .before .before .before .before .before .before .args .counts .now) (c .before .before .before .before .before .before .before .before .before .before .args .w) (getD (c .before .before .before .before .before .before .before .before .before .before .args .table .now) ((c .before .before .before .before .before .before .before .before .before .before .args .w) + 2) 0) (headAt (c .before .before .before .before .before .before .before .before .before .before .args .table .now) (c .before .before .before .before .before .before .before .before .before .before .args .reals .now) (c .before .before .before .before .before .before .before .before .before .before .args .counts .now) (c .before .before .before .before .before .before .before .before .before .before .args .w)) (c .before .before .before .before .before .before .before .before .before .before .args .s) (c .before .before .before .before .before .before .before .before .before .before .args .depth) (c .before .before .before .before .before .before .before .before .before .before .args .number) (c .before .before .before .before .before .before .before .before .before .before .pre .1 .2)) .bin)
+
+-- src/acceptance.rt:90:50
+bins-accept-add-inner-r-3 : (t : ℕ) → bins-accept-lts.Need-add-inner-r-3 (
+  fits-with-reads.Asked,
+  fits-with-reads.Learnt,
+  child-accepts-below t,
+  child-accepts.Post,
+) (bins-accept-at t) bins-accept.Post
+bins-accept-add-inner-r-3 t c = omega (arith, (c .before .before .before .before .before .before .before .before .before .before .pre .1 .0), (formed (gridAt (c .before .before .before .before .before .before .before .before .before .before .args .level) (c .before .before .before .before .before .before .before .before .before .before .args .table .now) (c .before .before .before .before .before .before .before .before .before .before .args .reals .now) (c .before .before .before .before .before .before .before .before .before .before .args .counts .now)) (c .before .before .before .before .before .before .before .before .before .before .args .table .now) (c .before .before .before .before .before .before .before .before .before .before .args .reals .now) (c .before .before .before .before .before .before .before .before .before .before .args .counts .now) (c .before .before .before .before .before .before .before .before .before .before .args .w) (getD (c .before .before .before .before .before .before .before .before .before .before .args .table .now) ((c .before .before .before .before .before .before .before .before .before .before .args .w) + 2) 0) (headAt (c .before .before .before .before .before .before .before .before .before .before .args .table .now) (c .before .before .before .before .before .before .before .before .before .before .args .reals .now) (c .before .before .before .before .before .before .before .before .before .before .args .counts .now) (c .before .before .before .before .before .before .before .before .before .before .args .w)) (c .before .before .before .before .before .before .before .before .before .before .args .s) (c .before .before .before .before .before .before .before .before .before .before .args .depth) (c .before .before .before .before .before .before .before .before .before .before .args .number) (c .before .before .before .before .before .before .before .before .before .before .pre .1 .2)) .bin)
+
+-- src/acceptance.rt:90:73
+bins-accept-add-inner-c : (t : ℕ) → bins-accept-lts.Need-add-inner-c (
+  fits-with-reads.Asked,
+  fits-with-reads.Learnt,
+  child-accepts-below t,
+  child-accepts.Post,
+) (bins-accept-at t) bins-accept.Post
+bins-accept-add-inner-c t c = omega (arith, (c .before .before .before .before .before .before .before .before .before .before .pre .1 .0), (formed (gridAt (c .before .before .before .before .before .before .before .before .before .before .args .level) (c .before .before .before .before .before .before .before .before .before .before .args .table .now) (c .before .before .before .before .before .before .before .before .before .before .args .reals .now) (c .before .before .before .before .before .before .before .before .before .before .args .counts .now)) (c .before .before .before .before .before .before .before .before .before .before .args .table .now) (c .before .before .before .before .before .before .before .before .before .before .args .reals .now) (c .before .before .before .before .before .before .before .before .before .before .args .counts .now) (c .before .before .before .before .before .before .before .before .before .before .args .w) (getD (c .before .before .before .before .before .before .before .before .before .before .args .table .now) ((c .before .before .before .before .before .before .before .before .before .before .args .w) + 2) 0) (headAt (c .before .before .before .before .before .before .before .before .before .before .args .table .now) (c .before .before .before .before .before .before .before .before .before .before .args .reals .now) (c .before .before .before .before .before .before .before .before .before .before .args .counts .now) (c .before .before .before .before .before .before .before .before .before .before .args .w)) (c .before .before .before .before .before .before .before .before .before .before .args .s) (c .before .before .before .before .before .before .before .before .before .before .args .depth) (c .before .before .before .before .before .before .before .before .before .before .args .number) (c .before .before .before .before .before .before .before .before .before .before .pre .1 .2)) .bin)
+
+-- src/acceptance.rt:90:81
+bins-accept-mul-inner-c : (t : ℕ) → bins-accept-lts.Need-mul-inner-c (
+  fits-with-reads.Asked,
+  fits-with-reads.Learnt,
+  child-accepts-below t,
+  child-accepts.Post,
+) (bins-accept-at t) bins-accept.Post
+bins-accept-mul-inner-c t c = omega (arith, (c .before .before .before .before .before .before .before .before .before .before .pre .1 .0), (formed (gridAt (c .before .before .before .before .before .before .before .before .before .before .args .level) (c .before .before .before .before .before .before .before .before .before .before .args .table .now) (c .before .before .before .before .before .before .before .before .before .before .args .reals .now) (c .before .before .before .before .before .before .before .before .before .before .args .counts .now)) (c .before .before .before .before .before .before .before .before .before .before .args .table .now) (c .before .before .before .before .before .before .before .before .before .before .args .reals .now) (c .before .before .before .before .before .before .before .before .before .before .args .counts .now) (c .before .before .before .before .before .before .before .before .before .before .args .w) (getD (c .before .before .before .before .before .before .before .before .before .before .args .table .now) ((c .before .before .before .before .before .before .before .before .before .before .args .w) + 2) 0) (headAt (c .before .before .before .before .before .before .before .before .before .before .args .table .now) (c .before .before .before .before .before .before .before .before .before .before .args .reals .now) (c .before .before .before .before .before .before .before .before .before .before .args .counts .now) (c .before .before .before .before .before .before .before .before .before .before .args .w)) (c .before .before .before .before .before .before .before .before .before .before .args .s) (c .before .before .before .before .before .before .before .before .before .before .args .depth) (c .before .before .before .before .before .before .before .before .before .before .args .number) (c .before .before .before .before .before .before .before .before .before .before .pre .1 .2)) .bin)
+
+-- src/acceptance.rt:90:73
+bins-accept-add-inner-c-2 : (t : ℕ) → bins-accept-lts.Need-add-inner-c-2 (
+  fits-with-reads.Asked,
+  fits-with-reads.Learnt,
+  child-accepts-below t,
+  child-accepts.Post,
+) (bins-accept-at t) bins-accept.Post
+bins-accept-add-inner-c-2 t c = omega (arith, (c .before .before .before .before .before .before .before .before .before .before .pre .1 .0), (formed (gridAt (c .before .before .before .before .before .before .before .before .before .before .args .level) (c .before .before .before .before .before .before .before .before .before .before .args .table .now) (c .before .before .before .before .before .before .before .before .before .before .args .reals .now) (c .before .before .before .before .before .before .before .before .before .before .args .counts .now)) (c .before .before .before .before .before .before .before .before .before .before .args .table .now) (c .before .before .before .before .before .before .before .before .before .before .args .reals .now) (c .before .before .before .before .before .before .before .before .before .before .args .counts .now) (c .before .before .before .before .before .before .before .before .before .before .args .w) (getD (c .before .before .before .before .before .before .before .before .before .before .args .table .now) ((c .before .before .before .before .before .before .before .before .before .before .args .w) + 2) 0) (headAt (c .before .before .before .before .before .before .before .before .before .before .args .table .now) (c .before .before .before .before .before .before .before .before .before .before .args .reals .now) (c .before .before .before .before .before .before .before .before .before .before .args .counts .now) (c .before .before .before .before .before .before .before .before .before .before .args .w)) (c .before .before .before .before .before .before .before .before .before .before .args .s) (c .before .before .before .before .before .before .before .before .before .before .args .depth) (c .before .before .before .before .before .before .before .before .before .before .args .number) (c .before .before .before .before .before .before .before .before .before .before .pre .1 .2)) .bin)
+
+-- src/acceptance.rt:90:9
+bins-accept-fits-with-requires-2 : (t : ℕ) → bins-accept-lts.Need-fits-with-requires-2 (
+  fits-with-reads.Asked,
+  fits-with-reads.Learnt,
+  child-accepts-below t,
+  child-accepts.Post,
+) (bins-accept-at t) bins-accept.Post
+unfolding binIn
+bins-accept-fits-with-requires-2 t c κs = (omega (arith, (c .before .before .before .before .before .before .before .before .before .before .pre .1 .0), (formed (gridAt (c .before .before .before .before .before .before .before .before .before .before .args .level) (c .before .before .before .before .before .before .before .before .before .before .args .table .now) (c .before .before .before .before .before .before .before .before .before .before .args .reals .now) (c .before .before .before .before .before .before .before .before .before .before .args .counts .now)) (c .before .before .before .before .before .before .before .before .before .before .args .table .now) (c .before .before .before .before .before .before .before .before .before .before .args .reals .now) (c .before .before .before .before .before .before .before .before .before .before .args .counts .now) (c .before .before .before .before .before .before .before .before .before .before .args .w) (getD (c .before .before .before .before .before .before .before .before .before .before .args .table .now) ((c .before .before .before .before .before .before .before .before .before .before .args .w) + 2) 0) (headAt (c .before .before .before .before .before .before .before .before .before .before .args .table .now) (c .before .before .before .before .before .before .before .before .before .before .args .reals .now) (c .before .before .before .before .before .before .before .before .before .before .args .counts .now) (c .before .before .before .before .before .before .before .before .before .before .args .w)) (c .before .before .before .before .before .before .before .before .before .before .args .s) (c .before .before .before .before .before .before .before .before .before .before .args .depth) (c .before .before .before .before .before .before .before .before .before .before .args .number) (c .before .before .before .before .before .before .before .before .before .before .pre .1 .2)) .bin), omega (arith, (c .before .before .before .before .before .before .before .before .before .before .pre .1 .0), (formed (gridAt (c .before .before .before .before .before .before .before .before .before .before .args .level) (c .before .before .before .before .before .before .before .before .before .before .args .table .now) (c .before .before .before .before .before .before .before .before .before .before .args .reals .now) (c .before .before .before .before .before .before .before .before .before .before .args .counts .now)) (c .before .before .before .before .before .before .before .before .before .before .args .table .now) (c .before .before .before .before .before .before .before .before .before .before .args .reals .now) (c .before .before .before .before .before .before .before .before .before .before .args .counts .now) (c .before .before .before .before .before .before .before .before .before .before .args .w) (getD (c .before .before .before .before .before .before .before .before .before .before .args .table .now) ((c .before .before .before .before .before .before .before .before .before .before .args .w) + 2) 0) (headAt (c .before .before .before .before .before .before .before .before .before .before .args .table .now) (c .before .before .before .before .before .before .before .before .before .before .args .reals .now) (c .before .before .before .before .before .before .before .before .before .before .args .counts .now) (c .before .before .before .before .before .before .before .before .before .before .args .w)) (c .before .before .before .before .before .before .before .before .before .before .args .s) (c .before .before .before .before .before .before .before .before .before .before .args .depth) (c .before .before .before .before .before .before .before .before .before .before .args .number) (c .before .before .before .before .before .before .before .before .before .before .pre .1 .2)) .bin), spot-sound (gridAt (c .before .before .before .before .before .before .before .before .before .before .args .level) (c .before .before .before .before .before .before .before .before .before .before .args .table .now) (c .before .before .before .before .before .before .before .before .before .before .args .reals .now) (c .before .before .before .before .before .before .before .before .before .before .args .counts .now)) (c .before .before .before .before .before .before .before .before .before .before .args .table .now) (c .before .before .before .before .before .before .before .before .before .before .args .reals .now) (c .before .before .before .before .before .before .before .before .before .before .args .counts .now) (c .before .before .before .before .before .before .before .before .before .before .args .w) (getD (c .before .before .before .before .before .before .before .before .before .before .args .table .now) ((c .before .before .before .before .before .before .before .before .before .before .args .w) + 2) 0) (headAt (c .before .before .before .before .before .before .before .before .before .before .args .table .now) (c .before .before .before .before .before .before .before .before .before .before .args .reals .now) (c .before .before .before .before .before .before .before .before .before .before .args .counts .now) (c .before .before .before .before .before .before .before .before .before .before .args .w)) (c .before .before .before .before .before .before .before .before .before .before .args .s) (c .before .before .before .before .before .before .before .before .before .before .args .depth) (c .before .before .before .before .before .before .before .before .before .before .args .number) (c .before .before .before .before .before .before .before .before .before .before .pre .1 .2), (c .before .before .before .before .before .before .before .before .before .before .pre .1 .2) .number)
+
+-- src/acceptance.rt:91:22
+bins-accept-add-link : (t : ℕ) → bins-accept-lts.Need-add-link (
+  fits-with-reads.Asked,
+  fits-with-reads.Learnt,
+  child-accepts-below t,
+  child-accepts.Post,
+) (bins-accept-at t) bins-accept.Post
+bins-accept-add-link t c = omega (arith, (c .before .before .before .before .before .before .before .before .before .before .before .pre .1 .0), (formed (gridAt (c .before .before .before .before .before .before .before .before .before .before .before .args .level) (c .before .before .before .before .before .before .before .before .before .before .before .args .table .now) (c .before .before .before .before .before .before .before .before .before .before .before .args .reals .now) (c .before .before .before .before .before .before .before .before .before .before .before .args .counts .now)) (c .before .before .before .before .before .before .before .before .before .before .before .args .table .now) (c .before .before .before .before .before .before .before .before .before .before .before .args .reals .now) (c .before .before .before .before .before .before .before .before .before .before .before .args .counts .now) (c .before .before .before .before .before .before .before .before .before .before .before .args .w) (getD (c .before .before .before .before .before .before .before .before .before .before .before .args .table .now) ((c .before .before .before .before .before .before .before .before .before .before .before .args .w) + 2) 0) (headAt (c .before .before .before .before .before .before .before .before .before .before .before .args .table .now) (c .before .before .before .before .before .before .before .before .before .before .before .args .reals .now) (c .before .before .before .before .before .before .before .before .before .before .before .args .counts .now) (c .before .before .before .before .before .before .before .before .before .before .before .args .w)) (c .before .before .before .before .before .before .before .before .before .before .before .args .s) (c .before .before .before .before .before .before .before .before .before .before .before .args .depth) (c .before .before .before .before .before .before .before .before .before .before .before .args .number) (c .before .before .before .before .before .before .before .before .before .before .before .pre .1 .2)) .bin)
+
+-- src/acceptance.rt:91:22
+bins-accept-add-link-2 : (t : ℕ) → bins-accept-lts.Need-add-link-2 (
+  fits-with-reads.Asked,
+  fits-with-reads.Learnt,
+  child-accepts-below t,
+  child-accepts.Post,
+) (bins-accept-at t) bins-accept.Post
+bins-accept-add-link-2 t c = omega (arith, (c .before .before .before .before .before .before .before .before .before .before .before .pre .1 .0), (formed (gridAt (c .before .before .before .before .before .before .before .before .before .before .before .args .level) (c .before .before .before .before .before .before .before .before .before .before .before .args .table .now) (c .before .before .before .before .before .before .before .before .before .before .before .args .reals .now) (c .before .before .before .before .before .before .before .before .before .before .before .args .counts .now)) (c .before .before .before .before .before .before .before .before .before .before .before .args .table .now) (c .before .before .before .before .before .before .before .before .before .before .before .args .reals .now) (c .before .before .before .before .before .before .before .before .before .before .before .args .counts .now) (c .before .before .before .before .before .before .before .before .before .before .before .args .w) (getD (c .before .before .before .before .before .before .before .before .before .before .before .args .table .now) ((c .before .before .before .before .before .before .before .before .before .before .before .args .w) + 2) 0) (headAt (c .before .before .before .before .before .before .before .before .before .before .before .args .table .now) (c .before .before .before .before .before .before .before .before .before .before .before .args .reals .now) (c .before .before .before .before .before .before .before .before .before .before .before .args .counts .now) (c .before .before .before .before .before .before .before .before .before .before .before .args .w)) (c .before .before .before .before .before .before .before .before .before .before .before .args .s) (c .before .before .before .before .before .before .before .before .before .before .before .args .depth) (c .before .before .before .before .before .before .before .before .before .before .before .args .number) (c .before .before .before .before .before .before .before .before .before .before .before .pre .1 .2)) .bin)
+
+-- src/acceptance.rt:91:16
+bins-accept-mul-link : (t : ℕ) → bins-accept-lts.Need-mul-link (
+  fits-with-reads.Asked,
+  fits-with-reads.Learnt,
+  child-accepts-below t,
+  child-accepts.Post,
+) (bins-accept-at t) bins-accept.Post
+bins-accept-mul-link t c = omega (arith, (c .before .before .before .before .before .before .before .before .before .before .before .pre .1 .0), (formed (gridAt (c .before .before .before .before .before .before .before .before .before .before .before .args .level) (c .before .before .before .before .before .before .before .before .before .before .before .args .table .now) (c .before .before .before .before .before .before .before .before .before .before .before .args .reals .now) (c .before .before .before .before .before .before .before .before .before .before .before .args .counts .now)) (c .before .before .before .before .before .before .before .before .before .before .before .args .table .now) (c .before .before .before .before .before .before .before .before .before .before .before .args .reals .now) (c .before .before .before .before .before .before .before .before .before .before .before .args .counts .now) (c .before .before .before .before .before .before .before .before .before .before .before .args .w) (getD (c .before .before .before .before .before .before .before .before .before .before .before .args .table .now) ((c .before .before .before .before .before .before .before .before .before .before .before .args .w) + 2) 0) (headAt (c .before .before .before .before .before .before .before .before .before .before .before .args .table .now) (c .before .before .before .before .before .before .before .before .before .before .before .args .reals .now) (c .before .before .before .before .before .before .before .before .before .before .before .args .counts .now) (c .before .before .before .before .before .before .before .before .before .before .before .args .w)) (c .before .before .before .before .before .before .before .before .before .before .before .args .s) (c .before .before .before .before .before .before .before .before .before .before .before .args .depth) (c .before .before .before .before .before .before .before .before .before .before .before .args .number) (c .before .before .before .before .before .before .before .before .before .before .before .pre .1 .2)) .bin)
+
+-- src/acceptance.rt:91:16
+bins-accept-shared-slice-read-link : (t : ℕ) → bins-accept-lts.Need-shared-slice-read-link (
+  fits-with-reads.Asked,
+  fits-with-reads.Learnt,
+  child-accepts-below t,
+  child-accepts.Post,
+) (bins-accept-at t) bins-accept.Post
+bins-accept-shared-slice-read-link t c = omega (arith, (c .before .before .before .before .before .before .before .before .before .before .before .before .pre .1 .0), (formed (gridAt (c .before .before .before .before .before .before .before .before .before .before .before .before .args .level) (c .before .before .before .before .before .before .before .before .before .before .before .before .args .table .now) (c .before .before .before .before .before .before .before .before .before .before .before .before .args .reals .now) (c .before .before .before .before .before .before .before .before .before .before .before .before .args .counts .now)) (c .before .before .before .before .before .before .before .before .before .before .before .before .args .table .now) (c .before .before .before .before .before .before .before .before .before .before .before .before .args .reals .now) (c .before .before .before .before .before .before .before .before .before .before .before .before .args .counts .now) (c .before .before .before .before .before .before .before .before .before .before .before .before .args .w) (getD (c .before .before .before .before .before .before .before .before .before .before .before .before .args .table .now) ((c .before .before .before .before .before .before .before .before .before .before .before .before .args .w) + 2) 0) (headAt (c .before .before .before .before .before .before .before .before .before .before .before .before .args .table .now) (c .before .before .before .before .before .before .before .before .before .before .before .before .args .reals .now) (c .before .before .before .before .before .before .before .before .before .before .before .before .args .counts .now) (c .before .before .before .before .before .before .before .before .before .before .before .before .args .w)) (c .before .before .before .before .before .before .before .before .before .before .before .before .args .s) (c .before .before .before .before .before .before .before .before .before .before .before .before .args .depth) (c .before .before .before .before .before .before .before .before .before .before .before .before .args .number) (c .before .before .before .before .before .before .before .before .before .before .before .before .pre .1 .2)) .bin)
+
+-- src/acceptance.rt:92:69
+bins-accept-add-child-accepts : (t : ℕ) → bins-accept-lts.Need-add-child-accepts (
+  fits-with-reads.Asked,
+  fits-with-reads.Learnt,
+  child-accepts-below t,
+  child-accepts.Post,
+) (bins-accept-at t) bins-accept.Post
+bins-accept-add-child-accepts t c = omega (arith, c .before .before .before .before .before .before .before .before .before .before .before .before .pre .1 .1)
+
+-- src/acceptance.rt:92:9
+bins-accept-child-accepts-requires : (t : ℕ) → bins-accept-lts.Need-child-accepts-requires (
+  fits-with-reads.Asked,
+  fits-with-reads.Learnt,
+  child-accepts-below t,
+  child-accepts.Post,
+) (bins-accept-at t) bins-accept.Post
+unfolding ChildLaid
+bins-accept-child-accepts-requires t c κs = (omega (arith, c .before .before .before .before .before .before .before .before .before .before .before .before .pre .0), (λ z. (c .before .before .before .before .before .before .before .before .before .before .before .before .pre .1 .0) .children (getD ((c .before .before .before .before .before .before .before .before .before .before .before .before .args .s) .path) (c .before .before .before .before .before .before .before .before .before .before .before .before .args .depth) 0) ((formed (gridAt (c .before .before .before .before .before .before .before .before .before .before .before .before .args .level) (c .before .before .before .before .before .before .before .before .before .before .before .before .args .table .now) (c .before .before .before .before .before .before .before .before .before .before .before .before .args .reals .now) (c .before .before .before .before .before .before .before .before .before .before .before .before .args .counts .now)) (c .before .before .before .before .before .before .before .before .before .before .before .before .args .table .now) (c .before .before .before .before .before .before .before .before .before .before .before .before .args .reals .now) (c .before .before .before .before .before .before .before .before .before .before .before .before .args .counts .now) (c .before .before .before .before .before .before .before .before .before .before .before .before .args .w) (getD (c .before .before .before .before .before .before .before .before .before .before .before .before .args .table .now) ((c .before .before .before .before .before .before .before .before .before .before .before .before .args .w) + 2) 0) (headAt (c .before .before .before .before .before .before .before .before .before .before .before .before .args .table .now) (c .before .before .before .before .before .before .before .before .before .before .before .before .args .reals .now) (c .before .before .before .before .before .before .before .before .before .before .before .before .args .counts .now) (c .before .before .before .before .before .before .before .before .before .before .before .before .args .w)) (c .before .before .before .before .before .before .before .before .before .before .before .before .args .s) (c .before .before .before .before .before .before .before .before .before .before .before .before .args .depth) (c .before .before .before .before .before .before .before .before .before .before .before .before .args .number) (c .before .before .before .before .before .before .before .before .before .before .before .before .pre .1 .2)) .bin) z, omega (arith, c .before .before .before .before .before .before .before .before .before .before .before .before .pre .1 .1), takes-below (gridAt (c .before .before .before .before .before .before .before .before .before .before .before .before .args .level) (c .before .before .before .before .before .before .before .before .before .before .before .before .args .table .now) (c .before .before .before .before .before .before .before .before .before .before .before .before .args .reals .now) (c .before .before .before .before .before .before .before .before .before .before .before .before .args .counts .now)) (c .before .before .before .before .before .before .before .before .before .before .before .before .args .table .now) (c .before .before .before .before .before .before .before .before .before .before .before .before .args .reals .now) (c .before .before .before .before .before .before .before .before .before .before .before .before .args .counts .now) (c .before .before .before .before .before .before .before .before .before .before .before .before .args .w) (getD (c .before .before .before .before .before .before .before .before .before .before .before .before .args .table .now) ((c .before .before .before .before .before .before .before .before .before .before .before .before .args .w) + 2) 0) (headAt (c .before .before .before .before .before .before .before .before .before .before .before .before .args .table .now) (c .before .before .before .before .before .before .before .before .before .before .before .before .args .reals .now) (c .before .before .before .before .before .before .before .before .before .before .before .before .args .counts .now) (c .before .before .before .before .before .before .before .before .before .before .before .before .args .w)) (c .before .before .before .before .before .before .before .before .before .before .before .before .args .s) (c .before .before .before .before .before .before .before .before .before .before .before .before .args .depth) (c .before .before .before .before .before .before .before .before .before .before .before .before .args .number) (c .before .before .before .before .before .before .before .before .before .before .before .before .pre .1 .2)))
+
+-- src/acceptance.rt:64:1
+bins-accept-returns : (t : ℕ) → bins-accept-lts.Need-returns (
+  fits-with-reads.Asked,
+  fits-with-reads.Learnt,
+  child-accepts-below t,
+  child-accepts.Post,
+) (bins-accept-at t) bins-accept.Post
+unfolding binIn headAt
+bins-accept-returns t c = ap₂ _&&_ (c .before .before .before .fits-with .ensures) (ap₂ _&&_ (c .before .before .fits-with2 .ensures) (c .child-accepts .ensures)) ∙ bins-told (gridAt (c .before .before .before .before .before .before .before .before .before .before .before .before .before .args .level) (c .before .before .before .before .before .before .before .before .before .before .before .before .before .args .table .now) (c .before .before .before .before .before .before .before .before .before .before .before .before .before .args .reals .now) (c .before .before .before .before .before .before .before .before .before .before .before .before .before .args .counts .now)) (c .before .before .before .before .before .before .before .before .before .before .before .before .before .args .table .now) (c .before .before .before .before .before .before .before .before .before .before .before .before .before .args .reals .now) (c .before .before .before .before .before .before .before .before .before .before .before .before .before .args .counts .now) (c .before .before .before .before .before .before .before .before .before .before .before .before .before .args .w) (getD (c .before .before .before .before .before .before .before .before .before .before .before .before .before .args .table .now) ((c .before .before .before .before .before .before .before .before .before .before .before .before .before .args .w) + 2) 0) (headAt (c .before .before .before .before .before .before .before .before .before .before .before .before .before .args .table .now) (c .before .before .before .before .before .before .before .before .before .before .before .before .before .args .reals .now) (c .before .before .before .before .before .before .before .before .before .before .before .before .before .args .counts .now) (c .before .before .before .before .before .before .before .before .before .before .before .before .before .args .w)) (c .before .before .before .before .before .before .before .before .before .before .before .before .before .args .s) (c .before .before .before .before .before .before .before .before .before .before .before .before .before .args .depth) (c .before .before .before .before .before .before .before .before .before .before .before .before .before .args .number) (c .before .before .before .before .before .before .before .before .before .before .before .before .before .pre .1 .2) (c .before .before .before .before .before .before .before .before .before .before .before .before .before .args .evaluation)
+
+-- src/acceptance.rt:58:9
+child-accepts-returns : (t : ℕ) → child-accepts-lts.Need-returns (
+  grid-accepts-below t,
+  grid-accepts.Post,
+) (child-accepts-at t) child-accepts.Post
+child-accepts-returns t c = none-told (gridAt (c .before .before .before .before .args .level) (c .before .before .before .before .args .table .now) (c .before .before .before .before .args .reals .now) (c .before .before .before .before .args .counts .now)) (c .before .before .before .before .args .link) (pathLeft (c .before .before .before .before .args .s) (c .before .before .before .before .args .depth)) (weightsLeft (c .before .before .before .before .args .s) (c .before .before .before .before .args .depth)) (placesIn (c .before .before .before .before .args .s)) (c .before .before .before .before .args .evaluation) (c .before .before .before .before .args .number) (c .if1 .taken)
+
+-- src/acceptance.rt:60:5
+child-accepts-grid-accepts-requires : (t : ℕ) → child-accepts-lts.Need-grid-accepts-requires (
+  grid-accepts-below t,
+  grid-accepts.Post,
+) (child-accepts-at t) child-accepts.Post
+unfolding ChildLaid
+child-accepts-grid-accepts-requires t c κs = (omega (arith, c .before .before .before .before .pre .0), (c .before .before .before .before .pre .1 .0 (c .if1 .left), c .before .before .before .before .pre .1 .1, takes-grid (gridAt (c .before .before .before .before .args .level) (c .before .before .before .before .args .table .now) (c .before .before .before .before .args .reals .now) (c .before .before .before .before .args .counts .now)) (c .before .before .before .before .args .link) (c .before .before .before .before .args .s) (c .before .before .before .before .args .depth) (c .before .before .before .before .args .number) (c .if1 .left) (c .before .before .before .before .pre .1 .2)))
+
+-- src/acceptance.rt:43:1
+child-accepts-returns-2 : (t : ℕ) → child-accepts-lts.Need-returns-2 (
+  grid-accepts-below t,
+  grid-accepts.Post,
+) (child-accepts-at t) child-accepts.Post
+child-accepts-returns-2 t c = c .grid-accepts .ensures ∙ grid-told (gridAt (c .before .before .before .before .before .args .level) (c .before .before .before .before .before .args .table .now) (c .before .before .before .before .before .args .reals .now) (c .before .before .before .before .before .args .counts .now)) (c .before .before .before .before .before .args .link) (pathLeft (c .before .before .before .before .before .args .s) (c .before .before .before .before .before .args .depth)) (weightsLeft (c .before .before .before .before .before .args .s) (c .before .before .before .before .before .args .depth)) (placesIn (c .before .before .before .before .before .args .s)) (c .before .before .before .before .before .args .evaluation) (c .before .before .before .before .before .args .number) (c .before .if1 .left)
+
+-- src/acceptance.rt:111:8
+grid-accepts-mul-if1 : (t : ℕ) → grid-accepts-lts.Need-mul-if1 (
+  axes-accept-reads.Asked,
+  axes-accept-reads.Learnt,
+  bins-accept-below t,
+  bins-accept.Post,
+) (grid-accepts-at t) grid-accepts.Post
+grid-accepts-mul-if1 t c = let q = (laid-head (c .before .before .before .args .level) (c .before .before .before .args .table .now) (length (c .before .before .before .args .reals .now)) (length (c .before .before .before .args .counts .now)) (c .before .before .before .args .w) (c .before .before .before .pre .1 .0)) in omega arith
+
+-- src/acceptance.rt:111:8
+grid-accepts-shared-slice-read-if1 : (t : ℕ) → grid-accepts-lts.Need-shared-slice-read-if1 (
+  axes-accept-reads.Asked,
+  axes-accept-reads.Learnt,
+  bins-accept-below t,
+  bins-accept.Post,
+) (grid-accepts-at t) grid-accepts.Post
+grid-accepts-shared-slice-read-if1 t c = let q = (laid-head (c .before .before .before .before .args .level) (c .before .before .before .before .args .table .now) (length (c .before .before .before .before .args .reals .now)) (length (c .before .before .before .before .args .counts .now)) (c .before .before .before .before .args .w) (c .before .before .before .before .pre .1 .0)) in omega arith
+
+-- src/acceptance.rt:112:9
+grid-accepts-axes-accept-requires : (t : ℕ) → grid-accepts-lts.Need-axes-accept-requires (
+  axes-accept-reads.Asked,
+  axes-accept-reads.Learnt,
+  bins-accept-below t,
+  bins-accept.Post,
+) (grid-accepts-at t) grid-accepts.Post
+grid-accepts-axes-accept-requires t c κs = ((laid-axes (c .before .before .before .before .before .args .level) (c .before .before .before .before .before .args .table .now) (length (c .before .before .before .before .before .args .reals .now)) (length (c .before .before .before .before .before .args .counts .now)) (c .before .before .before .before .before .args .w) (c .before .before .before .before .before .pre .1 .0) (c .if1 .taken)), omega (arith, c .before .before .before .before .before .pre .1 .1), subst (λ (g : Grid). Takes g (c .before .before .before .before .before .args .s) (c .before .before .before .before .before .args .depth) (c .before .before .before .before .before .args .number)) (node-axes (c .before .before .before .before .before .args .level) (c .before .before .before .before .before .args .table .now) (c .before .before .before .before .before .args .reals .now) (c .before .before .before .before .before .args .counts .now) (c .before .before .before .before .before .args .w) (c .if1 .taken)) (c .before .before .before .before .before .pre .1 .2))
+
+-- src/acceptance.rt:112:9
+grid-accepts-returns : (t : ℕ) → grid-accepts-lts.Need-returns (
+  axes-accept-reads.Asked,
+  axes-accept-reads.Learnt,
+  bins-accept-below t,
+  bins-accept.Post,
+) (grid-accepts-at t) grid-accepts.Post
+grid-accepts-returns t c = c .axes-accept .ensures ∙ ap (λ (g : Grid). keptGrid (trainGrid g (pathLeft (c .before .before .before .before .before .before .args .s) (c .before .before .before .before .before .before .args .depth)) (weightsLeft (c .before .before .before .before .before .before .args .s) (c .before .before .before .before .before .before .args .depth)) (placesIn (c .before .before .before .before .before .before .args .s)) (c .before .before .before .before .before .before .args .evaluation) (c .before .before .before .before .before .before .args .number))) (sym (node-axes (c .before .before .before .before .before .before .args .level) (c .before .before .before .before .before .before .args .table .now) (c .before .before .before .before .before .before .args .reals .now) (c .before .before .before .before .before .before .args .counts .now) (c .before .before .before .before .before .before .args .w) (c .before .if1 .taken)))
+
+-- src/acceptance.rt:114:39
+grid-accepts-sub-bins-accept : (t : ℕ) → grid-accepts-lts.Need-sub-bins-accept (
+  axes-accept-reads.Asked,
+  axes-accept-reads.Learnt,
+  bins-accept-below t,
+  bins-accept.Post,
+) (grid-accepts-at t) grid-accepts.Post
+grid-accepts-sub-bins-accept t c = omega (arith, (laid-bins (c .before .before .before .before .before .args .level) (c .before .before .before .before .before .args .table .now) (length (c .before .before .before .before .before .args .reals .now)) (length (c .before .before .before .before .before .args .counts .now)) (c .before .before .before .before .before .args .w) (c .before .before .before .before .before .pre .1 .0) (c .if1 .left)) .level)
+
+-- src/acceptance.rt:114:5
+grid-accepts-bins-accept-requires : (t : ℕ) → grid-accepts-lts.Need-bins-accept-requires (
+  axes-accept-reads.Asked,
+  axes-accept-reads.Learnt,
+  bins-accept-below t,
+  bins-accept.Post,
+) (grid-accepts-at t) grid-accepts.Post
+grid-accepts-bins-accept-requires t c κs = (omega (arith, c .before .before .before .before .before .pre .0, (laid-bins (c .before .before .before .before .before .args .level) (c .before .before .before .before .before .args .table .now) (length (c .before .before .before .before .before .args .reals .now)) (length (c .before .before .before .before .before .args .counts .now)) (c .before .before .before .before .before .args .w) (c .before .before .before .before .before .pre .1 .0) (c .if1 .left)) .level), ((laid-bins (c .before .before .before .before .before .args .level) (c .before .before .before .before .before .args .table .now) (length (c .before .before .before .before .before .args .reals .now)) (length (c .before .before .before .before .before .args .counts .now)) (c .before .before .before .before .before .args .w) (c .before .before .before .before .before .pre .1 .0) (c .if1 .left)) .bins, omega (arith, c .before .before .before .before .before .pre .1 .1, (laid-bins (c .before .before .before .before .before .args .level) (c .before .before .before .before .before .args .table .now) (length (c .before .before .before .before .before .args .reals .now)) (length (c .before .before .before .before .before .args .counts .now)) (c .before .before .before .before .before .args .w) (c .before .before .before .before .before .pre .1 .0) (c .if1 .left)) .level), subst (λ (g : Grid). Takes g (c .before .before .before .before .before .args .s) (c .before .before .before .before .before .args .depth) (c .before .before .before .before .before .args .number)) (node-bins (c .before .before .before .before .before .args .level) (c .before .before .before .before .before .args .table .now) (c .before .before .before .before .before .args .reals .now) (c .before .before .before .before .before .args .counts .now) (c .before .before .before .before .before .args .w) (c .if1 .left) ((laid-bins (c .before .before .before .before .before .args .level) (c .before .before .before .before .before .args .table .now) (length (c .before .before .before .before .before .args .reals .now)) (length (c .before .before .before .before .before .args .counts .now)) (c .before .before .before .before .before .args .w) (c .before .before .before .before .before .pre .1 .0) (c .if1 .left)) .level)) (c .before .before .before .before .before .pre .1 .2)))
+
+-- src/acceptance.rt:97:1
+grid-accepts-returns-2 : (t : ℕ) → grid-accepts-lts.Need-returns-2 (
+  axes-accept-reads.Asked,
+  axes-accept-reads.Learnt,
+  bins-accept-below t,
+  bins-accept.Post,
+) (grid-accepts-at t) grid-accepts.Post
+grid-accepts-returns-2 t c = c .bins-accept .ensures ∙ ap (λ (g : Grid). keptGrid (trainGrid g (pathLeft (c .before .before .before .before .before .before .args .s) (c .before .before .before .before .before .before .args .depth)) (weightsLeft (c .before .before .before .before .before .before .args .s) (c .before .before .before .before .before .before .args .depth)) (placesIn (c .before .before .before .before .before .before .args .s)) (c .before .before .before .before .before .before .args .evaluation) (c .before .before .before .before .before .before .args .number))) (sym (node-bins (c .before .before .before .before .before .before .args .level) (c .before .before .before .before .before .before .args .table .now) (c .before .before .before .before .before .before .args .reals .now) (c .before .before .before .before .before .before .args .counts .now) (c .before .before .before .before .before .before .args .w) (c .before .if1 .left) ((laid-bins (c .before .before .before .before .before .before .args .level) (c .before .before .before .before .before .before .args .table .now) (length (c .before .before .before .before .before .before .args .reals .now)) (length (c .before .before .before .before .before .before .args .counts .now)) (c .before .before .before .before .before .before .args .w) (c .before .before .before .before .before .before .pre .1 .0) (c .before .if1 .left)) .level)))
+
+pub +bins-accept+child-accepts+grid-accepts-spec : {M : Type 1} → statement M
++bins-accept+child-accepts+grid-accepts-spec =
+    close μ-bins-accept μ-child-accepts μ-grid-accepts (λ t. bins-accept-lts.spec (
+      fits-with-reads.Asked,
+      fits-with-reads.Learnt,
+      child-accepts-below t,
+      child-accepts.Post,
+    )
+    (bins-accept-at t)
+    bins-accept.Post
+    (bins-accept-mul-bin t)
+    (bins-accept-array-read-bin t)
+    (bins-accept-mul-weight t)
+    (bins-accept-array-read-weight t)
+    (bins-accept-add-n t)
+    (bins-accept-mul-n t)
+    (bins-accept-shared-slice-read-n t)
+    (bins-accept-add-r t)
+    (bins-accept-mul-r t)
+    (bins-accept-shared-slice-read-r t)
+    (bins-accept-add-c t)
+    (bins-accept-mul-c t)
+    (bins-accept-shared-slice-read-c t)
+    (bins-accept-add-value t)
+    (bins-accept-add-value-2 t)
+    (bins-accept-mul-value t)
+    (bins-accept-shared-slice-read-value t)
+    (bins-accept-fits-with-requires t)
+    (bins-accept-add-inner-r t)
+    (bins-accept-add-inner-r-2 t)
+    (bins-accept-mul-inner-r t)
+    (bins-accept-add-inner-r-3 t)
+    (bins-accept-add-inner-c t)
+    (bins-accept-mul-inner-c t)
+    (bins-accept-add-inner-c-2 t)
+    (bins-accept-fits-with-requires-2 t)
+    (bins-accept-add-link t)
+    (bins-accept-add-link-2 t)
+    (bins-accept-mul-link t)
+    (bins-accept-shared-slice-read-link t)
+    (bins-accept-add-child-accepts t)
+    (bins-accept-child-accepts-requires t)
+    (bins-accept-returns t))
+    (λ t. child-accepts-lts.spec
+    (grid-accepts-below t, grid-accepts.Post)
+    (child-accepts-at t)
+    child-accepts.Post
+    (child-accepts-returns t)
+    (child-accepts-grid-accepts-requires t)
+    (child-accepts-returns-2 t))
+    λ t. grid-accepts-lts.spec
+    (axes-accept-reads.Asked, axes-accept-reads.Learnt, bins-accept-below t, bins-accept.Post)
+    (grid-accepts-at t)
+    grid-accepts.Post
+    (grid-accepts-mul-if1 t)
+    (grid-accepts-shared-slice-read-if1 t)
+    (grid-accepts-axes-accept-requires t)
+    (grid-accepts-returns t)
+    (grid-accepts-sub-bins-accept t)
+    (grid-accepts-bins-accept-requires t)
+    (grid-accepts-returns-2 t)

@@ -1,0 +1,92 @@
+-- A sample taken into a tree in lent memory: which grids take it, and what it leaves, run by run along its path.
+use mathlib.Core.Path.{_≡_}
+use mathlib.Core.Bool.{true, cond}
+use mathlib.Core.List.{List}
+use Prim.Native.Nat.{ℕ, zero, suc, _+_, _-_, _*_}
+use lib.Dec.{eqb}
+use lib.ListN.{getD}
+use lib.Ieee.{Float, nan, binary64, mul}
+use Rattle.real.specs.Paper.{Paper, gives, refuses}
+use Rattle.accumulator.specs.declared.StatisticsAccumulator.{StatisticsAccumulator}
+use Rattle.accumulator.specs.Calls.{addSampleOf}
+use Rattle.model.specs.Grid.{Grid, Child}
+use Rattle.model.specs.Sound.{sound}
+use Rattle.model.specs.Train.{faultOf, faultOfChild, numbered}
+use Rattle.grid.specs.declared.Sample.{Sample}
+use Rattle.grid.specs.Memory.{Memory, recordAt, stored}
+use Rattle.grid.specs.Drawn.{axesAt}
+use Rattle.grid.specs.Tree.{axesPlace}
+use Rattle.grid.specs.Sampled.{entries, soundChild}
+use Rattle.grid.specs.Trained.{binsOn, trainedOver}
+
+-- ---- what is left of a sample below d bins grids
+
+abbrev pub pathLeft : Sample → ℕ → List ℕ
+pathLeft s d = entries 0 (s .path) d (s .levels - d)
+
+abbrev pub weightsLeft : Sample → ℕ → List Float
+weightsLeft s d = entries nan (s .weights) d (s .given - d)
+
+abbrev pub placesIn : Sample → List Float
+placesIn s = entries nan (s .coordinates) 0 (s .axes)
+
+-- ---- a grid takes a sample: it is well formed, the sample has its form, and the sample's number is one
+
+pub record Takes (g : Grid) (s : Sample) (d n : ℕ) : Type 0 where
+  pub well : sound g ≡ true
+  pub form : faultOf g (pathLeft s d) (weightsLeft s d) (placesIn s) ≡ 0
+  pub number : numbered n ≡ true
+
+pub record TakesChild (c : Child) (s : Sample) (d n : ℕ) : Type 0 where
+  pub well : soundChild c ≡ true
+  pub form : faultOfChild c (pathLeft s d) (weightsLeft s d) (placesIn s) ≡ 0
+  pub number : numbered n ≡ true
+
+-- ---- what it leaves
+
+-- an accumulator with a value added; one that refuses it stays as it is
+unfoldable pub answered : StatisticsAccumulator → Paper StatisticsAccumulator → StatisticsAccumulator
+answered a (gives b) = b
+answered a (refuses n) = a
+
+unfoldable pub withSample : StatisticsAccumulator → Float → ℕ → StatisticsAccumulator
+withSample a v number = answered a (addSampleOf a v number)
+
+-- the record at r and c with a value added, as it stands in a memory
+unfoldable pub joinedAt : ℕ → ℕ → Float → ℕ → Memory → StatisticsAccumulator
+joinedAt r c v number m = withSample (recordAt (m .reals) (m .counts) r c) v number
+
+-- an axes grid: weight · evaluation in a bin of each axis, evaluation · weight in its own accumulator
+unfoldable pub absorbedAxes : List ℕ → Sample → Float → ℕ → ℕ → ℕ → Memory → Memory
+absorbedAxes table s e number w d m =
+    stored (getD table (w + 9) 0) (getD table (w + 10) 0) (joinedAt (getD table (w + 9) 0) (getD table (w + 10) 0) (mul binary64 e (getD (s .weights) d nan)) number m)
+    (trainedOver (axesPlace table w) (mul binary64 (getD (s .weights) d nan) e) (binsOn (axesAt (m .reals) (m .counts) (axesPlace table w)) (placesIn s)) m)
+
+-- what hangs at a link
+unfoldable pub absorbedChild : (ℕ → ℕ → Memory → Memory) → ℕ → ℕ → Memory → Memory
+absorbedChild f link d m = cond (eqb link 0) m (f link d m)
+
+-- a bins grid: what hangs at the bin; (weight · probability) · evaluation in the bin's accumulator, evaluation · weight in its own
+unfoldable pub absorbedBin : (ℕ → ℕ → Memory → Memory) → List ℕ → Float → Float → ℕ → ℕ → ℕ → ℕ → Memory → Memory
+absorbedBin f table weight e number w d i m =
+    stored (getD table (w + 5) 0) (getD table (w + 6) 0) (joinedAt (getD table (w + 5) 0) (getD table (w + 6) 0) (mul binary64 e weight) number m)
+    (stored (getD table (w + 5) 0 + 14 + getD table (w + 2) 0 + 14 * i) (getD table (w + 6) 0 + 7 + 7 * i)
+    (joinedAt (getD table (w + 5) 0 + 14 + getD table (w + 2) 0 + 14 * i) (getD table (w + 6) 0 + 7 + 7 * i)
+    (mul binary64 (mul binary64 weight (getD (m .reals) (getD table (w + 5) 0 + 14 + i) nan)) e) number m)
+    (absorbedChild f (getD table (w + 7 + i) 0) (d + 1) m))
+
+unfoldable pub absorbedBins : (ℕ → ℕ → Memory → Memory) → List ℕ → Sample → Float → ℕ → ℕ → ℕ → Memory → Memory
+absorbedBins f table s e number w d m = absorbedBin f table (getD (s .weights) d nan) e number w d (getD (s .path) d 0) m
+
+unfoldable pub absorbedNode : (ℕ → ℕ → Memory → Memory) → List ℕ → Sample → Float → ℕ → ℕ → ℕ → Memory → Memory
+absorbedNode f table s e number w d m = cond (eqb (getD table w 0) 1) (absorbedAxes table s e number w d m) (absorbedBins f table s e number w d m)
+
+-- the grid whose run begins at word w, with so many levels left, below d bins grids
+unfoldable pub absorbed : ℕ → List ℕ → Sample → Float → ℕ → ℕ → ℕ → Memory → Memory
+absorbed zero table s e number w d m = absorbedAxes table s e number w d m
+absorbed (suc l) table s e number w d m = absorbedNode (absorbed l table s e number) table s e number w d m
+
+-- ---- what stands against a sample: 0 where nothing does
+unfoldable pub objectionOf : Paper Grid → ℕ
+objectionOf (gives g) = 0
+objectionOf (refuses n) = n

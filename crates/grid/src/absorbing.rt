@@ -1,0 +1,147 @@
+// A sample taken into the tree: the new records are read first, what hangs below is written first, so that all sees memory as it was.
+ghost use mathlib.Core.Path.{_≡_};
+ghost use Prim.Native.Nat.{_+_, _≤_};
+ghost use lib.ListN.{length, getD};
+ghost use Rattle.model.specs.Grid.{axes, bins};
+ghost use Rattle.grid.specs.Memory.{memory};
+ghost use Rattle.grid.specs.Tree.{axesGridAt, headAt, childIn, binsIn, gridAt, AxesLaid, BinsLaid, Laid};
+ghost use Rattle.grid.specs.Sampled.{ChildLaid};
+ghost use Rattle.grid.specs.Absorbed.{Takes, TakesChild, absorbedAxes, absorbedChild, absorbedBins, absorbed};
+use crate::Sample;
+use crate::accounts;
+use crate::adding;
+use crate::layout;
+use crate::training;
+
+// At an axes grid: a bin of each axis, then its own accumulator.
+fn absorb_axes(
+    table: &[u64],
+    reals: &mut [f64],
+    counts: &mut [u64],
+    w: usize,
+    s: Sample,
+    depth: usize,
+    evaluation: f64,
+    number: u64,
+)
+    requires { ⌜ AxesLaid (now table) (length (now reals)) (length (now counts)) w × (depth ≤ 4) × Takes (axes (axesGridAt (now table) (now reals) (now counts) w)) s depth number ⌝ }
+    ensures { λ _. ⌜ memory (now (reals .exit)) (now (counts .exit)) ≡ absorbedAxes (now (table .entry)) s evaluation number w depth (memory (now (reals .entry)) (now (counts .entry))) ⌝ }
+{
+    let weights = s.weights;
+    let weight = weights[depth];
+    let xs = s.coordinates;
+    let g = layout::axes_place(table, w);
+    let r = table[w + 9] as usize;
+    let c = table[w + 10] as usize;
+    let spots = training::locate(reals, counts, g, xs);
+    let own = adding::with_sample(reals, counts, r, c, evaluation * weight, number);
+    training::train_axes(reals, counts, g, spots, weight * evaluation);
+    accounts::store(reals, counts, r, c, own);
+}
+
+// At what hangs at a link: nothing where it is 0.
+fn absorb_child(
+    table: &[u64],
+    reals: &mut [f64],
+    counts: &mut [u64],
+    level: usize,
+    link: usize,
+    s: Sample,
+    depth: usize,
+    evaluation: f64,
+    number: u64,
+)
+    requires { ⌜ ChildLaid level (now table) (length (now reals)) (length (now counts)) link × (depth + level ≤ 4) × TakesChild (childIn (gridAt level (now table) (now reals) (now counts)) link) s depth number ⌝ }
+    ensures { λ _. ⌜ memory (now (reals .exit)) (now (counts .exit)) ≡ absorbedChild (absorbed level (now (table .entry)) s evaluation number) link depth (memory (now (reals .entry)) (now (counts .entry))) ⌝ }
+{
+    if link == 0 {
+        return;
+    }
+    absorb_grid(
+        table,
+        reals,
+        counts,
+        level,
+        link,
+        s,
+        depth,
+        evaluation,
+        number,
+    );
+}
+
+// At a bins grid: what hangs at the sample's bin, then that bin's accumulator and its own.
+fn absorb_bins(
+    table: &[u64],
+    reals: &mut [f64],
+    counts: &mut [u64],
+    level: usize,
+    w: usize,
+    s: Sample,
+    depth: usize,
+    evaluation: f64,
+    number: u64,
+)
+    requires { ⌜ BinsLaid (Laid level (now table) (length (now reals)) (length (now counts))) (now table) (length (now reals)) (length (now counts)) w × (depth + level ≤ 3)
+        × Takes (bins (headAt (now table) (now reals) (now counts) w) (binsIn (gridAt level (now table) (now reals) (now counts)) (now table) (now reals) (now counts) w 0 (getD (now table) (w + 2) 0))) s depth number ⌝ }
+    ensures { λ _. ⌜ memory (now (reals .exit)) (now (counts .exit)) ≡ absorbedBins (absorbed level (now (table .entry)) s evaluation number) (now (table .entry)) s evaluation number w depth (memory (now (reals .entry)) (now (counts .entry))) ⌝ }
+{
+    let path = s.path;
+    let bin = path[depth];
+    let weights = s.weights;
+    let weight = weights[depth];
+    let n = table[w + 2] as usize;
+    let r = table[w + 5] as usize;
+    let c = table[w + 6] as usize;
+    let link = table[w + 7 + bin] as usize;
+    let value = (weight * reals[r + 14 + bin]) * evaluation;
+    let own = adding::with_sample(reals, counts, r, c, evaluation * weight, number);
+    let inner_r = r + 14 + n + 14 * bin;
+    let inner_c = c + 7 + 7 * bin;
+    let inner = adding::with_sample(reals, counts, inner_r, inner_c, value, number);
+    absorb_child(
+        table,
+        reals,
+        counts,
+        level,
+        link,
+        s,
+        depth + 1,
+        evaluation,
+        number,
+    );
+    accounts::store(reals, counts, inner_r, inner_c, inner);
+    accounts::store(reals, counts, r, c, own);
+}
+
+// At the grid whose run begins at word w, below `depth` bins grids.
+pub fn absorb_grid(
+    table: &[u64],
+    reals: &mut [f64],
+    counts: &mut [u64],
+    level: usize,
+    w: usize,
+    s: Sample,
+    depth: usize,
+    evaluation: f64,
+    number: u64,
+)
+    requires { ⌜ Laid level (now table) (length (now reals)) (length (now counts)) w × (depth + level ≤ 4) × Takes (gridAt level (now table) (now reals) (now counts) w) s depth number ⌝ }
+    ensures { λ _. ⌜ memory (now (reals .exit)) (now (counts .exit)) ≡ absorbed level (now (table .entry)) s evaluation number w depth (memory (now (reals .entry)) (now (counts .entry))) ⌝ }
+{
+    if table[w] == 1 {
+        absorb_axes(table, reals, counts, w, s, depth, evaluation, number);
+        return;
+    }
+    absorb_bins(
+        table,
+        reals,
+        counts,
+        level - 1,
+        w,
+        s,
+        depth,
+        evaluation,
+        number,
+    );
+}

@@ -1,0 +1,185 @@
+// Whether what a sample would leave may be kept (8), judged on what it touches, before anything is written.
+ghost use mathlib.Core.Path.{_≡_};
+ghost use mathlib.Core.Bool.{true};
+ghost use Prim.Native.Nat.{_+_, _≤_};
+ghost use lib.ListN.{length, getD};
+ghost use Rattle.model.specs.Grid.{axes, bins};
+ghost use Rattle.model.specs.Sound.{sound, keptGrid, keptChild};
+ghost use Rattle.model.specs.Train.{trainGrid, trainChild, trainOf};
+ghost use Rattle.grid.specs.Tree.{axesGridAt, headAt, childIn, binsIn, gridAt, AxesLaid, BinsLaid, Laid};
+ghost use Rattle.grid.specs.Sampled.{sampleOf, ChildLaid};
+ghost use Rattle.grid.specs.State.{rootOf};
+ghost use Rattle.grid.specs.Absorbed.{pathLeft, weightsLeft, placesIn, Takes, TakesChild, objectionOf};
+use crate::Sample;
+use crate::adding;
+use crate::forms;
+use crate::layout;
+use crate::training;
+
+// At an axes grid: its own accumulator and a bin of each axis.
+fn axes_accept(
+    table: &[u64],
+    reals: &[f64],
+    counts: &[u64],
+    w: usize,
+    s: Sample,
+    depth: usize,
+    evaluation: f64,
+    number: u64,
+) -> bool
+    requires { ⌜ AxesLaid (now table) (length (now reals)) (length (now counts)) w × (depth ≤ 4) × Takes (axes (axesGridAt (now table) (now reals) (now counts) w)) s depth number ⌝ }
+    ensures { λ o. ⌜ o ≡ keptGrid (trainGrid (axes (axesGridAt (now (table .entry)) (now (reals .entry)) (now (counts .entry)) w)) (pathLeft s depth) (weightsLeft s depth) (placesIn s) evaluation number) ⌝ }
+{
+    let weights = s.weights;
+    let weight = weights[depth];
+    let xs = s.coordinates;
+    let g = layout::axes_place(table, w);
+    let spots = training::locate(reals, counts, g, xs);
+    let fit = training::cells_fit(reals, counts, g, spots, weight * evaluation);
+    let r = table[w + 9] as usize;
+    let c = table[w + 10] as usize;
+    let own = adding::fits_with(reals, counts, r, c, evaluation * weight, number);
+    own & fit
+}
+
+// At what hangs at a link.
+fn child_accepts(
+    table: &[u64],
+    reals: &[f64],
+    counts: &[u64],
+    level: usize,
+    link: usize,
+    s: Sample,
+    depth: usize,
+    evaluation: f64,
+    number: u64,
+) -> bool
+    requires { ⌜ ChildLaid level (now table) (length (now reals)) (length (now counts)) link × (depth + level ≤ 4) × TakesChild (childIn (gridAt level (now table) (now reals) (now counts)) link) s depth number ⌝ }
+    ensures { λ o. ⌜ o ≡ keptChild (trainChild (childIn (gridAt level (now (table .entry)) (now (reals .entry)) (now (counts .entry))) link) (pathLeft s depth) (weightsLeft s depth) (placesIn s) evaluation number) ⌝ }
+{
+    if link == 0 {
+        return true;
+    }
+    grid_accepts(
+        table,
+        reals,
+        counts,
+        level,
+        link,
+        s,
+        depth,
+        evaluation,
+        number,
+    )
+}
+
+// At a bins grid: its own accumulator, that of the sample's bin, and what hangs there.
+fn bins_accept(
+    table: &[u64],
+    reals: &[f64],
+    counts: &[u64],
+    level: usize,
+    w: usize,
+    s: Sample,
+    depth: usize,
+    evaluation: f64,
+    number: u64,
+) -> bool
+    requires { ⌜ BinsLaid (Laid level (now table) (length (now reals)) (length (now counts))) (now table) (length (now reals)) (length (now counts)) w × (depth + level ≤ 3)
+        × Takes (bins (headAt (now table) (now reals) (now counts) w) (binsIn (gridAt level (now table) (now reals) (now counts)) (now table) (now reals) (now counts) w 0 (getD (now table) (w + 2) 0))) s depth number ⌝ }
+    ensures { λ o. ⌜ o ≡ keptGrid (trainGrid (bins (headAt (now (table .entry)) (now (reals .entry)) (now (counts .entry)) w)
+        (binsIn (gridAt level (now (table .entry)) (now (reals .entry)) (now (counts .entry))) (now (table .entry)) (now (reals .entry)) (now (counts .entry)) w 0 (getD (now (table .entry)) (w + 2) 0)))
+        (pathLeft s depth) (weightsLeft s depth) (placesIn s) evaluation number) ⌝ }
+{
+    let path = s.path;
+    let bin = path[depth];
+    let weights = s.weights;
+    let weight = weights[depth];
+    let n = table[w + 2] as usize;
+    let r = table[w + 5] as usize;
+    let c = table[w + 6] as usize;
+    let value = (weight * reals[r + 14 + bin]) * evaluation;
+    let own = adding::fits_with(reals, counts, r, c, evaluation * weight, number);
+    let inner_r = r + 14 + n + 14 * bin;
+    let inner_c = c + 7 + 7 * bin;
+    let inner = adding::fits_with(reals, counts, inner_r, inner_c, value, number);
+    let link = table[w + 7 + bin] as usize;
+    let below = child_accepts(
+        table,
+        reals,
+        counts,
+        level,
+        link,
+        s,
+        depth + 1,
+        evaluation,
+        number,
+    );
+    own & (inner & below)
+}
+
+// At the grid whose run begins at word w, below `depth` bins grids.
+pub fn grid_accepts(
+    table: &[u64],
+    reals: &[f64],
+    counts: &[u64],
+    level: usize,
+    w: usize,
+    s: Sample,
+    depth: usize,
+    evaluation: f64,
+    number: u64,
+) -> bool
+    requires { ⌜ Laid level (now table) (length (now reals)) (length (now counts)) w × (depth + level ≤ 4) × Takes (gridAt level (now table) (now reals) (now counts) w) s depth number ⌝ }
+    ensures { λ o. ⌜ o ≡ keptGrid (trainGrid (gridAt level (now (table .entry)) (now (reals .entry)) (now (counts .entry)) w) (pathLeft s depth) (weightsLeft s depth) (placesIn s) evaluation number) ⌝ }
+{
+    if table[w] == 1 {
+        return axes_accept(table, reals, counts, w, s, depth, evaluation, number);
+    }
+    bins_accept(
+        table,
+        reals,
+        counts,
+        level - 1,
+        w,
+        s,
+        depth,
+        evaluation,
+        number,
+    )
+}
+
+// What stands against a sample on a well-formed state: 3; its form, 4, 5 or 6; 7; 8; else 0.
+pub fn objection(
+    table: &[u64],
+    reals: &[f64],
+    counts: &[u64],
+    s: Sample,
+    evaluation: f64,
+    number: u64,
+) -> u64
+    requires { ⌜ Laid 4 (now table) (length (now reals)) (length (now counts)) 0 × (sound (rootOf (now table) (now reals) (now counts)) ≡ true) ⌝ }
+    ensures { λ n. ⌜ n ≡ objectionOf (trainOf (rootOf (now (table .entry)) (now (reals .entry)) (now (counts .entry))) (sampleOf s) evaluation number) ⌝ }
+{
+    if number == 0 {
+        return 3;
+    }
+    if 9007199254740992 < number {
+        return 3;
+    }
+    let form = forms::grid_fault(table, reals, counts, 4, 0, s, 0);
+    if form != 0 {
+        return form;
+    }
+    if !real::finite(evaluation) {
+        return 7;
+    }
+    let weights = s.weights;
+    if !training::are_finite(weights, s.given) {
+        return 7;
+    }
+    if !grid_accepts(table, reals, counts, 4, 0, s, 0, evaluation, number) {
+        return 8;
+    }
+    0
+}

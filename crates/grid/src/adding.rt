@@ -1,0 +1,43 @@
+// A value joins an accumulator in lent memory.
+ghost use mathlib.Core.Path.{_≡_};
+ghost use mathlib.Core.Bool.{true};
+ghost use Prim.Native.Nat.{_+_, _≤_};
+ghost use lib.ListN.{length};
+ghost use Rattle.accumulator.specs.Record.{wellFormed};
+ghost use Rattle.accumulator.specs.Steps.{addedOf};
+ghost use Rattle.model.specs.Train.{numbered};
+ghost use Rattle.grid.specs.Memory.{memory, recordAt};
+ghost use Rattle.grid.specs.Absorbed.{joinedAt};
+use crate::accounts;
+use accumulator::Changed;
+use accumulator::StatisticsAccumulator;
+
+// Whether the record at r and c may be kept once v has joined it.
+pub fn fits_with(reals: &[f64], counts: &[u64], r: usize, c: usize, v: f64, number: u64) -> bool
+    requires { ⌜ (r + 14 ≤ length (now reals)) × (c + 7 ≤ length (now counts)) × (wellFormed (recordAt (now reals) (now counts) r c) ≡ true) × (numbered number ≡ true) ⌝ }
+    ensures { λ o. ⌜ o ≡ wellFormed (addedOf (recordAt (now (reals .entry)) (now (counts .entry)) r c) v number) ⌝ }
+{
+    match accounts::load(reals, counts, r, c).add_sample(v, number) {
+        Changed::Record(_) => true,
+        Changed::Refused(_) => false,
+    }
+}
+
+// The record at r and c once v has joined it; as it is where that is refused.
+pub fn with_sample(
+    reals: &[f64],
+    counts: &[u64],
+    r: usize,
+    c: usize,
+    v: f64,
+    number: u64,
+) -> StatisticsAccumulator
+    requires { ⌜ (r + 14 ≤ length (now reals)) × (c + 7 ≤ length (now counts)) ⌝ }
+    ensures { λ a. ⌜ a ≡ joinedAt r c v number (memory (now (reals .entry)) (now (counts .entry))) ⌝ }
+{
+    let held = accounts::load(reals, counts, r, c);
+    match held.add_sample(v, number) {
+        Changed::Record(a) => a,
+        Changed::Refused(_) => held,
+    }
+}
