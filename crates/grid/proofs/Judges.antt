@@ -85,7 +85,7 @@ two-and-two false b c d = refl
 pub four-and-four : (a b c d A B C D : Bool) → (((a && b) && (c && d)) && ((A && B) && (C && D))) ≡ (((a && A) && (b && B)) && ((c && C) && (d && D)))
 four-and-four a b c d A B C D = two-and-two (a && b) (c && d) (A && B) (C && D) ∙ ap₂ _&&_ (two-and-two a b A B) (two-and-two c d C D)
 
-zero-finite : finiteOf zero64 ≡ true
+pub zero-finite : finiteOf zero64 ≡ true
 unfolding finiteOf ofBits
 zero-finite = refl
 

@@ -54,3 +54,5 @@ pub mod UnitedOwn
 pub mod UnitedTree
 pub mod AdaptedOwn
 pub mod AdaptedTree
+pub mod Reformed
+pub mod UpdatedState
