@@ -44,7 +44,7 @@ use Rattle.grid.proofs.Fitting.{one-left}
 use Rattle.grid.proofs.FoundedOwn.{Within, within-same, within-on}
 use Rattle.grid.proofs.Trees.{axes-differ, bins-differ, taken-reals, taken-counts, below}
 use Rattle.grid.proofs.Alike.{grid-alike}
-use Rattle.grid.proofs.Children.{stands-in, behind, alike-grid}
+use Rattle.grid.proofs.Children.{before-upto, linked-grid}
 use Rattle.grid.proofs.Accepts.{formed, head-sound, spot-sound, takes-below, bins-told, grid-told, takes-grid}
 use Rattle.grid.proofs.Absorbs.{absorbed-axes}
 use Rattle.grid.proofs.Objections.{whole, grants, takes-root, train-done}
@@ -386,11 +386,13 @@ module _ (table : List ℕ) (m : Memory) (s : Sample) (e : Float) (k : ℕ) wher
   abbrev called : TrainEnd
   called = trainCallOf table m s e k
 
-  -- where the model gives a grid, the answer is 0, that grid is read afterwards, and it is well formed
+  -- where the model gives a grid, the answer is 0, that grid is read afterwards, and it is well formed; the two lists keep their lengths
   pub record Trains (g : model.Grid) : Type 0 where
     pub answer : called .answer ≡ 0
     pub reads : rootOf table (called .state .reals) (called .state .counts) ≡ g
     pub well : sound g ≡ true
+    pub reals-long : length (called .state .reals) ≡ length (m .reals)
+    pub counts-long : length (called .state .counts) ≡ length (m .counts)
 
   pub train-trains : (g : model.Grid) → Words table → stateFault table (m .reals) (m .counts) ≡ 0 → trainOf root (sampleOf s) e k ≡ gives g → Trains g
   unfolding needsOf objectionOf
@@ -408,6 +410,8 @@ module _ (table : List ℕ) (m : Memory) (s : Sample) (e : Float) (k : ℕ) wher
         answer = sym (ap (λ (o : TrainEnd). o .answer) done);
         reads = sym (ap (λ (o : TrainEnd). rootOf table (o .state .reals) (o .state .counts)) done) ∙ tied .reads ∙ same;
         well = sym (ap sound same) ∙ sound-trained root (pathLeft s 0) (weightsLeft s 0) (placesIn s) e k (c .well) (q .kept);
+        reals-long = sym (ap (λ (o : TrainEnd). length (o .state .reals)) done) ∙ tied .within .low 0 0 (omega arith) .size;
+        counts-long = sym (ap (λ (o : TrainEnd). length (o .state .counts)) done) ∙ tied .within .few 0 0 (omega arith) .size;
       }
 
 -- where the answer is a refusal, nothing was written

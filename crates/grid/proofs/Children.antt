@@ -21,7 +21,7 @@ use Rattle.grid.proofs.Trees.{axes-differ, bins-differ}
 use Rattle.grid.proofs.Alike.{grid-alike}
 use Rattle.grid.proofs.FoundedOwn.{Within}
 
-before-upto : (ts : Trees) (i j : ℕ) (y : Tally) → i ≤ j → Upto (before ts i y) (before ts j y)
+pub before-upto : (ts : Trees) (i j : ℕ) (y : Tally) → i ≤ j → Upto (before ts i y) (before ts j y)
 unfolding before
 before-upto none i j y h = upto-same y
 before-upto (more t ts) zero zero y h = upto-same y
@@ -29,7 +29,7 @@ before-upto (more t ts) zero (suc j) y h = upto-on (upto-after t y) (upto-before
 before-upto (more t ts) (suc i) zero y h = absurd (omega arith)
 before-upto (more t ts) (suc i) (suc j) y h = before-upto ts i j (after t y) (omega arith)
 
-linked-grid : (t : Tree) (u : Tally) → link t u ≢ 0 → t ≡ nothing → ⊥
+pub linked-grid : (t : Tree) (u : Tally) → link t u ≢ 0 → t ≡ nothing → ⊥
 unfolding link
 linked-grid nothing u z e = z refl
 linked-grid (axes a es) u z e = axes-differ a es e

@@ -33,6 +33,7 @@ pub mod Objections
 pub mod Formed
 pub mod AbsorbedOwn
 pub mod AbsorbedTree
+pub mod Batches
 pub mod Fitting
 pub mod Plans
 pub mod Matches
@@ -50,9 +51,9 @@ pub mod Children
 pub mod Turns
 pub mod Adapts
 pub mod Spares
-pub mod UnitedOwn
-pub mod UnitedTree
 pub mod AdaptedOwn
 pub mod AdaptedTree
 pub mod Reformed
 pub mod UpdatedState
+pub mod UnitedOwn
+pub mod UnitedTree

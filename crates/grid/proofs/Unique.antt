@@ -18,6 +18,10 @@ use Rattle.grid.proofs.clone_without_samples.Kinds as clone-kinds
 use Rattle.grid.proofs.clone_without_samples.Reads as clone-reads
 use Rattle.grid.proofs.draw.Kinds as draw-kinds
 use Rattle.grid.proofs.draw.Reads as draw-reads
+use Rattle.grid.proofs.draw_and_train.Kinds as draw-and-train-kinds
+use Rattle.grid.proofs.draw_and_train.Reads as draw-and-train-reads
+use Rattle.grid.specs.declared.Batched.{Batched}
+use Rattle.grid.specs.Batched.{BatchEnd}
 use Rattle.grid.proofs.fresh.Kinds as fresh-kinds
 use Rattle.grid.proofs.fresh.Reads as fresh-reads
 use Rattle.grid.proofs.is_mergeable.Kinds as mergeable-kinds
@@ -104,6 +108,16 @@ pub train-unique : (κs : Lfts 3) (a : Dens κs train-kinds.ps) (r r′ : ℕ) (
 train-unique κs a r r′ s s′ p q =
     let e = p ∙ sym q in
     (ap (λ (x : TrainEnd). x .answer) e, ap (λ (x : TrainEnd). x .state .reals) e, ap (λ (x : TrainEnd). x .state .counts) e)
+
+pub draw-and-train-total : (κs : Lfts 4) (a : Dens κs draw-and-train-kinds.ps) → draw-and-train-reads.Pre κs a
+draw-and-train-total κs a = tt
+
+-- the answer, and every entry of the two lists
+pub draw-and-train-unique : (κs : Lfts 4) (a : Dens κs draw-and-train-kinds.ps) (r r′ : Batched) (s s′ : AtExit (endedOf 4 draw-and-train-kinds.ps draw-and-train-kinds.r) κs)
+    → draw-and-train-reads.Post κs a r s → draw-and-train-reads.Post κs a r′ s′ → (r ≡ r′) × (now (s .1 .0) ≡ now (s′ .1 .0)) × (now (s .1 .1 .0) ≡ now (s′ .1 .1 .0))
+draw-and-train-unique κs a r r′ s s′ p q =
+    let e = p ∙ sym q in
+    (ap (λ (x : BatchEnd). x .answer) e, ap (λ (x : BatchEnd). x .state .reals) e, ap (λ (x : BatchEnd). x .state .counts) e)
 
 pub update-total : (κs : Lfts 5) (a : Dens κs update-kinds.ps) → update-reads.Pre κs a
 update-total κs a = tt

@@ -143,6 +143,8 @@ unfoldable pub trainCallOf : List ℕ → Memory → Sample → Float → ℕ �
 trainCallOf table m s e number =
     trainedBy table m s e number (onState (stateFault table (m .reals) (m .counts)) (trainOf (rootOf table (m .reals) (m .counts)) (sampleOf s) e number))
 
+-- ---- draw_and_train: in Batched, by `drawOf` and `trainCallOf`
+
 -- ---- update
 
 -- the answer, 0 or a refusal, and the two lists afterwards

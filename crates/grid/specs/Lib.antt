@@ -14,10 +14,11 @@ pub mod Sampled
 pub mod Probed
 pub mod State
 pub mod Founded
+pub mod Absorbed
 pub mod Matched
 pub mod United
-pub mod Absorbed
 pub mod Bins
 pub mod Turns
 pub mod Adapted
 pub mod Calls
+pub mod Batched

@@ -6,6 +6,7 @@ mod adapting;
 mod adding;
 mod along;
 mod axes;
+mod batching;
 mod clearing;
 mod copying;
 mod descent;
@@ -35,6 +36,7 @@ ghost use Rattle.plan.specs.Calls.{measureOf};
 ghost use Rattle.grid.specs.Memory.{memory};
 ghost use Rattle.axis.specs.Calls.{paperProbed};
 ghost use Rattle.grid.specs.Calls.{drawnAs, drawOf, probeOf, summaryOf, liveOf, liveOfBin, freshEnd, foundedOf, freshOf, cloneEnd, cloneOf, updateEnd, updateOf, trainEnd, trainCallOf, mergeableOf, mergeEnd, mergeIntoOf};
+ghost use Rattle.grid.specs.Batched.{batchEnd, batchOf};
 use accumulator::Estimated;
 use accumulator::Summed;
 use plan::Needs;
@@ -76,6 +78,13 @@ pub struct Region {
 pub struct Drawn {
     pub refused: u64,
     pub drawing: Drawing,
+}
+
+// What a batch answers: 0 or the first refusal's number, how many evaluations were trained, and the stream after their draws.
+pub struct Batched {
+    pub refused: u64,
+    pub done: usize,
+    pub stream: stream::MonteCarloRng,
 }
 
 // Draws a sample. Refused: 10, 12.
@@ -226,6 +235,30 @@ pub fn train(
     }
     absorbing::absorb_grid(table, reals, counts, 4, 0, s, 0, evaluation, number);
     0
+}
+
+// Draws a sample for each evaluation and trains it, numbered from the first number on; the state is judged once. The answer is that of `draw`
+// and `train` one by one, up to the first refusal: 10, 12; then as `train`. What was trained before it stays.
+pub fn draw_and_train(
+    table: &[u64],
+    reals: &mut [f64],
+    counts: &mut [u64],
+    start: stream::MonteCarloRng,
+    evaluations: &[f64],
+    first: u64,
+) -> Batched
+    ensures { λ r. ⌜ batchEnd r (memory (now (reals .exit)) (now (counts .exit))) ≡
+        batchOf (now (table .entry)) (memory (now (reals .entry)) (now (counts .entry))) start (now (evaluations .entry)) first ⌝ }
+{
+    let refused = state::fault(table, reals, counts);
+    if refused != 0 {
+        return Batched {
+            refused,
+            done: 0,
+            stream: start,
+        };
+    }
+    batching::steps(table, reals, counts, start, evaluations, first)
 }
 
 // Processes the waiting samples and adapts axes and probabilities, worked out on a spare of the state's size. 0, or refused: 12, 10, 12, the

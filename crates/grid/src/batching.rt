@@ -1,0 +1,80 @@
+// Draws and trainings on a state that was judged once: a trained state is well formed again.
+ghost use mathlib.Core.Path.{_≡_};
+ghost use Rattle.grid.specs.Memory.{memory};
+ghost use Rattle.grid.specs.State.{stateFault};
+ghost use Rattle.grid.specs.Batched.{stepEnd, stepOf, batchEnd, stepsOf};
+use crate::Batched;
+use crate::absorbing;
+use crate::acceptance;
+use crate::sampling;
+use stream::MonteCarloRng;
+
+// A refusal's number or 0, and the stream afterwards.
+pub struct Stepped {
+    pub refused: u64,
+    pub stream: MonteCarloRng,
+}
+
+// Draws a sample and trains it. Refused, nothing is written and the stream is the one before the draw.
+fn step(
+    table: &[u64],
+    reals: &mut [f64],
+    counts: &mut [u64],
+    start: MonteCarloRng,
+    evaluation: f64,
+    number: u64,
+) -> Stepped
+    requires { ⌜ stateFault (now table) (now reals) (now counts) ≡ 0 ⌝ }
+    ensures { λ r. ⌜ stepEnd (r .refused) (r .stream) (memory (now (reals .exit)) (now (counts .exit))) ≡
+        stepOf (now (table .entry)) (memory (now (reals .entry)) (now (counts .entry))) start evaluation number ⌝ }
+{
+    let drawing = sampling::draw_grid(table, reals, counts, 4, 0, start);
+    let sample = drawing.sample;
+    let refused = acceptance::objection(table, reals, counts, sample, evaluation, number);
+    if refused != 0 {
+        return Stepped {
+            refused,
+            stream: start,
+        };
+    }
+    absorbing::absorb_grid(table, reals, counts, 4, 0, sample, 0, evaluation, number);
+    let stream = drawing.stream;
+    Stepped { refused, stream }
+}
+
+// The evaluations in order, up to the first refusal.
+pub fn steps(
+    table: &[u64],
+    reals: &mut [f64],
+    counts: &mut [u64],
+    start: MonteCarloRng,
+    evaluations: &[f64],
+    first: u64,
+) -> Batched
+    requires { ⌜ stateFault (now table) (now reals) (now counts) ≡ 0 ⌝ }
+    ensures { λ r. ⌜ batchEnd r (memory (now (reals .exit)) (now (counts .exit))) ≡
+        stepsOf (now (table .entry)) (now (evaluations .entry)) (memory (now (reals .entry)) (now (counts .entry))) start first 0 ⌝ }
+{
+    let mut stream = start;
+    let mut number = first;
+    let mut done = 0;
+    while done < evaluations.len() {
+        let stepped = step(table, reals, counts, stream, evaluations[done], number);
+        stream = stepped.stream;
+        let refused = stepped.refused;
+        if refused != 0 {
+            return Batched {
+                refused,
+                done,
+                stream,
+            };
+        }
+        number += 1;
+        done += 1;
+    }
+    Batched {
+        refused: 0,
+        done,
+        stream,
+    }
+}
