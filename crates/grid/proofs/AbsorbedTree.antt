@@ -44,7 +44,7 @@ use Rattle.grid.proofs.Fitting.{one-left}
 use Rattle.grid.proofs.FoundedOwn.{Within, within-same, within-on}
 use Rattle.grid.proofs.Trees.{axes-differ, bins-differ, taken-reals, taken-counts, below}
 use Rattle.grid.proofs.Alike.{grid-alike}
-use Rattle.grid.proofs.Children.{before-upto, linked-grid}
+use Rattle.grid.proofs.Children.{stands-in, behind, alike-grid}
 use Rattle.grid.proofs.Accepts.{formed, head-sound, spot-sound, takes-below, bins-told, grid-told, takes-grid}
 use Rattle.grid.proofs.Absorbs.{absorbed-axes}
 use Rattle.grid.proofs.Objections.{whole, grants, takes-root, train-done}

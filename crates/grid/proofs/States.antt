@@ -90,10 +90,6 @@ module _ (table : List ℕ) (reals : List Float) (counts : List ℕ) (other : Li
           counts-fit = ltb-false (length counts) (n .counts) (b .0);
           laid = root-laid table n (length reals) (length counts) large e (ltb-false (length reals) (n .reals) (a .0)) (ltb-false (length counts) (n .counts) (b .0));
           well = not-false (sound (rootOf table reals counts)) (p .0);
-          needs = n;
-          planned = e;
-          reals-fit = ltb-false (length reals) (n .reals) (a .0);
-          counts-fit = ltb-false (length counts) (n .counts) (b .0);
         },
         record {
           needs = k;
@@ -102,10 +98,6 @@ module _ (table : List ℕ) (reals : List Float) (counts : List ℕ) (other : Li
           counts-fit = ltb-false (length tallies) (k .counts) (d .0);
           laid = root-laid other k (length theirs) (length tallies) wide f (ltb-false (length theirs) (k .reals) (c .0)) (ltb-false (length tallies) (k .counts) (d .0));
           well = not-false (sound (rootOf other theirs tallies)) (q .0);
-          needs = k;
-          planned = f;
-          reals-fit = ltb-false (length theirs) (k .reals) (c .0);
-          counts-fit = ltb-false (length tallies) (k .counts) (d .0);
         },
       )
 
