@@ -41,7 +41,7 @@ use Rattle.grid.proofs.Laid.{stands-laid, laid-axes, laid-bins}
 use Rattle.grid.proofs.Sounds.{node-axes, node-bins}
 use Rattle.grid.proofs.Samples.{sound-in, sound-below, child-sound}
 use Rattle.grid.proofs.Trees.{axes-differ, bins-differ, before-none, taken-reals, taken-counts, below}
-use Rattle.grid.proofs.States.{went-on, pair-clear, pair-planned}
+use Rattle.grid.proofs.States.{went-on, pair-clear}
 use Rattle.grid.proofs.Matches as matches
 use Rattle.grid.proofs.Unites.{both-axes, both-bins}
 use Rattle.grid.proofs.FoundedOwn.{Within, within-same, within-on}
@@ -450,12 +450,12 @@ merge-read table s other others m large wide f e =
     let done : mergeIntoOf table s other others ≡ stateEnd 0 after-all =
     went-on fault (stateEnd fault s) (unitedBy model-says after-all s) f ∙ ap (λ (p : Paper model.Grid). unitedBy p after-all s) e in
     let k = pair-clear table (s .reals) (s .counts) other (others .reals) (others .counts) large wide f in
-    let p = pair-planned table (s .reals) (s .counts) other (others .reals) (others .counts) f in
-    let r = passed-stands table (p .needs) large (p .sized) in
+    let p = k .0 in
+    let r = passed-stands table (p .needs) large (p .planned) in
     let rr : p .needs .reals ≡ after (r .tree) untaken .reals = ap (λ (n : Needs). n .reals) (r .needs) in
     let cc : p .needs .counts ≡ after (r .tree) untaken .counts = ap (λ (n : Needs). n .counts) (r .needs) in
     let g = given-merge (rootOf table (s .reals) (s .counts)) (rootOf other (others .reals) (others .counts)) m e in
-    let u = unites table other others 4 (r .tree) untaken 0 s (r .grid) (r .stands) (omega (arith, p .room)) (omega (arith, p .places)) (k .1 .laid)
+    let u = unites table other others 4 (r .tree) untaken 0 s (r .grid) (r .stands) (omega (arith, p .reals-fit)) (omega (arith, p .counts-fit)) (k .1 .laid)
     (record { mine = k .0 .well; theirs = k .1 .well; same = g .0; kept = g .1 }) in
     let read = u .reads (after-all .reals) (after-all .counts) (same-refl nan (untaken .reals) (after (r .tree) untaken .reals) (after-all .reals)) (same-refl 0 (untaken .counts) (after (r .tree) untaken .counts) (after-all .counts)) in
     (ap (λ (x : StateEnd). x .answer) done, ap (λ (x : StateEnd). rootOf table (x .state .reals) (x .state .counts)) done ∙ read ∙ g .2)
