@@ -56,7 +56,7 @@ unfolding trainedBy objectionOf
 answer-objects table m s e k (gives g) = refl
 answer-objects table m s e k (refuses n) = refl
 
-trained-onward : (table : List ℕ) (m : Memory) (s : Sample) (e : Float) (k : ℕ) → Words table → stateFault table (m .reals) (m .counts) ≡ 0 → trainCallOf table m s e k .answer ≡ 0
+pub trained-onward : (table : List ℕ) (m : Memory) (s : Sample) (e : Float) (k : ℕ) → Words table → stateFault table (m .reals) (m .counts) ≡ 0 → trainCallOf table m s e k .answer ≡ 0
     → Cleared table (trainCallOf table m s e k .state) k
 unfolding trainCallOf
 trained-onward table m s e k large f z =

@@ -56,5 +56,6 @@ pub mod AdaptedTree
 pub mod Reformed
 pub mod UpdatedState
 pub mod FreshState
+pub mod Histories
 pub mod UnitedOwn
 pub mod UnitedTree
