@@ -1,16 +1,16 @@
 -- The update of a tree: each step of the code as the definitions have it.
-use mathlib.Core.Path.{_≡_, refl, sym, ap, ap₂, _∙_, subst}
-use mathlib.Core.Bool.{Bool, true, false, not, _&&_, _||_, cond, or-assoc, or-false, and-assoc, and-true}
-use mathlib.Core.List.{List, [], _∷_, _++_, append-nil}
+use mathlib.Core.Path.{_≡_, refl, sym, ap, ap₂, _∙_}
+use mathlib.Core.Bool.{Bool, true, false, not, _&&_, _||_, or-assoc, or-false, and-assoc, and-true}
+use mathlib.Core.List.{List, _∷_, _++_, append-nil}
 use Prim.Native.Nat.{ℕ, zero, suc, _+_, _-_, _*_, _≤_, _<_}
 use native.Mathlib.Omega.{arith}
 use borrow.Author.Tests.{ne-eqb, not-false}
-use lib.ListN.{length, getD, take, drop, set}
+use lib.ListN.{length, getD, take, set}
 use lib.Seq.{take-all}
 use Rattle.axis.proofs.Lists.{write-next}
 use lib.Ieee.{Float, nan, binary64, ofBits, eq}
 use Rattle.real.specs.Numbers.{zero64}
-use Rattle.real.proofs.Truth.{failed, passed}
+use Rattle.real.proofs.Truth.{failed}
 use Rattle.recut.specs.Chances.{allChances, adaptedTo}
 use Rattle.plan.specs.Numbers.{wordsAt}
 use Rattle.grid.specs.declared.renewal.Rule.{Rule}
@@ -20,11 +20,10 @@ use Rattle.grid.specs.Judged.{axesFit, AllUpto}
 use Rattle.grid.proofs.Judges.{fit-stands}
 use Rattle.grid.proofs.Sounds.{numbers-upto}
 use Rattle.grid.proofs.Renewals.{within-all}
-use Rattle.real.specs.Paper.{Paper, gives, refuses}
 use Rattle.accumulator.specs.declared.StatisticsAccumulator.{StatisticsAccumulator}
 use Rattle.accumulator.specs.declared.Updated.{Updated}
 use Rattle.accumulator.specs.declared.Updated.the-variants as updated
-use Rattle.accumulator.specs.Calls.{Stepped, stepped, paperUpdated}
+use Rattle.accumulator.specs.Calls.{paperUpdated}
 use Rattle.accumulator.specs.Calls as account
 use Rattle.model.specs.Update.{Outcome, idle, rawOf}
 use Rattle.grid.specs.declared.renewal.Found.{Found}

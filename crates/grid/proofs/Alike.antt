@@ -1,11 +1,10 @@
 -- A grid reads the same out of any memory that is alike on what the grid takes of it.
-use mathlib.Core.Path.{_≡_, refl, sym, ap, ap₂, _∙_, subst}
+use mathlib.Core.Path.{_≡_, refl, sym, ap, _∙_, subst}
 use mathlib.Core.Bool.{Bool, true, cond}
 use mathlib.Core.List.{List, _∷_}
 use Prim.Native.Nat.{ℕ, zero, suc, _+_, _-_, _*_, _≤_, _<_}
 use native.Mathlib.Omega.{arith}
 use borrow.Author.Tests.{ne-eqb}
-use lib.Dec.{eqb}
 use lib.ListN.{length, getD}
 use lib.Ieee.{Float, nan}
 use Rattle.real.proofs.Truth.{both}
@@ -18,19 +17,19 @@ use Rattle.plan.specs.Table.{link}
 use Rattle.plan.specs.Walk.{axesRow, binsRow}
 use Rattle.plan.proofs.Rereads.{taken-words}
 use Rattle.plan.proofs.Records.{Stands, Upto, axes-record, bins-record, child-record}
-use Rattle.model.specs.Axes.{Axis, AxesPlan}
+use Rattle.model.specs.Axes.{AxesPlan}
 use Rattle.model.specs.Grid as model
 use Rattle.model.specs.Sound.{chance, listed, formedAxis, formedAxisList, formedGrid, formedBins, formedChild}
 use Rattle.grid.specs.Layout.{axisReals, axisCounts, axisAt, axesFrom}
 use Rattle.grid.specs.Memory.{recordAt}
 use Rattle.grid.specs.Judged.{AllUpto}
-use Rattle.grid.specs.Tree.{axesPlanAt, axesPlace, axesGridAt, headAt, binIn, childIn, binsIn, nodeAt, gridAt, AxesLaid}
+use Rattle.grid.specs.Tree.{axesPlanAt, axesPlace, axesGridAt, headAt, binIn, childIn, binsIn, nodeAt, gridAt}
 use Rattle.grid.proofs.Same.{Alike, alike-within}
 use Rattle.grid.proofs.Reading.{Holding, length-bins, record-alike, axes-alike}
 use Rattle.grid.proofs.Judges.{listed-upto}
 use Rattle.grid.proofs.Laid.{stands-laid, laid-axes}
 use Rattle.grid.proofs.Sounds.{numbers-upto, node-axes}
-use Rattle.grid.proofs.Trees.{axes-differ, bins-differ, before-none, taken-reals, taken-counts, below}
+use Rattle.grid.proofs.Trees.{axes-differ, bins-differ, taken-reals, taken-counts, below}
 
 -- axes of the stated form hold no more bins than they have room for
 pub holding-formed : (plan : AxesPlan) (m : ℕ) (reals : List Float) (counts : List ℕ) (k r c : ℕ) → AllUpto m (plan .bins ∷ plan .evolution)

@@ -1,6 +1,5 @@
 -- A fresh tree, laid and read back: on a table in which a plan's tree stands, the memory that was laid holds the model's fresh grid.
 use mathlib.Core.Path.{_≡_, refl, sym, ap, ap₂, _∙_, subst}
-use mathlib.Core.Bool.{Bool, true, false, false≢true}
 use mathlib.Core.List.{List, _∷_}
 use Prim.Native.Nat.{ℕ, zero, suc, _+_, _-_, _*_, _≤_}
 use native.Mathlib.Omega.{arith}
@@ -11,15 +10,15 @@ use Rattle.plan.specs.declared.Tally.{Tally}
 use Rattle.plan.specs.declared.AxesPlan.{AxesPlan}
 use Rattle.plan.specs.declared.BinsPlan.{BinsPlan}
 use Rattle.plan.specs.declared.Needs.{Needs}
-use Rattle.plan.specs.Plan.{Tree, Trees, nothing, axes, bins, none, more}
-use Rattle.plan.specs.Needs.{axesReals, axesCounts, binsReals, binsCounts, axesTaken, binsTaken, after, childAt, before, untaken, needsOf}
+use Rattle.plan.specs.Plan.{Tree, Trees, nothing, axes, bins}
+use Rattle.plan.specs.Needs.{axesReals, axesCounts, axesTaken, binsTaken, after, childAt, before, untaken, needsOf}
 use Rattle.plan.specs.Table.{link}
 use Rattle.plan.specs.Walk.{axesRow, binsRow}
 use Rattle.plan.specs.Paper.{gives}
 use Rattle.plan.specs.Calls.{sizesOf}
 use Rattle.plan.proofs.Tables.{Words}
 use Rattle.plan.proofs.Rereads.{taken-words}
-use Rattle.plan.proofs.Records.{Stands, axes-record, bins-record, Upto, upto-after, upto-all, child-record, before-next, passed-stands}
+use Rattle.plan.proofs.Records.{Stands, axes-record, bins-record, Upto, upto-after, child-record, before-next, passed-stands}
 use Rattle.model.specs.Axes.{AxesGrid, freshAxes}
 use Rattle.model.specs.Grid as model
 use Rattle.grid.specs.Memory.{Memory, memory}

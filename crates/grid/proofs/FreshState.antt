@@ -1,17 +1,14 @@
 -- What `fresh` leaves is a state that every call takes: nothing stands against it, and it reads as the model's fresh grid.
 use mathlib.Core.Path.{_≡_, refl, sym, ap, _∙_, subst}
 use mathlib.Core.Logic.{inl, inr}
-use mathlib.Core.Bool.{Bool, true, false, cond, _&&_, true≢false}
-use mathlib.Core.List.{List, [], _∷_}
+use mathlib.Core.Bool.{Bool, true, false, cond, true≢false}
+use mathlib.Core.List.{List}
 use Prim.Native.Nat.{ℕ, zero, suc, _+_, _≤_, _<_}
 use native.Mathlib.Omega.{arith}
 use borrow.Author.Tests.{ne-eqb, ltb-false, le-ltb}
-use lib.Dec.{eqb, ltb}
+use lib.Dec.{ltb}
 use lib.ListN.{length, getD, replicate}
-use lib.Ieee.{Float, binary64, ofBits}
 use Rattle.real.proofs.Truth.{both}
-use Rattle.real.specs.Count.{countOf}
-use Rattle.real.specs.Inverse.{invOf}
 use Rattle.real.proofs.Steps.{inv-above, inv-finite}
 use Rattle.accumulator.specs.Record.{fresh}
 use Rattle.accumulator.proofs.Laws.{fresh-sound}
@@ -27,11 +24,11 @@ use Rattle.plan.proofs.Tables.{Words}
 use Rattle.plan.specs.Needs.{after, untaken, needsOf}
 use Rattle.plan.proofs.Plans.{plan-was-plan, read-passes}
 use Rattle.plan.proofs.Records.{passed-stands}
-use Rattle.model.specs.Axes.{Axis, AxesPlan, AxesGrid, emptyAxis, freshAxis, freshAxes}
-use Rattle.model.specs.Grid.{Grid, Bins, Child, axes, bins, nothing, grid, freshBin, freshBins, freshHead, freshGrid}
+use Rattle.model.specs.Axes.{AxesPlan, freshAxis, freshAxes}
+use Rattle.model.specs.Grid.{Grid, axes, bins, nothing, grid, freshBin, freshBins, freshHead, freshGrid}
 use Rattle.model.specs.Sound.{sound, formedAxisList, keptAxisList, formedGrid, formedBins, formedChild, keptGrid, keptBins, keptChild}
 use Rattle.grid.specs.Memory.{Memory}
-use Rattle.grid.specs.Tree.{axesPlanAt, childIn, AxesLaid, BinsLaid, Laid}
+use Rattle.grid.specs.Tree.{axesPlanAt, childIn, AxesLaid, Laid}
 use Rattle.grid.specs.State.{rootOf, judgedBy, faultBy, stateFault}
 use Rattle.grid.specs.Founded.{laidGrid, freshChildren, freshNode, freshAt}
 use Rattle.grid.specs.Calls.{FreshEnd, freshEnd, foundedOf, freshBy, freshOf}

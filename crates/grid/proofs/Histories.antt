@@ -5,7 +5,7 @@ use mathlib.Core.Path.{_≡_, refl, ap, ap₂, _∙_, subst}
 use mathlib.Core.Bool.{Bool, true, false}
 use mathlib.Core.List.{List, [], _∷_}
 use Prim.Native.Nat.{ℕ}
-use borrow.Author.Tests.{eqb-true, eqb-false, ne-eqb}
+use borrow.Author.Tests.{eqb-true, eqb-false}
 use lib.Dec.{eqb}
 use lib.ListN.{length, replicate, length-replicate}
 use lib.Ieee.{Float}
@@ -22,9 +22,9 @@ use Rattle.model.specs.Update as model
 use Rattle.grid.specs.declared.Sample.{Sample}
 use Rattle.grid.specs.Memory.{Memory, memory}
 use Rattle.grid.specs.State.{rootOf, judgedTo, stateFault, pairFault}
-use Rattle.grid.specs.Calls.{StateEnd, stateEnd, FreshEnd, freshEnd, freshOf, trainCallOf, updatedBy, updateOf, unitedBy, mergeIntoOf}
+use Rattle.grid.specs.Calls.{StateEnd, freshEnd, freshOf, trainCallOf, updatedBy, updateOf, unitedBy, mergeIntoOf}
 use Rattle.grid.proofs.States.{Clear, clear}
-use Rattle.grid.proofs.Batches.{Cleared, clear-again, trained-onward}
+use Rattle.grid.proofs.Batches.{clear-again, trained-onward}
 use Rattle.grid.proofs.AbsorbedTree.{train-stays}
 use Rattle.grid.proofs.UpdatedState.{Called, update-updates}
 use Rattle.grid.proofs.UnitedTree.{merge-read}

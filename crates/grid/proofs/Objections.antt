@@ -12,7 +12,6 @@ use Rattle.real.specs.Finite.{finiteOf}
 use Rattle.real.specs.Total.{allFinite}
 use Rattle.real.specs.Paper.{Paper, gives, refuses}
 use Rattle.model.specs.Grid.{Grid, Head, axes, bins, nothing, grid, many}
-use Rattle.model.specs.Draw as model
 use Rattle.model.specs.Sound.{sound, keptGrid}
 use Rattle.model.specs.Train.{faultOf, faultOfBin, faultOfChild, trainGrid, numbered, trainOf}
 use Rattle.grid.specs.declared.Sample.{Sample}

@@ -1,13 +1,13 @@
 -- An update in which nothing is found leaves a well-formed grid: an axis that is refused stays, and every other is gathered, reset or re-cut
 -- to one of its plan's bin numbers.
-use mathlib.Core.Path.{_≡_, refl, sym, ap, _∙_, subst}
+use mathlib.Core.Path.{_≡_, refl, sym, _∙_, subst}
 use mathlib.Core.Logic.{inl, inr}
 use mathlib.Core.Bool.{Bool, true, false, not, _&&_, _||_, cond}
 use mathlib.Core.List.{List, [], _∷_, map}
 use Prim.Native.Nat.{ℕ, zero, suc, _+_}
 use native.Mathlib.Omega.{arith}
-use borrow.Author.Tests.{not-true, not-false, eqb-true, eq-eqb}
-use lib.Dec.{eqb, leb}
+use borrow.Author.Tests.{not-false, eqb-true, eq-eqb}
+use lib.Dec.{eqb}
 use lib.ListN.{length, getD, replicate, length-map, length-replicate}
 use lib.Ieee.{Float, eq}
 use Rattle.real.specs.Numbers.{zero64}
@@ -23,16 +23,15 @@ use Rattle.accumulator.specs.Steps.{clearedOf}
 use Rattle.accumulator.specs.Update.{updatedOf}
 use Rattle.axis.specs.Edges as Edges
 use Rattle.axis.specs.Scans.{allBounded}
-use Rattle.recut.specs.Pairs.{pairwise}
 use Rattle.recut.specs.Gather.{gatheredOf, joinedCounts, reachesOf}
 use Rattle.recut.specs.Renew.{renewOf}
 use Rattle.recut.specs.Chances.{chance, allChances, adaptedTo}
 use Rattle.recut.proofs.Pairs.{pairs-length}
 use Rattle.recut.proofs.Laws.{renew-sound}
-use Rattle.model.specs.Axes.{Axis, AxesPlan, AxesGrid, emptyAxis}
-use Rattle.model.specs.Grid.{Head, Bin, Grid, Bins, Child, axes, bins, none, more, nothing, grid, withHead, withBin}
+use Rattle.model.specs.Axes.{Axis, AxesPlan, emptyAxis}
+use Rattle.model.specs.Grid.{Head, Grid, Bins, Child, axes, bins, none, more, nothing, grid, withHead, withBin}
 use Rattle.model.specs.Sound.{allSound, keptAxis, keptAxisList, keptGrid, keptBins, keptChild, listed, formedAxis, formedAxisList, formedGrid, formedBins, formedChild, sound}
-use Rattle.model.specs.Update.{Outcome, trained, gatheredAxis, lastOr, binsAfter, recutTo, adaptedAxis, updateAxis, outcomeOf, updateAll, updateAxes, allIdle, raws, withProbabilities, adaptedBins, nested, updateGrid, updateBins, updateChild}
+use Rattle.model.specs.Update.{Outcome, trained, gatheredAxis, lastOr, binsAfter, recutTo, adaptedAxis, updateAxis, outcomeOf, updateAll, updateAxes, allIdle, raws, withProbabilities, adaptedBins, updateGrid, updateBins, updateChild}
 use Rattle.accumulator.proofs.Laws.{fresh-sound}
 use Rattle.grid.proofs.Judges.{zero-finite}
 use Rattle.grid.proofs.Turns.{no-either}

@@ -1,8 +1,8 @@
 -- The update as a call: what the spare came to, and the state's front with it.
-use mathlib.Core.Path.{_≡_, refl, sym, ap, ap₂, _∙_}
+use mathlib.Core.Path.{_≡_, sym, ap, ap₂, _∙_}
 use mathlib.Core.Bool.{Bool, true, false, not, _&&_}
 use mathlib.Core.List.{List, _++_}
-use Prim.Native.Nat.{ℕ, _-_, _≤_}
+use Prim.Native.Nat.{ℕ, _-_}
 use native.Mathlib.Omega.{arith}
 use borrow.Author.Tests.{ne-eqb}
 use lib.ListN.{length, take, drop}
@@ -15,7 +15,7 @@ use Rattle.plan.specs.Paper.{paperSized}
 use Rattle.plan.specs.Paper as plan
 use Rattle.plan.specs.Calls.{sizesOf}
 use Rattle.plan.proofs.Tables.{Words}
-use Rattle.model.specs.Update.{Outcome, rateFits}
+use Rattle.model.specs.Update.{rateFits}
 use Rattle.grid.specs.declared.renewal.Found.{Found}
 use Rattle.grid.specs.Memory.{Memory, memory}
 use Rattle.grid.specs.Tree.{Laid}

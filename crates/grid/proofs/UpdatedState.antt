@@ -2,8 +2,8 @@
 -- reads as that grid, which is well formed again, in lists of the same lengths.
 use mathlib.Core.Path.{_≡_, refl, sym, ap, ap₂, _∙_, subst}
 use mathlib.Core.Bool.{Bool, true, false, _&&_}
-use mathlib.Core.List.{List, _++_}
-use Prim.Native.Nat.{ℕ, _+_, _-_, _≤_, _<_}
+use mathlib.Core.List.{List}
+use Prim.Native.Nat.{ℕ, _≤_, _<_}
 use native.Mathlib.Omega.{arith}
 use lib.ListN.{length, getD, take, drop, length-append, length-drop, List·getD-append, take-append-drop}
 use lib.Seq.{getD-take, length-take-le}
@@ -16,7 +16,7 @@ use Rattle.plan.specs.Calls.{sizesOf}
 use Rattle.plan.proofs.Tables.{Words}
 use Rattle.plan.proofs.Records.{passed-stands}
 use Rattle.model.specs.Grid.{Grid}
-use Rattle.model.specs.Sound.{sound, formedGrid}
+use Rattle.model.specs.Sound.{sound}
 use Rattle.model.specs.Update as model
 use Rattle.grid.specs.Memory.{Memory, memory}
 use Rattle.grid.specs.State.{rootOf, judgedTo}

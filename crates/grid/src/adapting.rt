@@ -8,7 +8,7 @@ ghost use Rattle.grid.specs.Memory.{memory};
 ghost use Rattle.grid.specs.Tree.{AxesLaid, BinsLaid, Laid};
 ghost use Rattle.grid.specs.Renewed.{found};
 ghost use Rattle.grid.specs.Turns.{childTurned, childrenTurned};
-ghost use Rattle.grid.specs.Adapted.{ruleAt, accountUpdated, accountsUpdated, axesUpdated, averagesAt, idleIn, rawsIn, chancesLaid, chancesAdapted, binsAdapted, updatedIn};
+ghost use Rattle.grid.specs.Adapted.{ruleAt, accountUpdated, accountsUpdated, axesUpdated, idleIn, rawsIn, chancesAdapted, binsAdapted, updatedIn};
 use crate::accounts;
 use crate::judging;
 use crate::layout;

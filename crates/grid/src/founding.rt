@@ -1,6 +1,6 @@
 // A fresh tree laid down in lent memory: what a grid keeps of its own, then what hangs below it.
 ghost use mathlib.Core.Path.{_≡_};
-ghost use Prim.Native.Nat.{_+_, _-_, _*_, _≤_, _<_};
+ghost use Prim.Native.Nat.{_+_, _-_, _*_, _<_};
 ghost use lib.ListN.{length, getD};
 ghost use Rattle.grid.specs.Memory.{memory};
 ghost use Rattle.grid.specs.Tree.{AxesLaid, BinsLaid, Laid};

@@ -1,6 +1,6 @@
 // Whether a grid in lent memory is well formed (12): its run's kind says which test it is, and its children are judged with it.
 ghost use mathlib.Core.Path.{_≡_};
-ghost use Prim.Native.Nat.{_+_, _-_, _*_, _≤_, _<_};
+ghost use Prim.Native.Nat.{_+_, _-_, _*_, _<_};
 ghost use lib.ListN.{length, getD};
 ghost use Rattle.model.specs.Grid.{axes, bins};
 ghost use Rattle.model.specs.Sound.{chance, sound};

@@ -1,6 +1,5 @@
 // The update as a call: worked out on the spare, judged whole, and only then copied back.
 ghost use mathlib.Core.Path.{_≡_};
-ghost use mathlib.Core.Bool.{_&&_};
 ghost use lib.ListN.{length};
 ghost use Rattle.plan.specs.Paper.{gives};
 ghost use Rattle.plan.specs.Calls.{sizesOf};

@@ -1,8 +1,8 @@
 -- An axis and an axes grid: the Rust's ContinuousDimension and ContinuousGrid.
 use Prim.Native.Nat.{ℕ}
 use mathlib.Core.Bool.{Bool}
-use mathlib.Core.List.{List, [], _∷_, map}
-use lib.ListN.{length, replicate}
+use mathlib.Core.List.{List, map}
+use lib.ListN.{replicate}
 use lib.Ieee.{Float}
 use Rattle.real.specs.Numbers.{zero64}
 use Rattle.accumulator.specs.declared.StatisticsAccumulator.{StatisticsAccumulator}

@@ -2,8 +2,7 @@
 use Prim.Native.Nat.{ℕ, zero, suc}
 use mathlib.Core.Bool.{Bool, true, false, cond}
 use mathlib.Core.List.{List, [], _∷_}
-use lib.ListN.{getD}
-use lib.Ieee.{Float, nan, binary64, add, sub, mul, div, lt, le, eq}
+use lib.Ieee.{Float, binary64, add, sub, mul, div, lt, le, eq}
 use Rattle.real.specs.Numbers.{zero64, one64}
 use Rattle.real.specs.Inverse.{invOf}
 use Rattle.stream.specs.declared.MonteCarloRng.{MonteCarloRng}
@@ -13,7 +12,7 @@ use Rattle.axis.specs.declared.Point.{Point}
 use Rattle.axis.specs.Edges.{binOf, weightOf}
 use Rattle.axis.specs.Calls.{pointOf}
 use Rattle.model.specs.Axes.{Axis, AxesGrid}
-use Rattle.model.specs.Grid.{Bin, Head, Grid, Bins, Child, axes, bins, none, more, nothing, grid, probabilities}
+use Rattle.model.specs.Grid.{Bin, Grid, Bins, Child, axes, bins, none, more, nothing, grid, probabilities}
 
 -- a sample: a bin for each bins grid on its path, a weight for each of them and for the axes grid at its end, that grid's coordinates
 pub record Sample : Type 0 where

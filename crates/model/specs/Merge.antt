@@ -9,8 +9,8 @@ use lib.Ieee.{Float, eq}
 use Rattle.real.specs.Paper.{Paper, gives, refuses}
 use Rattle.accumulator.specs.declared.StatisticsAccumulator.{StatisticsAccumulator}
 use Rattle.accumulator.specs.Steps.{mergedOf}
-use Rattle.model.specs.Axes.{Axis, AxesGrid}
-use Rattle.model.specs.Grid.{Bin, Head, Grid, Bins, Child, axes, bins, none, more, nothing, grid, withHead, withBin}
+use Rattle.model.specs.Axes.{Axis}
+use Rattle.model.specs.Grid.{Grid, Bins, Child, axes, bins, none, more, nothing, grid, withHead, withBin}
 use Rattle.model.specs.Sound.{keptGrid}
 
 -- ---- the same shape: kinds, axes, bins now held, children

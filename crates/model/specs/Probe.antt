@@ -1,7 +1,7 @@
 -- Probing: the weight at a point or over a region, and the refusals along the path: at each level the index (6) before what hangs there
 -- (4), then the number of coordinates (4), then each in order (5).
 use Prim.Native.Nat.{ℕ, zero, suc}
-use mathlib.Core.Bool.{Bool, not, cond}
+use mathlib.Core.Bool.{not, cond}
 use mathlib.Core.List.{List, [], _∷_}
 use lib.Dec.{ltb, eqb}
 use lib.ListN.{length}
@@ -11,7 +11,7 @@ use Rattle.real.specs.Inverse.{invOf}
 use Rattle.real.specs.Paper.{Paper, gives, refuses}
 use Rattle.axis.specs.Edges.{inUnit, binOf, weightOf}
 use Rattle.model.specs.Axes.{Axis, AxesGrid}
-use Rattle.model.specs.Grid.{Bin, Grid, Bins, Child, axes, bins, none, more, nothing, grid, many}
+use Rattle.model.specs.Grid.{Grid, Bins, Child, axes, bins, none, more, nothing, grid, many}
 use Rattle.model.specs.Draw.{flooredOf}
 
 -- a probe may leave a coordinate open, which then has factor 1

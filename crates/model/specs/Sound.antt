@@ -1,20 +1,17 @@
 -- Which grids are well formed (12), and which of what a call would leave is kept (8).
-use Prim.Native.Nat.{ℕ, _+_, _^_}
-use mathlib.Core.Bool.{Bool, true, false, _&&_, _||_, cond}
+use Prim.Native.Nat.{ℕ, _+_}
+use mathlib.Core.Bool.{Bool, true, false, _&&_, _||_}
 use mathlib.Core.List.{List, [], _∷_}
-use lib.Dec.{leb, eqb}
+use lib.Dec.{eqb}
 use lib.ListN.{length}
-use lib.Ieee.{Float, lt}
-use Rattle.real.specs.Numbers.{zero64}
-use Rattle.real.specs.Finite.{finiteOf}
 use Rattle.real.specs.Total.{allFinite}
 use Rattle.accumulator.specs.declared.StatisticsAccumulator.{StatisticsAccumulator}
 use Rattle.accumulator.specs.Record.{bounded, wellFormed}
 use Rattle.axis.specs.Edges as Edges
 use Rattle.axis.specs.Scans.{allBounded}
 unfoldable pub use Rattle.recut.specs.Chances.{chance}
-use Rattle.model.specs.Axes.{Axis, AxesPlan, AxesGrid}
-use Rattle.model.specs.Grid.{Bin, Head, Grid, Bins, Child, axes, bins, none, more, nothing, grid}
+use Rattle.model.specs.Axes.{Axis, AxesPlan}
+use Rattle.model.specs.Grid.{Grid, Bins, Child, axes, bins, none, more, nothing, grid}
 
 -- every record's kept sums are finite and its counts at most 2^53
 unfoldable pub allSound : List StatisticsAccumulator → Bool

@@ -1,21 +1,19 @@
 -- Training: 3 for the sample's number, then the path (6, 4), the number of coordinates (4), each coordinate (5), evaluation and weights (7),
 -- what would be kept (8), then the grid with the sample added.
 use Prim.Native.Nat.{ℕ, zero, suc, _^_}
-use mathlib.Core.Bool.{Bool, true, false, not, _&&_, cond}
+use mathlib.Core.Bool.{Bool, not, _&&_, cond}
 use mathlib.Core.List.{List, [], _∷_}
 use lib.Dec.{leb, ltb, eqb}
 use lib.ListN.{length, getD, set}
 use lib.Ieee.{Float, binary64, mul}
 use Rattle.real.specs.Finite.{finiteOf}
 use Rattle.real.specs.Total.{allFinite}
-use Rattle.real.specs.Numbers.{one64}
 use Rattle.real.specs.Paper.{Paper, gives, refuses}
-use Rattle.accumulator.specs.declared.StatisticsAccumulator.{StatisticsAccumulator}
 use Rattle.accumulator.specs.Record.{fresh}
 use Rattle.accumulator.specs.Steps.{addedOf}
 use Rattle.axis.specs.Edges.{inUnit, binOf}
 use Rattle.model.specs.Axes.{Axis, AxesGrid}
-use Rattle.model.specs.Grid.{Bin, Head, Grid, Bins, Child, axes, bins, none, more, nothing, grid, many, withHead, withBin}
+use Rattle.model.specs.Grid.{Grid, Bins, Child, axes, bins, none, more, nothing, grid, many, withHead, withBin}
 use Rattle.model.specs.Draw.{Sample, weightAt}
 use Rattle.model.specs.Sound.{keptGrid}
 

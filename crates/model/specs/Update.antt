@@ -1,16 +1,16 @@
 -- Updating: 3 for a rate outside [0, 10], 8 anywhere, 9 anywhere, then the grid with its samples processed and its axes and probabilities
 -- adapted. Rates: the bins rate first, then the axes rate.
-use Prim.Native.Nat.{ℕ, suc, _+_, _-_}
+use Prim.Native.Nat.{ℕ, _+_, _-_}
 use mathlib.Core.Bool.{Bool, true, false, not, _&&_, _||_, cond}
 use mathlib.Core.List.{List, [], _∷_, map}
 use lib.Dec.{ltb, eqb}
 use lib.ListN.{length, getD}
-use lib.Ieee.{Float, binary64, ofBits, add, mul, div, lt, le, eq}
+use lib.Ieee.{Float, binary64, ofBits, mul, le, eq}
 use Rattle.real.specs.Numbers.{zero64}
 use Rattle.real.specs.Norm.{normOf}
 use Rattle.real.specs.Count.{countOf}
 use Rattle.real.specs.Root.{rootOf}
-use Rattle.real.specs.Total.{totalOf, allFinite}
+use Rattle.real.specs.Total.{allFinite}
 use Rattle.real.specs.Paper.{Paper, gives, refuses}
 use Rattle.accumulator.specs.declared.StatisticsAccumulator.{StatisticsAccumulator}
 use Rattle.accumulator.specs.Record.{bounded, wellFormed}
@@ -21,7 +21,7 @@ use Rattle.recut.specs.Gather.{gatheredOf, joinedCounts, reachesOf}
 use Rattle.recut.specs.Renew.{renewOf}
 use Rattle.recut.specs.Chances.{adaptedTo, allChances}
 use Rattle.model.specs.Axes.{Axis, AxesPlan, AxesGrid, emptyAxis}
-use Rattle.model.specs.Grid.{Bin, Head, Grid, Bins, Child, axes, bins, none, more, nothing, grid, withHead, withBin}
+use Rattle.model.specs.Grid.{Head, Grid, Bins, Child, axes, bins, none, more, nothing, grid, withHead, withBin}
 
 -- ---- an axis
 
