@@ -14,6 +14,7 @@ sys.dont_write_bytecode = True
 HERE = pathlib.Path(__file__).resolve().parent
 TOOL = HERE / "fields"
 EXAMPLES = HERE.parent / "examples"
+ORACLE = HERE.parent / "oracle" / "target" / "release"
 
 loader = importlib.machinery.SourceFileLoader("fields", str(TOOL))
 fields = importlib.util.module_from_spec(importlib.util.spec_from_loader("fields", loader))
@@ -193,6 +194,104 @@ class Lines(unittest.TestCase):
         for line in [b"hello", b"refused 13 at 0", b"refused 0 at 0", b"1 2 0 0 0", b"1 2 3FF0000000000000 0000000000000000 0000000000000000"]:
             with self.assertRaisesRegex(fields.Mistake, "^line 1: "):
                 fields.lines(line)
+
+
+AXES = "axes 1 bins 2 least 0 train squares floor 0"
+STREAM = "stream seed 0 number 0"
+BEGIN = [AXES, STREAM]
+NEST = ["grid 1 ratio 1 train squares"]
+
+# inputs and what docs/FORMAT.md says of them: the refusal's number and offset, None for none
+JUDGED = [
+    ([], (1, 0)),
+    (["none", STREAM], (1, 0)),
+    (["bytes 01 10"], (1, 0)),
+    (["bytes 01 0f00", "bytes " + "01" * 15], (1, 0)),
+    (["bytes 05 0000"], (1, 0)),
+    ([AXES], (1, 19)),
+    ([AXES, "evaluation 1"], (1, 19)),
+    ([AXES, "bytes 02 0300 010101"], (1, 19)),
+    ([AXES, "bytes 02 0400 0101"], (1, 19)),
+    ([AXES, "evolution 3", "evolution 3"], (1, 24)),
+    (["evolution 3"], (1, 0)),
+    (NEST + ["none", "evolution 3"], (1, 17)),
+    (NEST + [STREAM], (1, 14)),
+    (BEGIN + [STREAM], (1, 32)),
+    (BEGIN + ["bytes 11 0700 01020304050607"], (1, 32)),
+    (BEGIN + ["evaluation 1", "bytes 12"], (1, 43)),
+    (BEGIN, None),
+    ([AXES.replace("axes 1", "axes 8"), STREAM], None),
+    ([AXES.replace("axes 1", "axes 9"), STREAM], (2, 0)),
+    ([AXES.replace("axes 1", "axes 0"), STREAM], (2, 0)),
+    ([AXES.replace("bins 2", "bins 0")], (2, 0)),
+    ([AXES.replace("bins 2", "bins 1025")], (2, 0)),
+    ([AXES.replace("bins 2", "bins 0").replace("squares", "2")], (2, 0)),
+    ([AXES, "evolution"], (2, 19)),
+    ([AXES, "evolution" + 17 * " 2"], (2, 19)),
+    ([AXES, "evolution 2 0"], (2, 19)),
+    ([AXES, "evolution 1025"], (2, 19)),
+    ([AXES.replace("squares", "2"), "evolution 0"], (3, 0)),
+    (["grid 0 ratio 1 train squares"], (2, 0)),
+    (["grid 257 ratio 1 train squares"], (2, 0)),
+    (NEST * 4 + ["none", STREAM], None),
+    (NEST * 4 + [AXES, STREAM], None),
+    (NEST * 5 + ["none", STREAM], (2, 56)),
+    (["grid 63 ratio 1 train squares"] + [AXES.replace("bins 2", "bins 1")] * 63 + [STREAM], None),
+    (["grid 64 ratio 1 train squares"] + [AXES] * 64 + [STREAM], (2, 14 + 63 * 19)),
+    ([AXES.replace("squares", "2")], (3, 0)),
+    ([AXES.replace("floor 0", "floor 0x8000000000000000"), STREAM], None),
+    ([AXES.replace("floor 0", "floor 1"), STREAM], None),
+    ([AXES.replace("floor 0", "floor 1.0000000000000002")], (3, 0)),
+    ([AXES.replace("floor 0", "floor 0x7ff8000000000000")], (3, 0)),
+    (["grid 1 ratio 0.5 train squares"], (3, 0)),
+    (["grid 1 ratio 0x7ff0000000000000 train squares"], (3, 0)),
+    (["grid 1 ratio 1 train 2"], (3, 0)),
+    ([AXES, "stream seed 0 number 4095"], None),
+    ([AXES, "stream seed 0 number 4096"], (3, 19)),
+    (BEGIN + ["update bins 10 axes -0.0"], None),
+    (BEGIN + ["update bins -1 axes 0"], (3, 32)),
+    (BEGIN + ["update bins 11 axes 0"], (3, 32)),
+    (BEGIN + ["update bins 0 axes 0x7ff8000000000000"], (3, 32)),
+    (BEGIN + ["evaluation 0x7ff0000000000000"], (7, 32)),
+    (BEGIN + ["evaluation 0x7ff8000000000000"], (7, 32)),
+    (BEGIN + ["evaluation 1e200"], (8, 32)),
+    (BEGIN + ["evaluation 1e154 times 2"], (8, 43)),
+    (BEGIN + ["evaluation 1e154", "update bins 0 axes 1"], (8, 43)),
+    (NEST + ["none", STREAM, "evaluation 0.1 times 3", "update bins 1 axes 0"], (9, 63)),
+    (["axes 1 bins 128 least 0 train squares floor 0", STREAM], None),
+    (["axes 1 bins 129 least 0 train squares floor 0"], (10, 0)),
+    (["axes 2 bins 2 least 0 train squares floor 0", "evolution 65 2", STREAM], (10, 0)),
+    (["grid 128 ratio 1 train squares"] + ["none"] * 128 + [STREAM], None),
+    (["grid 129 ratio 1 train squares"] + ["none"] * 129 + [STREAM], (10, 0)),
+]
+
+
+def program(name, data, *arguments):
+    return subprocess.run([str(ORACLE / name), *arguments], input=data, capture_output=True, check=True).stdout
+
+
+@unittest.skipUnless((ORACLE / "oracle").exists(), "the oracle is not built")
+class Oracle(unittest.TestCase):
+    def test_refusals(self):
+        for text, refusal in JUDGED:
+            with self.subTest(text=text[-2:], refusal=refusal):
+                written = program("oracle", fields.encode("\n".join(text).encode())).decode().splitlines()
+                refused = [line for line in written if line.startswith("refused")]
+                self.assertEqual(refused, ["refused %d at %d" % refusal] if refusal else [])
+
+    def test_generated_inputs(self):
+        for index in range(300):
+            data = program("generate", b"", "2", str(index))
+            self.assertEqual(fields.encode(fields.decode(data, index % 2 == 0)), data)
+            fields.lines(program("oracle", data))
+
+    def test_examples_answers(self):
+        for name, function in [("small-axes", "product"), ("nested", "kinds"), ("narrow-corner", "corner")]:
+            data = (EXAMPLES / f"{name}.bin").read_bytes()
+            self.assertEqual(program("evaluate", data, function), data)
+            comments = [line[1:].strip() for line in (EXAMPLES / f"{name}.txt").read_text().splitlines() if line[:1] == "#"]
+            told = [line for line in comments if line.startswith("iterations")]
+            self.assertEqual(fields.lines(program("oracle", data)).decode().splitlines(), told)
 
 
 if __name__ == "__main__":
