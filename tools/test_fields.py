@@ -144,13 +144,15 @@ bytes 11
 class Mistakes(unittest.TestCase):
     def test_each_is_told_with_its_line(self):
         for line in [
-            "axis 1", "axes 1", "axes 256 bins 1 least 0 train squares floor 0", "axes 1 bins 65536 least 0 train squares floor 0",
+            "axis 1", "axes 1", "axes 256 bins 1 least 0 train squares floor 0",
+            "axes 1 bins 65536 least 0 train squares floor 0",
             "axes 1 bins 1 least 4294967296 train squares floor 0", "axes 1 bins 1 least 0 train cubes floor 0",
             "axes 1 bins 1 least 0 train squares floor nan", "axes -1 bins 1 least 0 train squares floor 0",
             "evolution 1,2", "evolution 65536", "grid 3", "grid 3 ratio 1e999 train squares", "none 1",
             "stream seed 18446744073709551616 number 0", "stream number 0 seed 0", "stream seed 0 number 65536",
-            "evaluation", "evaluation inf", "evaluation 0x1", "evaluation 1_0", "evaluation \u0661", "evaluation 1 times 0",
-            "evaluation 1 times", "evaluation 1 times 1000001", "evaluation 1 2", "update bins 1", "bytes 1", "bytes 0g",
+            "evaluation", "evaluation inf", "evaluation 0x1", "evaluation 1_0", "evaluation \u0661",
+            "evaluation 1 times 0", "evaluation 1 times", "evaluation 1 times 1000001", "evaluation 1 2",
+            "update bins 1", "bytes 1", "bytes 0g",
             "evaluation " + "9" * 400, "stream seed " + "9" * 5000 + " number 0",
         ]:
             with self.subTest(line=line[:60]):
@@ -170,7 +172,7 @@ class Mistakes(unittest.TestCase):
     def test_command(self):
         done = run("encode", data=b"none\nnothing\n")
         self.assertEqual((done.returncode, done.stdout), (1, b""))
-        self.assertEqual(done.stderr.splitlines()[0].split(b";")[0], b"fields: standard input: line 2: 'nothing' begins no field")
+        self.assertTrue(done.stderr.startswith(b"fields: standard input: line 2: 'nothing' begins no field"))
         self.assertEqual(run("decode", "no such file").returncode, 1)
         self.assertNotIn(b"Traceback", run("decode", str(HERE)).stderr)
         for wrong in [(), ("show",), ("encode", "a", "b"), ("encode", "--offsets"), ("decode", "--offset")]:
@@ -191,7 +193,8 @@ class Lines(unittest.TestCase):
             self.assertIn(": ", fields.lines(b"refused %d at 0\n" % number).decode())
 
     def test_other_lines(self):
-        for line in [b"hello", b"refused 13 at 0", b"refused 0 at 0", b"1 2 0 0 0", b"1 2 3FF0000000000000 0000000000000000 0000000000000000"]:
+        upper = b"1 2 3FF0000000000000 0000000000000000 0000000000000000"
+        for line in [b"hello", b"refused 13 at 0", b"refused 0 at 0", b"1 2 0 0 0", upper]:
             with self.assertRaisesRegex(fields.Mistake, "^line 1: "):
                 fields.lines(line)
 
@@ -289,8 +292,8 @@ class Oracle(unittest.TestCase):
         for name, function in [("small-axes", "product"), ("nested", "kinds"), ("narrow-corner", "corner")]:
             data = (EXAMPLES / f"{name}.bin").read_bytes()
             self.assertEqual(program("evaluate", data, function), data)
-            comments = [line[1:].strip() for line in (EXAMPLES / f"{name}.txt").read_text().splitlines() if line[:1] == "#"]
-            told = [line for line in comments if line.startswith("iterations")]
+            text = (EXAMPLES / f"{name}.txt").read_text().splitlines()
+            told = [line.strip("# ") for line in text if line.startswith("#     iterations")]
             self.assertEqual(fields.lines(program("oracle", data)).decode().splitlines(), told)
 
 
