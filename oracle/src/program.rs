@@ -59,7 +59,8 @@ fn integrate(input: &[u8], output: &mut String) -> Result<(), Refused> {
     Ok(())
 }
 
-fn new_stream(field: &Field) -> Result<MonteCarloRng, Refused> {
+/// The stream that field 10 describes.
+pub fn new_stream(field: &Field) -> Result<MonteCarloRng, Refused> {
     let fits = field.tag == STREAM && field.payload.len() == 10;
     field.demand(fits, Refusal::Malformed)?;
     let number = field.u16(8);
