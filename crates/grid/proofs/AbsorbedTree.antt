@@ -24,7 +24,7 @@ use Rattle.plan.specs.Table.{link}
 use Rattle.plan.specs.Walk.{axesRow, binsRow}
 use Rattle.plan.proofs.Tables.{Words}
 use Rattle.plan.proofs.Rereads.{taken-words}
-use Rattle.plan.proofs.Records.{Stands, Upto, axes-record, bins-record, child-record, grid-link, before-next, passed-stands}
+use Rattle.plan.proofs.Records.{Stands, Upto, axes-record, bins-record, child-record, passed-stands}
 use Rattle.model.specs.Grid as model
 use Rattle.model.specs.Sound.{sound, formedGrid, formedChild, keptGrid, keptChild}
 use Rattle.model.specs.Train.{trainGrid, trainBin, trainChild, trainOf}
@@ -34,7 +34,7 @@ use Rattle.grid.specs.Sampled.{soundChild, sampleOf}
 use Rattle.grid.specs.Tree.{axesGridAt, headAt, binIn, childIn, binsIn, nodeAt, gridAt}
 use Rattle.grid.specs.Absorbed.{pathLeft, weightsLeft, placesIn, Takes, TakesChild, joinedAt, absorbedChild, absorbedBin, absorbedBins, absorbedNode, absorbed, objectionOf}
 use Rattle.grid.specs.State.{rootOf, stateFault}
-use Rattle.grid.specs.Calls.{onState, TrainEnd, trainEnd, trainedBy, trainCallOf}
+use Rattle.grid.specs.Calls.{onState, StateEnd, stateEnd, trainedBy, trainCallOf}
 use Rattle.grid.proofs.Same.{Same, Alike, same-alike, same-sym, same-on}
 use Rattle.grid.proofs.Laid.{stands-laid, laid-axes}
 use Rattle.grid.proofs.Sounds.{node-axes}
@@ -44,7 +44,7 @@ use Rattle.grid.proofs.Fitting.{one-left}
 use Rattle.grid.proofs.FoundedOwn.{Within, within-same, within-on}
 use Rattle.grid.proofs.Trees.{axes-differ, bins-differ, taken-reals, taken-counts, below}
 use Rattle.grid.proofs.Alike.{grid-alike}
-use Rattle.grid.proofs.Children.{before-upto, linked-grid}
+use Rattle.grid.proofs.Children.{stands-in, behind, alike-grid}
 use Rattle.grid.proofs.Accepts.{formed, head-sound, spot-sound, takes-below, bins-told, grid-told, takes-grid}
 use Rattle.grid.proofs.Absorbs.{absorbed-axes}
 use Rattle.grid.proofs.Objections.{whole, grants, takes-root, train-done}
@@ -148,31 +148,6 @@ module _ (xs : List ℕ) (s : Sample) (e : Float) (k : ℕ) where
       abbrev N : ℕ
       N = getD xs (y .words + 2) 0
 
-      stands : (j : ℕ) → j < b .bins → Stands xs l (childAt ts j) (before ts j own)
-      stands j h =
-          let level : suc l - 1 ≡ l = omega arith in
-          subst (λ (n : ℕ). Stands xs n (childAt ts j) (before ts j own)) level (child-record xs (suc l) b ts y j st h .stands)
-
-      -- child j lies behind all that child i takes
-      behind : (i j : ℕ) → i < j → i < b .bins → Upto (after (childAt ts i) (before ts i own)) (before ts j own)
-      behind i j h c =
-          let next : before ts (suc i) own ≡ after (childAt ts i) (before ts i own) = before-next ts i own (omega (arith, bins-record xs (suc l) b ts y st .number)) in
-          subst (λ (u : Tally). Upto u (before ts j own)) next (before-upto ts (suc i) j own (omega arith))
-
-      alike-grid : (j : ℕ) (m n : Memory) → j < b .bins → end .reals ≤ length (m .reals) → end .counts ≤ length (m .counts) → (at j ≡ 0 → ⊥) → formedGrid (gridAt l xs (m .reals) (m .counts) (at j)) ≡ true
-          → Alike nan (before ts j own .reals) (after (childAt ts j) (before ts j own) .reals) (m .reals) (n .reals)
-          → Alike 0 (before ts j own .counts) (after (childAt ts j) (before ts j own) .counts) (m .counts) (n .counts)
-          → gridAt l xs (m .reals) (m .counts) (at j) ≡ gridAt l xs (n .reals) (n .counts) (at j)
-      alike-grid j m n c h g z f x u =
-          let r = child-record xs (suc l) b ts y j st c in
-          let v = before ts j own in
-          let q = childAt ts j in
-          let there : q ≡ nothing → ⊥ = linked-grid q v (subst (λ (n : ℕ). n ≢ 0) (r .linked) z) in
-          let a : at j ≡ v .words = r .linked ∙ grid-link q v there in
-          subst (λ (o : ℕ). gridAt l xs (m .reals) (m .counts) o ≡ gridAt l xs (n .reals) (n .counts) o) (sym a)
-          (grid-alike xs (m .reals) (n .reals) (m .counts) (n .counts) l q v there (stands j c) (omega (arith, r .inside .reals)) (omega (arith, r .inside .counts))
-          (sym (ap (λ (o : ℕ). formedGrid (gridAt l xs (m .reals) (m .counts) o)) a) ∙ f) x u)
-
       -- another child, out of memory that is alike on what it takes
       other-child : (j : ℕ) (m n : Memory) → j < b .bins → end .reals ≤ length (m .reals) → end .counts ≤ length (m .counts) → formedChild (childIn (gridAt l xs (m .reals) (m .counts)) (at j)) ≡ true
           → Alike nan (before ts j own .reals) (after (childAt ts j) (before ts j own) .reals) (m .reals) (n .reals)
@@ -184,7 +159,7 @@ module _ (xs : List ℕ) (s : Sample) (e : Float) (k : ℕ) where
           told : (o : Bool) → eqb (at j) 0 ≡ o → formedChild (cond o model.nothing (model.grid (gridAt l xs (m .reals) (m .counts) (at j)))) ≡ true
               → cond o model.nothing (model.grid (gridAt l xs (n .reals) (n .counts) (at j))) ≡ cond o model.nothing (model.grid (gridAt l xs (m .reals) (m .counts) (at j)))
           told true o q = refl
-          told false o q = ap model.grid (sym (alike-grid j m n c h g (eqb-false (at j) 0 o) q x z))
+          told false o q = ap model.grid (sym (alike-grid xs l b ts y st j m n c h g (eqb-false (at j) 0 o) q x z))
 
       -- ---- one step at this bins grid
 
@@ -280,7 +255,7 @@ module _ (xs : List ℕ) (s : Sample) (e : Float) (k : ℕ) where
         child =
             let r = child-record xs (suc l) b ts y i st (omega (arith, as-many, inside)) in
             let z = upto-end i inside in
-            pick (childAt ts i) u (at i) (d + 1) m (r .linked) (omega (arith, r .behind .words, taken-words b y)) (stands i (omega (arith, as-many, inside))) (omega (arith, z .reals, h)) (omega (arith, z .counts, g))
+            pick (childAt ts i) u (at i) (d + 1) m (r .linked) (omega (arith, r .behind .words, taken-words b y)) (stands-in xs l b ts y st i (omega (arith, as-many, inside))) (omega (arith, z .reals, h)) (omega (arith, z .counts, g))
             (takes-below F xs (m .reals) (m .counts) w N H s d k t) (parts .2)
 
         touched : Within R (R + 14 + 15 * N) C (C + 7 + 7 * N) deep last
@@ -334,10 +309,10 @@ module _ (xs : List ℕ) (s : Sample) (e : Float) (k : ℕ) where
             told : (a : Bool) → ltb j i ≡ a → Alike nan (before ts j own .reals) (after (childAt ts j) (before ts j own) .reals) (m .reals) (last .reals)
                 × Alike 0 (before ts j own .counts) (after (childAt ts j) (before ts j own) .counts) (m .counts) (last .counts)
             told true a =
-                let r = behind j i (ltb-true j i a) (omega (arith, as-many)) in
+                let r = behind xs l b ts y st j i (ltb-true j i a) (omega (arith, as-many)) in
                 around (before ts j own) (after (childAt ts j) (before ts j own)) (past j o .0) (past j o .1) (child .0 .low _ _ (r .reals)) (child .0 .few _ _ (r .counts))
             told false a =
-                let r = behind i j (above j i n (ltb-false j i a)) (omega (arith, as-many, inside)) in
+                let r = behind xs l b ts y st i j (above j i n (ltb-false j i a)) (omega (arith, as-many, inside)) in
                 around (before ts j own) (after (childAt ts j) (before ts j own)) (past j o .0) (past j o .1) (child .0 .high _ _ (r .reals)) (child .0 .many _ _ (r .counts))
 
         bin-still : (j : ℕ) → j < N → j ≢ i → binIn xs (last .reals) (last .counts) w j ≡ binIn xs (m .reals) (m .counts) w j
@@ -408,7 +383,7 @@ module _ (table : List ℕ) (m : Memory) (s : Sample) (e : Float) (k : ℕ) wher
   abbrev root : model.Grid
   root = rootOf table (m .reals) (m .counts)
 
-  abbrev called : TrainEnd
+  abbrev called : StateEnd
   called = trainCallOf table m s e k
 
   -- where the model gives a grid, the answer is 0, that grid is read afterwards, and it is well formed; the two lists keep their lengths
@@ -429,14 +404,14 @@ module _ (table : List ℕ) (m : Memory) (s : Sample) (e : Float) (k : ℕ) wher
       let rr : c .needs .reals ≡ after (p .tree) untaken .reals = ap (λ (n : Needs). n .reals) (p .needs) in
       let cc : c .needs .counts ≡ after (p .tree) untaken .counts = ap (λ (n : Needs). n .counts) (p .needs) in
       let tied = all-tied table s e k 4 (p .tree) untaken m 0 (p .grid) (p .stands) (omega (arith, c .reals-fit)) (omega (arith, c .counts-fit)) (takes-root root s e k (c .well) none) (q .kept) in
-      let done : trainEnd 0 (absorbed 4 table s e k 0 0 m) ≡ called = train-done table m s e k (absorbed 4 table s e k 0 0 m) fault none refl in
+      let done : stateEnd 0 (absorbed 4 table s e k 0 0 m) ≡ called = train-done table m s e k (absorbed 4 table s e k 0 0 m) fault none refl in
       let same : trainGrid root (pathLeft s 0) (weightsLeft s 0) (placesIn s) e k ≡ g = whole root s e k ∙ ap (λ (a : Paper model.Grid). gridOf a root) (sym (q .gave) ∙ given) in
       record {
-        answer = sym (ap (λ (o : TrainEnd). o .answer) done);
-        reads = sym (ap (λ (o : TrainEnd). rootOf table (o .state .reals) (o .state .counts)) done) ∙ tied .reads ∙ same;
+        answer = sym (ap (λ (o : StateEnd). o .answer) done);
+        reads = sym (ap (λ (o : StateEnd). rootOf table (o .state .reals) (o .state .counts)) done) ∙ tied .reads ∙ same;
         well = sym (ap sound same) ∙ sound-trained root (pathLeft s 0) (weightsLeft s 0) (placesIn s) e k (c .well) (q .kept);
-        reals-long = sym (ap (λ (o : TrainEnd). length (o .state .reals)) done) ∙ tied .within .low 0 0 (omega arith) .size;
-        counts-long = sym (ap (λ (o : TrainEnd). length (o .state .counts)) done) ∙ tied .within .few 0 0 (omega arith) .size;
+        reals-long = sym (ap (λ (o : StateEnd). length (o .state .reals)) done) ∙ tied .within .low 0 0 (omega arith) .size;
+        counts-long = sym (ap (λ (o : StateEnd). length (o .state .counts)) done) ∙ tied .within .few 0 0 (omega arith) .size;
       }
 
 -- where the answer is a refusal, nothing was written

@@ -24,7 +24,7 @@ use Rattle.grid.specs.Memory.{Memory}
 use Rattle.grid.specs.Sampled.{sampleOf, laidDrawing}
 use Rattle.grid.specs.Absorbed.{absorbed, objectionOf}
 use Rattle.grid.specs.State.{rootOf, judgedBy, faultBy, stateFault}
-use Rattle.grid.specs.Calls.{TrainEnd, drawnAs, drawOf, trainedBy, trainCallOf}
+use Rattle.grid.specs.Calls.{StateEnd, drawnAs, drawOf, trainedBy, trainCallOf}
 use Rattle.grid.specs.Batched.{StepEnd, stepEnd, trainedFrom, stepBy, stepOf, BatchEnd, batchEnd, batched, unlessRefused, stepsOf, batchOf}
 use Rattle.grid.proofs.States.{clear, answered-last}
 use Rattle.grid.proofs.Objections.{grants, train-objection, train-done}
@@ -56,7 +56,7 @@ unfolding trainedBy objectionOf
 answer-objects table m s e k (gives g) = refl
 answer-objects table m s e k (refuses n) = refl
 
-trained-onward : (table : List ℕ) (m : Memory) (s : Sample) (e : Float) (k : ℕ) → Words table → stateFault table (m .reals) (m .counts) ≡ 0 → trainCallOf table m s e k .answer ≡ 0
+pub trained-onward : (table : List ℕ) (m : Memory) (s : Sample) (e : Float) (k : ℕ) → Words table → stateFault table (m .reals) (m .counts) ≡ 0 → trainCallOf table m s e k .answer ≡ 0
     → Cleared table (trainCallOf table m s e k .state) k
 unfolding trainCallOf
 trained-onward table m s e k large f z =
@@ -96,7 +96,7 @@ module _ (table : List ℕ) (m : Memory) (s : MonteCarloRng) (e : Float) (k : �
   abbrev drawing : Drawing
   drawing = laidDrawing (drawGrid root s)
 
-  abbrev training : TrainEnd
+  abbrev training : StateEnd
   training = trainCallOf table m (drawing .sample) e k
 
   -- a step that was not refused leaves a clear state, and its number was at most 2^53, so that the next one's does not overflow

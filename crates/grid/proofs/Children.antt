@@ -16,7 +16,7 @@ use Rattle.plan.proofs.Records.{Stands, Upto, upto-same, upto-on, upto-after, u
 use Rattle.model.specs.Sound.{formedGrid}
 use Rattle.grid.specs.Memory.{Memory}
 use Rattle.grid.specs.Tree.{gridAt}
-use Rattle.grid.proofs.Same.{same-alike, same-sym}
+use Rattle.grid.proofs.Same.{Alike, same-alike, same-sym}
 use Rattle.grid.proofs.Trees.{axes-differ, bins-differ}
 use Rattle.grid.proofs.Alike.{grid-alike}
 use Rattle.grid.proofs.FoundedOwn.{Within}
@@ -50,22 +50,37 @@ module _ (xs : List ℕ) (l : ℕ) (b : BinsPlan) (ts : Trees) (y : Tally) (st :
       let level : suc l - 1 ≡ l = omega arith in
       subst (λ (n : ℕ). Stands xs n (childAt ts i) (before ts i own)) level (child-record xs (suc l) b ts y i st h .stands)
 
+  -- child j lies behind all that child i takes
+  pub behind : (i j : ℕ) → i < j → i < b .bins → Upto (after (childAt ts i) (before ts i own)) (before ts j own)
+  behind i j h c =
+      let next : before ts (suc i) own ≡ after (childAt ts i) (before ts i own) = before-next ts i own (omega (arith, bins-record xs (suc l) b ts y st .number)) in
+      subst (λ (u : Tally). Upto u (before ts j own)) next (before-upto ts (suc i) j own (omega arith))
+
+  -- child j, out of memory that is alike on what it takes
+  pub alike-grid : (j : ℕ) (m n : Memory) → j < b .bins → end .reals ≤ length (m .reals) → end .counts ≤ length (m .counts) → at j ≢ 0 → formedGrid (gridAt l xs (m .reals) (m .counts) (at j)) ≡ true
+      → Alike nan (before ts j own .reals) (after (childAt ts j) (before ts j own) .reals) (m .reals) (n .reals)
+      → Alike 0 (before ts j own .counts) (after (childAt ts j) (before ts j own) .counts) (m .counts) (n .counts)
+      → gridAt l xs (m .reals) (m .counts) (at j) ≡ gridAt l xs (n .reals) (n .counts) (at j)
+  alike-grid j m n c h g z f x u =
+      let r = child-record xs (suc l) b ts y j st c in
+      let v = before ts j own in
+      let q = childAt ts j in
+      let there : q ≡ nothing → ⊥ = linked-grid q v (subst (λ (n : ℕ). n ≢ 0) (r .linked) z) in
+      let a : at j ≡ v .words = r .linked ∙ grid-link q v there in
+      subst (λ (o : ℕ). gridAt l xs (m .reals) (m .counts) o ≡ gridAt l xs (n .reals) (n .counts) o) (sym a)
+      (grid-alike xs (m .reals) (n .reals) (m .counts) (n .counts) l q v there (stands-in j c) (omega (arith, r .inside .reals)) (omega (arith, r .inside .counts))
+      (sym (ap (λ (o : ℕ). formedGrid (gridAt l xs (m .reals) (m .counts) o)) a) ∙ f) x u)
+
   -- a child reads as it did after a step that keeps below it
   pub unmoved : (j r e c d : ℕ) (s t : Memory) → j < b .bins → end .reals ≤ length (s .reals) → end .counts ≤ length (s .counts) → Within r e c d s t
       → e ≤ before ts j own .reals → d ≤ before ts j own .counts → at j ≢ 0 → formedGrid (gridAt l xs (s .reals) (s .counts) (at j)) ≡ true
       → gridAt l xs (t .reals) (t .counts) (at j) ≡ gridAt l xs (s .reals) (s .counts) (at j)
   unmoved j r e c d s t k rr cc w low few z f =
-      let h = child-record xs (suc l) b ts y j st k in
       let v = before ts j own in
       let q = childAt ts j in
-      let there : q ≡ nothing → ⊥ = linked-grid q v (subst (λ (n : ℕ). n ≢ 0) (h .linked) z) in
-      let m : at j ≡ v .words = h .linked ∙ grid-link q v there in
-      let up = same-sym nan (v .reals) (after q v .reals) (t .reals) (s .reals) (w .high (v .reals) (after q v .reals) low) in
-      let on = same-sym 0 (v .counts) (after q v .counts) (t .counts) (s .counts) (w .many (v .counts) (after q v .counts) few) in
-      let form : formedGrid (gridAt l xs (s .reals) (s .counts) (v .words)) ≡ true = sym (ap (λ (n : ℕ). formedGrid (gridAt l xs (s .reals) (s .counts) n)) m) ∙ f in
-      let same = grid-alike xs (s .reals) (t .reals) (s .counts) (t .counts) l q v there (stands-in j k) (omega (arith, h .inside .reals)) (omega (arith, h .inside .counts)) form
-      (same-alike nan (v .reals) (after q v .reals) (s .reals) (t .reals) up) (same-alike 0 (v .counts) (after q v .counts) (s .counts) (t .counts) on) in
-      sym (subst (λ (n : ℕ). gridAt l xs (s .reals) (s .counts) n ≡ gridAt l xs (t .reals) (t .counts) n) (sym m) same)
+      sym (alike-grid j s t k rr cc z f
+      (same-alike nan (v .reals) (after q v .reals) (s .reals) (t .reals) (same-sym nan (v .reals) (after q v .reals) (t .reals) (s .reals) (w .high (v .reals) (after q v .reals) low)))
+      (same-alike 0 (v .counts) (after q v .counts) (s .counts) (t .counts) (same-sym 0 (v .counts) (after q v .counts) (t .counts) (s .counts) (w .many (v .counts) (after q v .counts) few))))
 
   -- so does a child after one that a step keeps to
   pub later : (i j : ℕ) (s t : Memory) → i < j → j < b .bins → end .reals ≤ length (s .reals) → end .counts ≤ length (s .counts)
@@ -73,7 +88,6 @@ module _ (xs : List ℕ) (l : ℕ) (b : BinsPlan) (ts : Trees) (y : Tally) (st :
       → at j ≢ 0 → formedGrid (gridAt l xs (s .reals) (s .counts) (at j)) ≡ true
       → gridAt l xs (t .reals) (t .counts) (at j) ≡ gridAt l xs (s .reals) (s .counts) (at j)
   later i j s t h k rr cc w z f =
-      let next : before ts (suc i) own ≡ after (childAt ts i) (before ts i own) = before-next ts i own (omega (arith, bins-record xs (suc l) b ts y st .number)) in
-      let past : Upto (after (childAt ts i) (before ts i own)) (before ts j own) = subst (λ (u : Tally). Upto u (before ts j own)) next (before-upto ts (suc i) j own (omega arith)) in
+      let past = behind i j h (omega arith) in
       unmoved j (before ts i own .reals) (after (childAt ts i) (before ts i own) .reals) (before ts i own .counts) (after (childAt ts i) (before ts i own) .counts) s t k rr cc w
       (past .reals) (past .counts) z f

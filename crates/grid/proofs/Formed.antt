@@ -1,11 +1,12 @@
--- Training keeps a grid's form; so a grid that was well formed is so again where what it would leave is kept.
-use mathlib.Core.Path.{_≡_, refl}
+-- Training and merging keep a grid's form; so a grid that was well formed is so again where what it would leave is kept.
+use mathlib.Core.Path.{_≡_, refl, ap}
 use mathlib.Core.Bool.{true}
 use mathlib.Core.List.{List, [], _∷_}
 use Prim.Native.Nat.{ℕ, zero, suc}
-use lib.ListN.{length-set, getD}
+use lib.ListN.{length, length-set, getD}
 use lib.Ieee.{Float, binary64, mul}
 use Rattle.real.proofs.Truth.{both}
+use Rattle.accumulator.specs.declared.StatisticsAccumulator.{StatisticsAccumulator}
 use Rattle.accumulator.specs.Record.{fresh}
 use Rattle.accumulator.specs.Steps.{addedOf}
 use Rattle.axis.specs.Edges.{binOf}
@@ -13,6 +14,7 @@ use Rattle.model.specs.Axes.{Axis, AxesPlan}
 use Rattle.model.specs.Grid.{Grid, Bins, Child, axes, bins, none, more, nothing, grid, withBin}
 use Rattle.model.specs.Draw.{weightAt}
 use Rattle.model.specs.Sound.{sound, formedAxis, formedAxisList, formedGrid, formedBins, formedChild, keptGrid}
+use Rattle.model.specs.Merge.{mergeBinRecords, mergeAxis, mergeAll, mergeGrid, mergeBins, mergeChild}
 use Rattle.model.specs.Train.{trainAxis, trainAll, trainAxes, trainGrid, trainBin, trainChild}
 
 axis-formed : (plan : AxesPlan) (ax : Axis) (x v : Float) → formedAxis plan (trainAxis ax x v) ≡ formedAxis plan ax
@@ -53,3 +55,44 @@ sound-formed g e = both (formedGrid g) (keptGrid g) e .0
 pub sound-trained : (g : Grid) (path : List ℕ) (ws xs : List Float) (e : Float) (k : ℕ) → sound g ≡ true → keptGrid (trainGrid g path ws xs e k) ≡ true → sound (trainGrid g path ws xs e k) ≡ true
 unfolding sound
 sound-trained g path ws xs e k w q = rw (grid-formed g path ws xs e k, both (formedGrid g) (keptGrid g) w .0, q)
+
+-- ---- so does merging
+
+merged-length : (xs ys : List StatisticsAccumulator) → length (mergeBinRecords xs ys) ≡ length xs
+unfolding mergeBinRecords
+merged-length [] ys = refl
+merged-length (a ∷ rest) [] = refl
+merged-length (a ∷ rest) (b ∷ bs) = ap suc (merged-length rest bs)
+
+merged-axis : (plan : AxesPlan) (a b : Axis) → formedAxis plan (mergeAxis a b) ≡ formedAxis plan a
+unfolding formedAxis mergeAxis
+merged-axis plan a b = rw (merged-length (a .bins) (b .bins))
+
+merged-axes : (plan : AxesPlan) (axs others : List Axis) → formedAxisList plan (mergeAll axs others) ≡ formedAxisList plan axs
+unfolding formedAxisList mergeAll
+merged-axes plan [] others = refl
+merged-axes plan (a ∷ axs) [] = refl
+merged-axes plan (a ∷ axs) (b ∷ others) = rw (merged-axis plan a b, merged-axes plan axs others)
+
+mutual
+  unfolding formedGrid formedBins formedChild mergeGrid mergeBins mergeChild withBin
+
+  merged-grid : (g o : Grid) → formedGrid (mergeGrid g o) ≡ formedGrid g
+  merged-grid (axes g) (axes o) = merged-axes (g .plan) (g .axes) (o .axes)
+  merged-grid (axes g) (bins h bs) = refl
+  merged-grid (bins h bs) (axes o) = refl
+  merged-grid (bins h bs) (bins k cs) = merged-bins bs cs
+
+  merged-bins : (bs cs : Bins) → formedBins (mergeBins bs cs) ≡ formedBins bs
+  merged-bins none cs = refl
+  merged-bins (more b c bs) none = refl
+  merged-bins (more b c bs) (more d e ds) = rw (merged-child c e, merged-bins bs ds)
+
+  merged-child : (c e : Child) → formedChild (mergeChild c e) ≡ formedChild c
+  merged-child nothing e = refl
+  merged-child (grid g) nothing = refl
+  merged-child (grid g) (grid o) = merged-grid g o
+
+pub sound-merged : (g o : Grid) → sound g ≡ true → keptGrid (mergeGrid g o) ≡ true → sound (mergeGrid g o) ≡ true
+unfolding sound
+sound-merged g o w q = rw (merged-grid g o, both (formedGrid g) (keptGrid g) w .0, q)

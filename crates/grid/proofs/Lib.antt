@@ -55,5 +55,7 @@ pub mod AdaptedOwn
 pub mod AdaptedTree
 pub mod Reformed
 pub mod UpdatedState
+pub mod FreshState
+pub mod Histories
 pub mod UnitedOwn
 pub mod UnitedTree

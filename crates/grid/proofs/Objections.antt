@@ -22,7 +22,7 @@ use Rattle.grid.specs.Sampled.{entries, sampleOf}
 use Rattle.grid.specs.Trained.{nothingFault}
 use Rattle.grid.specs.State.{rootOf, stateFault}
 use Rattle.grid.specs.Absorbed.{pathLeft, weightsLeft, placesIn, Takes, absorbed, objectionOf}
-use Rattle.grid.specs.Calls.{trainEnd, trainedBy, trainCallOf}
+use Rattle.grid.specs.Calls.{stateEnd, trainedBy, trainCallOf}
 use Rattle.grid.proofs.States.{refused-first, answered-last}
 use Rattle.grid.proofs.Fitting.{many-left, axes-form, nothing-form}
 use Rattle.grid.proofs.Accepts.{form-is}
@@ -184,16 +184,16 @@ module _ (table : List ℕ) (m : Memory) (s : Sample) (e : Float) (k : ℕ) wher
   abbrev told : Paper Grid
   told = trainOf (rootOf table (m .reals) (m .counts)) (sampleOf s) e k
 
-  pub train-state : (n : ℕ) → n ≡ stateFault table (m .reals) (m .counts) → (n ≡ 0 → ⊥) → trainEnd n m ≡ trainCallOf table m s e k
+  pub train-state : (n : ℕ) → n ≡ stateFault table (m .reals) (m .counts) → (n ≡ 0 → ⊥) → stateEnd n m ≡ trainCallOf table m s e k
   unfolding trainCallOf trainedBy
-  train-state n q z = ap (λ (j : ℕ). trainEnd j m) q ∙ sym (ap (trainedBy table m s e k) (refused-first (stateFault table (m .reals) (m .counts)) told (λ y. z (q ∙ y))))
+  train-state n q z = ap (λ (j : ℕ). stateEnd j m) q ∙ sym (ap (trainedBy table m s e k) (refused-first (stateFault table (m .reals) (m .counts)) told (λ y. z (q ∙ y))))
 
-  pub train-objection : (n : ℕ) → stateFault table (m .reals) (m .counts) ≡ 0 → n ≡ objectionOf told → (n ≡ 0 → ⊥) → trainEnd n m ≡ trainCallOf table m s e k
+  pub train-objection : (n : ℕ) → stateFault table (m .reals) (m .counts) ≡ 0 → n ≡ objectionOf told → (n ≡ 0 → ⊥) → stateEnd n m ≡ trainCallOf table m s e k
   unfolding trainCallOf trainedBy
   train-objection n c q z = sym (ap (trainedBy table m s e k) (answered-last (stateFault table (m .reals) (m .counts)) told c ∙ objected told n q z))
 
-  pub train-done : (m′ : Memory) → stateFault table (m .reals) (m .counts) ≡ 0 → objectionOf told ≡ 0 → m′ ≡ absorbed 4 table s e k 0 0 m → trainEnd 0 m′ ≡ trainCallOf table m s e k
+  pub train-done : (m′ : Memory) → stateFault table (m .reals) (m .counts) ≡ 0 → objectionOf told ≡ 0 → m′ ≡ absorbed 4 table s e k 0 0 m → stateEnd 0 m′ ≡ trainCallOf table m s e k
   unfolding trainCallOf trainedBy
   train-done m′ c q h =
-      ap (trainEnd 0) h
+      ap (stateEnd 0) h
       ∙ sym (ap (trainedBy table m s e k) (answered-last (stateFault table (m .reals) (m .counts)) told c ∙ grants (rootOf table (m .reals) (m .counts)) s e k q .gave))

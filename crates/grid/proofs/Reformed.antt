@@ -39,12 +39,12 @@ use Rattle.grid.proofs.Turns.{no-either}
 
 -- ---- truth values
 
-all-two : {a b : Bool} → a ≡ true → b ≡ true → (a && b) ≡ true
+pub all-two : {a b : Bool} → a ≡ true → b ≡ true → (a && b) ≡ true
 all-two e f = rw (e, f)
 
 -- ---- a plan's bin numbers
 
-listed-here : (n : ℕ) (ns : List ℕ) → listed n (n ∷ ns) ≡ true
+pub listed-here : (n : ℕ) (ns : List ℕ) → listed n (n ∷ ns) ≡ true
 unfolding listed
 listed-here n ns = rw (eq-eqb n n refl)
 
@@ -94,7 +94,7 @@ is-formed : (plan : AxesPlan) (ax : Axis) → Formed plan ax → formedAxis plan
 unfolding formedAxis
 is-formed plan ax f = all-two (f .number) (all-two (eq-eqb _ _ (f .edges)) (all-two (eq-eqb _ _ (f .importances)) (all-two (eq-eqb _ _ (f .counters)) (f .rising))))
 
-none-bounded : bounded 0 ≡ true
+pub none-bounded : bounded 0 ≡ true
 unfolding bounded
 none-bounded = refl
 
@@ -144,6 +144,11 @@ empty-formed plan es n recuts l h e =
       counters = length-replicate n 0 ∙ sym k;
       rising = e;
     }
+
+-- an axis with nothing trained on edges that are well formed
+pub empty-sound : (plan : AxesPlan) (es : List Float) (n recuts : ℕ) → listed n (plan .bins ∷ plan .evolution) ≡ true → length es ≡ n + 1 → Edges.wellFormed es ≡ true → bounded recuts ≡ true
+    → (formedAxis plan (emptyAxis es n recuts) ≡ true) × (keptAxis (emptyAxis es n recuts) ≡ true)
+empty-sound plan es n recuts l h e b = (is-formed plan (emptyAxis es n recuts) (empty-formed plan es n recuts l h e), empty-kept es n recuts b)
 
 Both : AxesPlan → Axis → Type 0
 Both plan ax = (formedAxis plan ax ≡ true) × (keptAxis ax ≡ true)

@@ -22,7 +22,7 @@ use Rattle.grid.specs.Tree.{Laid}
 use Rattle.grid.specs.State.{judgedTo}
 use Rattle.grid.specs.Renewed.{found}
 use Rattle.grid.specs.Adapted.{updatedIn}
-use Rattle.grid.specs.Calls.{UpdateEnd, updateEnd, renewedOver, frontOf, inFront, updatedBy, updateBy, updateOf}
+use Rattle.grid.specs.Calls.{StateEnd, stateEnd, renewedOver, frontOf, inFront, updatedBy, updateBy, updateOf}
 use Rattle.grid.proofs.Laid.{root-laid}
 use Rattle.grid.proofs.Lays.{front-length}
 use Rattle.grid.proofs.Clones.{Ready}
@@ -33,15 +33,15 @@ module _ (table : List ℕ) (binsRate axesRate : Float) (s t u : Memory) (f : Fo
   there : updatedIn 4 table binsRate axesRate 0 s ≡ found f u
   there = ap (updatedIn 4 table binsRate axesRate 0) (sym copied) ∙ sym worked
 
-  pub over-eight : f .eight ≡ true → updateEnd 8 s ≡ renewedOver table binsRate axesRate s
+  pub over-eight : f .eight ≡ true → stateEnd 8 s ≡ renewedOver table binsRate axesRate s
   unfolding renewedOver
   over-eight e = rw (there, e)
 
-  pub over-nine : f .eight ≡ false → f .nine ≡ true → updateEnd 9 s ≡ renewedOver table binsRate axesRate s
+  pub over-nine : f .eight ≡ false → f .nine ≡ true → stateEnd 9 s ≡ renewedOver table binsRate axesRate s
   unfolding renewedOver
   over-nine e n = rw (there, e, n)
 
-  pub over-done : (v : Memory) → f .eight ≡ false → f .nine ≡ false → v ≡ u → updateEnd 0 v ≡ renewedOver table binsRate axesRate s
+  pub over-done : (v : Memory) → f .eight ≡ false → f .nine ≡ false → v ≡ u → stateEnd 0 v ≡ renewedOver table binsRate axesRate s
   unfolding renewedOver
   over-done v e n h = rw (there, e, n, h)
 
@@ -55,7 +55,7 @@ front-taken n xs = let e : n - 0 ≡ n = omega arith in rw e
 
 module _ (table : List ℕ) (binsRate axesRate : Float) (s to : Memory) (n : Needs) (fault : ℕ)
     (judged : fault ≡ judgedTo table (s .reals) (s .counts) (length (to .reals)) (length (to .counts)) n) where
-  pub update-refused : (fault ≡ 0 → ⊥) → updateEnd fault s ≡ updatedBy table binsRate axesRate (length (to .reals)) (length (to .counts)) s n
+  pub update-refused : (fault ≡ 0 → ⊥) → stateEnd fault s ≡ updatedBy table binsRate axesRate (length (to .reals)) (length (to .counts)) s n
   unfolding updatedBy
   update-refused z = rw (sym judged, ne-eqb fault 0 z)
 
@@ -63,17 +63,17 @@ module _ (table : List ℕ) (binsRate axesRate : Float) (s to : Memory) (n : Nee
     both-fit : (a && b) ≡ (rateFits binsRate && rateFits axesRate)
     both-fit = ap₂ _&&_ e f
 
-    pub update-unrated : not (a && b) ≡ true → updateEnd 3 s ≡ updatedBy table binsRate axesRate (length (to .reals)) (length (to .counts)) s n
+    pub update-unrated : not (a && b) ≡ true → stateEnd 3 s ≡ updatedBy table binsRate axesRate (length (to .reals)) (length (to .counts)) s n
     unfolding updatedBy
     update-unrated h = rw (sym judged, z, failed both-fit h)
 
     pub update-made : (k : ℕ) (ys : List Float) (zs : List ℕ) → not (a && b) ≡ false
-        → updateEnd k (memory ys zs) ≡ renewedOver table binsRate axesRate (memory (take (n .reals - 0) (drop 0 (s .reals))) (take (n .counts - 0) (drop 0 (s .counts))))
-        → updateEnd k (memory (take 0 (s .reals) ++ (ys ++ drop (n .reals - 0) (drop 0 (s .reals)))) (take 0 (s .counts) ++ (zs ++ drop (n .counts - 0) (drop 0 (s .counts)))))
+        → stateEnd k (memory ys zs) ≡ renewedOver table binsRate axesRate (memory (take (n .reals - 0) (drop 0 (s .reals))) (take (n .counts - 0) (drop 0 (s .counts))))
+        → stateEnd k (memory (take 0 (s .reals) ++ (ys ++ drop (n .reals - 0) (drop 0 (s .reals)))) (take 0 (s .counts) ++ (zs ++ drop (n .counts - 0) (drop 0 (s .counts)))))
         ≡ updatedBy table binsRate axesRate (length (to .reals)) (length (to .counts)) s n
     unfolding updatedBy frontOf inFront
     update-made k ys zs h w =
-        let o : updateEnd k (memory ys zs) ≡ renewedOver table binsRate axesRate (memory (take (n .reals) (s .reals)) (take (n .counts) (s .counts))) =
+        let o : stateEnd k (memory ys zs) ≡ renewedOver table binsRate axesRate (memory (take (n .reals) (s .reals)) (take (n .counts) (s .counts))) =
         w ∙ ap₂ (λ (x : List Float) (y : List ℕ). renewedOver table binsRate axesRate (memory x y)) (front-taken (n .reals) (s .reals)) (front-taken (n .counts) (s .counts)) in
         rw (sym judged, z, passed both-fit h, front-back (n .reals) ys (s .reals), front-back (n .counts) zs (s .counts), sym o)
 
@@ -89,12 +89,12 @@ front-ready table s to n large planned r =
       root-laid table n _ _ large planned (omega arith) (omega arith),
     )
 
-pub update-planned : (table : List ℕ) (binsRate axesRate : Float) (R C : ℕ) (s : Memory) (r : Sized) (n : Needs) (e : UpdateEnd) → paperSized r ≡ sizesOf table → sized.Plan n ≡ r
+pub update-planned : (table : List ℕ) (binsRate axesRate : Float) (R C : ℕ) (s : Memory) (r : Sized) (n : Needs) (e : StateEnd) → paperSized r ≡ sizesOf table → sized.Plan n ≡ r
     → e ≡ updatedBy table binsRate axesRate R C s n → e ≡ updateOf table binsRate axesRate R C s
 unfolding updateOf paperSized
 update-planned table binsRate axesRate R C s r n e p q j = j ∙ ap (λ (o : plan.Paper Needs). updateBy table binsRate axesRate R C s o) (ap paperSized q ∙ p)
 
 pub update-strayed : (table : List ℕ) (binsRate axesRate : Float) (R C : ℕ) (s : Memory) (r : Sized) (n : ℕ) → paperSized r ≡ sizesOf table → sized.Refused n ≡ r
-    → updateEnd 12 s ≡ updateOf table binsRate axesRate R C s
+    → stateEnd 12 s ≡ updateOf table binsRate axesRate R C s
 unfolding updateOf paperSized
 update-strayed table binsRate axesRate R C s r n p q = ap (λ (o : plan.Paper Needs). updateBy table binsRate axesRate R C s o) (ap paperSized q ∙ p)

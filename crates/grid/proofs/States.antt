@@ -72,13 +72,6 @@ fault-strayed table reals counts r n e q = ap (λ (p : plan.Paper Needs). faultB
 
 -- ---- two states
 
--- a table's plan, whose needs are within R reals and C counts
-pub record Planned (table : List ℕ) (R C : ℕ) : Type 0 where
-  pub needs : Needs
-  pub sized : sizesOf table ≡ plan.gives needs
-  pub room : needs .reals ≤ R
-  pub places : needs .counts ≤ C
-
 module _ (table : List ℕ) (reals : List Float) (counts : List ℕ) (other : List ℕ) (theirs : List Float) (tallies : List ℕ) where
   both-clear : (n k : Needs) → Words table → Words other → sizesOf table ≡ plan.gives n → sizesOf other ≡ plan.gives k
       → bothJudged table reals counts n other theirs tallies k ≡ 0 → Clear table reals counts × Clear other theirs tallies
@@ -91,20 +84,20 @@ module _ (table : List ℕ) (reals : List Float) (counts : List ℕ) (other : Li
       let p = passes (not (sound (rootOf table reals counts))) 12 _ (λ x. omega (arith, x)) (d .1) in
       let q = passes (not (sound (rootOf other theirs tallies))) 12 0 (λ x. omega (arith, x)) (p .1) in (
         record {
-          laid = root-laid table n (length reals) (length counts) large e (ltb-false (length reals) (n .reals) (a .0)) (ltb-false (length counts) (n .counts) (b .0));
-          well = not-false (sound (rootOf table reals counts)) (p .0);
           needs = n;
           planned = e;
           reals-fit = ltb-false (length reals) (n .reals) (a .0);
           counts-fit = ltb-false (length counts) (n .counts) (b .0);
+          laid = root-laid table n (length reals) (length counts) large e (ltb-false (length reals) (n .reals) (a .0)) (ltb-false (length counts) (n .counts) (b .0));
+          well = not-false (sound (rootOf table reals counts)) (p .0);
         },
         record {
-          laid = root-laid other k (length theirs) (length tallies) wide f (ltb-false (length theirs) (k .reals) (c .0)) (ltb-false (length tallies) (k .counts) (d .0));
-          well = not-false (sound (rootOf other theirs tallies)) (q .0);
           needs = k;
           planned = f;
           reals-fit = ltb-false (length theirs) (k .reals) (c .0);
           counts-fit = ltb-false (length tallies) (k .counts) (d .0);
+          laid = root-laid other k (length theirs) (length tallies) wide f (ltb-false (length theirs) (k .reals) (c .0)) (ltb-false (length tallies) (k .counts) (d .0));
+          well = not-false (sound (rootOf other theirs tallies)) (q .0);
         },
       )
 
@@ -125,25 +118,6 @@ module _ (table : List ℕ) (reals : List Float) (counts : List ℕ) (other : Li
   pub pair-clear : Words table → Words other → pairFault table reals counts other theirs tallies ≡ 0 → Clear table reals counts × Clear other theirs tallies
   unfolding pairFault
   pair-clear large wide z = first-clear (sizesOf table) large wide refl z
-
-  second-planned-room : (n : Needs) (p : plan.Paper Needs) → sizesOf table ≡ plan.gives n → secondBy table reals counts n other theirs tallies p ≡ 0 → Planned table (length reals) (length counts)
-  unfolding secondBy bothJudged
-  second-planned-room n (plan.gives k) e z =
-      let a = passes (ltb (length reals) (n .reals)) 10 _ (λ x. omega (arith, x)) z in
-      let b = passes (ltb (length counts) (n .counts)) 10 _ (λ x. omega (arith, x)) (a .1) in
-      record { needs = n; sized = e; room = ltb-false (length reals) (n .reals) (a .0); places = ltb-false (length counts) (n .counts) (b .0) }
-  second-planned-room n (plan.refuses k) e z = absurd (omega (arith, z))
-  second-planned-room n (plan.refusesAt k at) e z = absurd (omega (arith, z))
-
-  first-planned-room : (p : plan.Paper Needs) → sizesOf table ≡ p → firstBy table reals counts p other theirs tallies ≡ 0 → Planned table (length reals) (length counts)
-  unfolding firstBy
-  first-planned-room (plan.gives n) e z = second-planned-room n (sizesOf other) e z
-  first-planned-room (plan.refuses k) e z = absurd (omega (arith, z))
-  first-planned-room (plan.refusesAt k at) e z = absurd (omega (arith, z))
-
-  pub pair-planned : pairFault table reals counts other theirs tallies ≡ 0 → Planned table (length reals) (length counts)
-  unfolding pairFault
-  pair-planned z = first-planned-room (sizesOf table) refl z
 
   -- what each plan's own answer comes to
   pub second-planned : (n : Needs) (r : Sized) (k : Needs) (f : ℕ) → paperSized r ≡ sizesOf other → sized.Plan k ≡ r

@@ -13,7 +13,7 @@ use Rattle.accumulator.specs.declared.Summed.{Summed}
 use Rattle.accumulator.proofs.Unique.{estimated-one, summed-one}
 use Rattle.plan.specs.declared.Read.{Read}
 use Rattle.plan.proofs.Unique.{paper-read-one}
-use Rattle.grid.specs.Calls.{FreshEnd, CloneEnd, TrainEnd, MergeEnd}
+use Rattle.grid.specs.Calls.{FreshEnd, CloneEnd, StateEnd}
 use Rattle.grid.proofs.clone_without_samples.Kinds as clone-kinds
 use Rattle.grid.proofs.clone_without_samples.Reads as clone-reads
 use Rattle.grid.proofs.draw.Kinds as draw-kinds
@@ -37,7 +37,6 @@ use Rattle.grid.proofs.summary.Reads as summary-reads
 use Rattle.grid.proofs.probe.Kinds as probe-kinds
 use Rattle.grid.proofs.update.Kinds as update-kinds
 use Rattle.grid.proofs.update.Reads as update-reads
-use Rattle.grid.specs.Calls.{UpdateEnd}
 use Rattle.grid.proofs.probe.Reads as probe-reads
 use Rattle.grid.proofs.train.Kinds as train-kinds
 use Rattle.grid.proofs.train.Reads as train-reads
@@ -107,7 +106,7 @@ pub train-unique : (κs : Lfts 3) (a : Dens κs train-kinds.ps) (r r′ : ℕ) (
     → train-reads.Post κs a r s → train-reads.Post κs a r′ s′ → (r ≡ r′) × (now (s .1 .0) ≡ now (s′ .1 .0)) × (now (s .1 .1 .0) ≡ now (s′ .1 .1 .0))
 train-unique κs a r r′ s s′ p q =
     let e = p ∙ sym q in
-    (ap (λ (x : TrainEnd). x .answer) e, ap (λ (x : TrainEnd). x .state .reals) e, ap (λ (x : TrainEnd). x .state .counts) e)
+    (ap (λ (x : StateEnd). x .answer) e, ap (λ (x : StateEnd). x .state .reals) e, ap (λ (x : StateEnd). x .state .counts) e)
 
 pub draw-and-train-total : (κs : Lfts 4) (a : Dens κs draw-and-train-kinds.ps) → draw-and-train-reads.Pre κs a
 draw-and-train-total κs a = tt
@@ -127,7 +126,7 @@ pub update-unique : (κs : Lfts 5) (a : Dens κs update-kinds.ps) (r r′ : ℕ)
     → update-reads.Post κs a r s → update-reads.Post κs a r′ s′ → (r ≡ r′) × (now (s .1 .0) ≡ now (s′ .1 .0)) × (now (s .1 .1 .0) ≡ now (s′ .1 .1 .0))
 update-unique κs a r r′ s s′ p q =
     let e = p ∙ sym q in
-    (ap (λ (x : UpdateEnd). x .answer) e, ap (λ (x : UpdateEnd). x .state .reals) e, ap (λ (x : UpdateEnd). x .state .counts) e)
+    (ap (λ (x : StateEnd). x .answer) e, ap (λ (x : StateEnd). x .state .reals) e, ap (λ (x : StateEnd). x .state .counts) e)
 
 pub is-mergeable-total : (κs : Lfts 6) (a : Dens κs mergeable-kinds.ps) → mergeable-reads.Pre κs a
 is-mergeable-total κs a = tt
@@ -145,4 +144,4 @@ pub merge-unique : (κs : Lfts 6) (a : Dens κs merge-kinds.ps) (r r′ : ℕ) (
     → (r ≡ r′) × (now (s .1 .0) ≡ now (s′ .1 .0)) × (now (s .1 .1 .0) ≡ now (s′ .1 .1 .0))
 merge-unique κs a r r′ s s′ p q =
     let e = p ∙ sym q in
-    (ap (λ (x : MergeEnd). x .answer) e, ap (λ (x : MergeEnd). x .state .reals) e, ap (λ (x : MergeEnd). x .state .counts) e)
+    (ap (λ (x : StateEnd). x .answer) e, ap (λ (x : StateEnd). x .state .reals) e, ap (λ (x : StateEnd). x .state .counts) e)

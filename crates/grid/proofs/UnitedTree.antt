@@ -34,14 +34,15 @@ use Rattle.grid.specs.Founded.{freshChildren}
 use Rattle.grid.specs.Judged.{soundBin}
 use Rattle.grid.specs.Sampled.{soundChild}
 use Rattle.grid.specs.State.{rootOf, pairFault}
-use Rattle.grid.specs.Calls.{MergeEnd, mergeEnd, unitedBy, mergeIntoOf}
+use Rattle.grid.specs.Calls.{StateEnd, stateEnd, unitedBy, mergeIntoOf}
 use Rattle.grid.specs.United.{unitedAxes, unitedOwn, unitedChild, unitedChildren, unitedGrid}
+use Rattle.grid.proofs.Formed.{sound-merged}
 use Rattle.grid.proofs.Same.{Same, same-refl, same-on, same-sym, same-within}
 use Rattle.grid.proofs.Laid.{stands-laid, laid-axes, laid-bins}
 use Rattle.grid.proofs.Sounds.{node-axes, node-bins}
 use Rattle.grid.proofs.Samples.{sound-in, sound-below, child-sound}
 use Rattle.grid.proofs.Trees.{axes-differ, bins-differ, before-none, taken-reals, taken-counts, below}
-use Rattle.grid.proofs.States.{went-on, pair-clear, pair-planned}
+use Rattle.grid.proofs.States.{went-on, pair-clear}
 use Rattle.grid.proofs.Matches as matches
 use Rattle.grid.proofs.Unites.{both-axes, both-bins}
 use Rattle.grid.proofs.FoundedOwn.{Within, within-same, within-on}
@@ -438,24 +439,31 @@ given-merge g o m e =
     let r = passes (not (keptGrid (mergeGrid g o))) 8 _ m (q .1) in
     (not-false (sameShape g o) (p .0), not-false (keptGrid (mergeGrid g o)) (r .0), given (mergeGrid g o) m (r .1))
 
--- where nothing stands against two states and the model gives their merge, the call leaves it in memory
+-- where nothing stands against two states and the model gives their merge, the call leaves it in memory, well formed, in lists of the same
+-- lengths
 pub merge-read : (table : List ℕ) (s : Memory) (other : List ℕ) (others : Memory) (m : model.Grid) → Words table → Words other
     → pairFault table (s .reals) (s .counts) other (others .reals) (others .counts) ≡ 0 → mergeOf (rootOf table (s .reals) (s .counts)) (rootOf other (others .reals) (others .counts)) ≡ gives m
-    → (mergeIntoOf table s other others .answer ≡ 0) × (rootOf table (mergeIntoOf table s other others .state .reals) (mergeIntoOf table s other others .state .counts) ≡ m)
+    → (mergeIntoOf table s other others .answer ≡ 0) × (rootOf table (mergeIntoOf table s other others .state .reals) (mergeIntoOf table s other others .state .counts) ≡ m) × (sound m ≡ true)
+    × (length (mergeIntoOf table s other others .state .reals) ≡ length (s .reals)) × (length (mergeIntoOf table s other others .state .counts) ≡ length (s .counts))
 unfolding needsOf mergeIntoOf unitedBy
 merge-read table s other others m large wide f e =
     let after-all = unitedGrid table other others 4 0 0 s in
     let fault = pairFault table (s .reals) (s .counts) other (others .reals) (others .counts) in
     let model-says = mergeOf (rootOf table (s .reals) (s .counts)) (rootOf other (others .reals) (others .counts)) in
-    let done : mergeIntoOf table s other others ≡ mergeEnd 0 after-all =
-    went-on fault (mergeEnd fault s) (unitedBy model-says after-all s) f ∙ ap (λ (p : Paper model.Grid). unitedBy p after-all s) e in
+    let done : mergeIntoOf table s other others ≡ stateEnd 0 after-all =
+    went-on fault (stateEnd fault s) (unitedBy model-says after-all s) f ∙ ap (λ (p : Paper model.Grid). unitedBy p after-all s) e in
     let k = pair-clear table (s .reals) (s .counts) other (others .reals) (others .counts) large wide f in
-    let p = pair-planned table (s .reals) (s .counts) other (others .reals) (others .counts) f in
-    let r = passed-stands table (p .needs) large (p .sized) in
+    let p = k .0 in
+    let r = passed-stands table (p .needs) large (p .planned) in
     let rr : p .needs .reals ≡ after (r .tree) untaken .reals = ap (λ (n : Needs). n .reals) (r .needs) in
     let cc : p .needs .counts ≡ after (r .tree) untaken .counts = ap (λ (n : Needs). n .counts) (r .needs) in
     let g = given-merge (rootOf table (s .reals) (s .counts)) (rootOf other (others .reals) (others .counts)) m e in
-    let u = unites table other others 4 (r .tree) untaken 0 s (r .grid) (r .stands) (omega (arith, p .room)) (omega (arith, p .places)) (k .1 .laid)
+    let u = unites table other others 4 (r .tree) untaken 0 s (r .grid) (r .stands) (omega (arith, p .reals-fit)) (omega (arith, p .counts-fit)) (k .1 .laid)
     (record { mine = k .0 .well; theirs = k .1 .well; same = g .0; kept = g .1 }) in
-    let read = u .reads (after-all .reals) (after-all .counts) (same-refl nan (untaken .reals) (after (r .tree) untaken .reals) (after-all .reals)) (same-refl 0 (untaken .counts) (after (r .tree) untaken .counts) (after-all .counts)) in
-    (ap (λ (x : MergeEnd). x .answer) done, ap (λ (x : MergeEnd). rootOf table (x .state .reals) (x .state .counts)) done ∙ read ∙ g .2)
+    let read = u .reads (after-all .reals) (after-all .counts) (same-refl nan (untaken .reals) (after (r .tree) untaken .reals) (after-all .reals)) (same-refl 0 (untaken .counts) (after (r .tree) untaken .counts) (after-all .counts)) in (
+      ap (λ (x : StateEnd). x .answer) done,
+      ap (λ (x : StateEnd). rootOf table (x .state .reals) (x .state .counts)) done ∙ read ∙ g .2,
+      sym (ap sound (g .2)) ∙ sound-merged (rootOf table (s .reals) (s .counts)) (rootOf other (others .reals) (others .counts)) (k .0 .well) (g .1),
+      ap (λ (x : StateEnd). length (x .state .reals)) done ∙ u .within .low 0 0 (omega arith) .size,
+      ap (λ (x : StateEnd). length (x .state .counts)) done ∙ u .within .few 0 0 (omega arith) .size,
+    )

@@ -1,5 +1,5 @@
 -- The call `update` is the model's: where that refuses, the same number and the state as it was; where it gives a grid, 0 and a state that
--- reads as that grid, which is well formed again.
+-- reads as that grid, which is well formed again, in lists of the same lengths.
 use mathlib.Core.Path.{_≡_, refl, sym, ap, ap₂, _∙_, subst}
 use mathlib.Core.Bool.{Bool, true, false, _&&_}
 use mathlib.Core.List.{List, _++_}
@@ -21,7 +21,7 @@ use Rattle.model.specs.Update as model
 use Rattle.grid.specs.Memory.{Memory, memory}
 use Rattle.grid.specs.State.{rootOf, judgedTo}
 use Rattle.grid.specs.Adapted.{updatedIn}
-use Rattle.grid.specs.Calls.{UpdateEnd, updateEnd, renewedOver, frontOf, inFront, updatedBy, updateOf}
+use Rattle.grid.specs.Calls.{StateEnd, stateEnd, renewedOver, frontOf, inFront, updatedBy, updateOf}
 use Rattle.grid.proofs.Same.{same-refl, inside-alike}
 use Rattle.grid.proofs.Alike.{grid-alike}
 use Rattle.grid.proofs.Clones.{Ready, ready}
@@ -31,13 +31,14 @@ use Rattle.grid.proofs.AdaptedTree.{root-updated}
 use Rattle.grid.proofs.Reformed.{sound-updated}
 
 -- what a call that came to `e` from s says of the model's answer
-unfoldable pub Called : List ℕ → Memory → UpdateEnd → Paper Grid → Type 0
-Called table s e (gives g) = (e .answer ≡ 0) × (rootOf table (e .state .reals) (e .state .counts) ≡ g) × (sound g ≡ true)
-Called table s e (refuses k) = e ≡ updateEnd k s
+unfoldable pub Called : List ℕ → Memory → StateEnd → Paper Grid → Type 0
+Called table s e (gives g) =
+    (e .answer ≡ 0) × (rootOf table (e .state .reals) (e .state .counts) ≡ g) × (sound g ≡ true) × (length (e .state .reals) ≡ length (s .reals)) × (length (e .state .counts) ≡ length (s .counts))
+Called table s e (refuses k) = e ≡ stateEnd k s
 
 module _ (table : List ℕ) (binsRate axesRate : Float) (s to : Memory) (n : Needs) (large : Words table) (planned : sizesOf table ≡ plan.gives n)
     (clear : judgedTo table (s .reals) (s .counts) (length (to .reals)) (length (to .counts)) n ≡ 0) where
-  abbrev call : UpdateEnd
+  abbrev call : StateEnd
   call = updateOf table binsRate axesRate (length (to .reals)) (length (to .counts)) s
 
   abbrev front : Memory
@@ -119,9 +120,22 @@ module _ (table : List ℕ) (binsRate axesRate : Float) (s to : Memory) (n : Nee
         well,
       )
 
+  long : (length (inFront n (work .after) s .reals) ≡ length (s .reals)) × (length (inFront n (work .after) s .counts) ≡ length (s .counts))
+  unfolding inFront frontOf
+  long =
+      let a = work .after in
+      let z = size in
+      let x : length (a .reals) ≡ n .reals = turned .within .low 0 0 (omega arith) .size ∙ z .0 in
+      let y : length (a .counts) ≡ n .counts = turned .within .few 0 0 (omega arith) .size ∙ z .1 in
+      let u = length-append (a .reals) (drop (n .reals) (s .reals)) in
+      let v = length-append (a .counts) (drop (n .counts) (s .counts)) in
+      let p = length-drop (n .reals) (s .reals) in
+      let q = length-drop (n .counts) (s .counts) in
+      (omega (arith, r .reals), omega (arith, r .counts))
+
   nothing-found : rates ≡ true → found .eight ≡ false → found .nine ≡ false → Called table s call (model.updateOf binsRate axesRate root)
   unfolding Called updateOf updatedBy renewedOver model.updateOf
-  nothing-found e f g = let k = kept f g in rw (planned, clear, e, turned .eight, turned .nine f, f, g) (refl, k .0, k .1)
+  nothing-found e f g = let k = kept f g in rw (planned, clear, e, turned .eight, turned .nine f, f, g) (refl, k .0, k .1, long .0, long .1)
 
   pub update-updates : Called table s call (model.updateOf binsRate axesRate root)
   update-updates = pick rates refl (found .eight) refl (found .nine) refl

@@ -9,7 +9,7 @@ use Rattle.grid.specs.declared.Batched.{Batched}
 use Rattle.grid.specs.declared.Drawn.{Drawn}
 use Rattle.grid.specs.Memory.{Memory}
 use Rattle.grid.specs.State.{stateFault}
-use Rattle.grid.specs.Calls.{TrainEnd, drawnAs, drawOf, trainCallOf}
+use Rattle.grid.specs.Calls.{StateEnd, drawnAs, drawOf, trainCallOf}
 
 -- ---- one evaluation
 
@@ -23,7 +23,7 @@ abbrev pub stepEnd : ℕ → MonteCarloRng → Memory → StepEnd
 stepEnd n s m = record { refused = n; stream = s; state = m }
 
 -- a training's end from the stream before the draw and the one after it: refused, it is the one before
-unfoldable pub trainedFrom : MonteCarloRng → MonteCarloRng → TrainEnd → StepEnd
+unfoldable pub trainedFrom : MonteCarloRng → MonteCarloRng → StateEnd → StepEnd
 trainedFrom s s′ t = cond (not (eqb (t .answer) 0)) (stepEnd (t .answer) s (t .state)) (stepEnd 0 s′ (t .state))
 
 -- what was drawn, trained

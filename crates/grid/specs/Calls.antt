@@ -37,6 +37,14 @@ use Rattle.grid.specs.Absorbed.{absorbed}
 abbrev pub onState : {A : Type 0} → ℕ → Paper A → Paper A
 onState fault p = cond (not (eqb fault 0)) (refuses fault) p
 
+-- the answer of a call that writes a state, 0 or a refusal, and the two lists afterwards
+pub record StateEnd : Type 0 where
+  pub answer : ℕ
+  pub state : Memory
+
+abbrev pub stateEnd : ℕ → Memory → StateEnd
+stateEnd n s = record { answer = n; state = s }
+
 -- ---- draw
 
 unfoldable pub drawOf : List ℕ → List Float → List ℕ → MonteCarloRng → Paper Drawing
@@ -126,20 +134,12 @@ probeOf table reals counts p = onState (stateFault table reals counts) (probeGri
 
 -- ---- train
 
--- the answer, 0 or a refusal, and the two lists afterwards
-pub record TrainEnd : Type 0 where
-  pub answer : ℕ
-  pub state : Memory
-
-abbrev pub trainEnd : ℕ → Memory → TrainEnd
-trainEnd n m = record { answer = n; state = m }
-
 -- the model's answer decides: where it refuses all stays, else the sample is taken in
-unfoldable pub trainedBy : List ℕ → Memory → Sample → Float → ℕ → Paper Grid → TrainEnd
-trainedBy table m s e number (gives g) = trainEnd 0 (absorbed 4 table s e number 0 0 m)
-trainedBy table m s e number (refuses n) = trainEnd n m
+unfoldable pub trainedBy : List ℕ → Memory → Sample → Float → ℕ → Paper Grid → StateEnd
+trainedBy table m s e number (gives g) = stateEnd 0 (absorbed 4 table s e number 0 0 m)
+trainedBy table m s e number (refuses n) = stateEnd n m
 
-unfoldable pub trainCallOf : List ℕ → Memory → Sample → Float → ℕ → TrainEnd
+unfoldable pub trainCallOf : List ℕ → Memory → Sample → Float → ℕ → StateEnd
 trainCallOf table m s e number =
     trainedBy table m s e number (onState (stateFault table (m .reals) (m .counts)) (trainOf (rootOf table (m .reals) (m .counts)) (sampleOf s) e number))
 
@@ -147,19 +147,11 @@ trainCallOf table m s e number =
 
 -- ---- update
 
--- the answer, 0 or a refusal, and the two lists afterwards
-pub record UpdateEnd : Type 0 where
-  pub answer : ℕ
-  pub state : Memory
-
-abbrev pub updateEnd : ℕ → Memory → UpdateEnd
-updateEnd n s = record { answer = n; state = s }
-
 -- of memory that is just the plan's: 8 anywhere, then 9 anywhere, else what the update leaves
-unfoldable pub renewedOver : List ℕ → Float → Float → Memory → UpdateEnd
+unfoldable pub renewedOver : List ℕ → Float → Float → Memory → StateEnd
 renewedOver table binsRate axesRate s =
     let o = updatedIn 4 table binsRate axesRate 0 s in
-    cond (o .eight) (updateEnd 8 s) (cond (o .nine) (updateEnd 9 s) (updateEnd 0 (o .after)))
+    cond (o .eight) (stateEnd 8 s) (cond (o .nine) (stateEnd 9 s) (stateEnd 0 (o .after)))
 
 -- the plan's part of memory, and memory with another in its place
 unfoldable pub frontOf : Needs → Memory → Memory
@@ -169,20 +161,20 @@ unfoldable pub inFront : Needs → Memory → Memory → Memory
 inFront n front s = memory (front .reals ++ drop (n .reals) (s .reals)) (front .counts ++ drop (n .counts) (s .counts))
 
 -- 10 for the spare of R reals and C counts too, 12, 3, 8, 9
-unfoldable pub updatedBy : List ℕ → Float → Float → ℕ → ℕ → Memory → Needs → UpdateEnd
+unfoldable pub updatedBy : List ℕ → Float → Float → ℕ → ℕ → Memory → Needs → StateEnd
 updatedBy table binsRate axesRate R C s n =
     let fault = judgedTo table (s .reals) (s .counts) R C n in
     let e = renewedOver table binsRate axesRate (frontOf n s) in
-    cond (not (eqb fault 0)) (updateEnd fault s)
-    (cond (not (rateFits binsRate && rateFits axesRate)) (updateEnd 3 s)
-    (updateEnd (e .answer) (inFront n (e .state) s)))
+    cond (not (eqb fault 0)) (stateEnd fault s)
+    (cond (not (rateFits binsRate && rateFits axesRate)) (stateEnd 3 s)
+    (stateEnd (e .answer) (inFront n (e .state) s)))
 
-abbrev pub updateBy : List ℕ → Float → Float → ℕ → ℕ → Memory → plan.Paper Needs → UpdateEnd
+abbrev pub updateBy : List ℕ → Float → Float → ℕ → ℕ → Memory → plan.Paper Needs → StateEnd
 updateBy table binsRate axesRate R C s (plan.gives n) = updatedBy table binsRate axesRate R C s n
-updateBy table binsRate axesRate R C s (plan.refuses k) = updateEnd 12 s
-updateBy table binsRate axesRate R C s (plan.refusesAt k at) = updateEnd 12 s
+updateBy table binsRate axesRate R C s (plan.refuses k) = stateEnd 12 s
+updateBy table binsRate axesRate R C s (plan.refusesAt k at) = stateEnd 12 s
 
-unfoldable pub updateOf : List ℕ → Float → Float → ℕ → ℕ → Memory → UpdateEnd
+unfoldable pub updateOf : List ℕ → Float → Float → ℕ → ℕ → Memory → StateEnd
 updateOf table binsRate axesRate R C s = updateBy table binsRate axesRate R C s (sizesOf table)
 
 -- ---- is_mergeable and merge
@@ -193,21 +185,13 @@ mergeableOf table reals counts other theirs tallies =
     let fault = pairFault table reals counts other theirs tallies in
     cond (not (eqb fault 0)) fault (mergeFault (rootOf table reals counts) (rootOf other theirs tallies))
 
--- the number, 0 for none, and the two lists afterwards
-pub record MergeEnd : Type 0 where
-  pub answer : ℕ
-  pub state : Memory
-
-abbrev pub mergeEnd : ℕ → Memory → MergeEnd
-mergeEnd n s = record { answer = n; state = s }
-
 -- the model's answer decides whether anything is written
-unfoldable pub unitedBy : Paper Grid → Memory → Memory → MergeEnd
-unitedBy (gives g) after s = mergeEnd 0 after
-unitedBy (refuses n) after s = mergeEnd n s
+unfoldable pub unitedBy : Paper Grid → Memory → Memory → StateEnd
+unitedBy (gives g) after s = stateEnd 0 after
+unitedBy (refuses n) after s = stateEnd n s
 
-unfoldable pub mergeIntoOf : List ℕ → Memory → List ℕ → Memory → MergeEnd
+unfoldable pub mergeIntoOf : List ℕ → Memory → List ℕ → Memory → StateEnd
 mergeIntoOf table s other others =
     let fault = pairFault table (s .reals) (s .counts) other (others .reals) (others .counts) in
-    cond (not (eqb fault 0)) (mergeEnd fault s)
+    cond (not (eqb fault 0)) (stateEnd fault s)
     (unitedBy (mergeOf (rootOf table (s .reals) (s .counts)) (rootOf other (others .reals) (others .counts))) (unitedGrid table other others 4 0 0 s) s)

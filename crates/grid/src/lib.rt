@@ -35,7 +35,7 @@ ghost use Rattle.plan.specs.Paper.{gives, planRead, paperRead};
 ghost use Rattle.plan.specs.Calls.{measureOf};
 ghost use Rattle.grid.specs.Memory.{memory};
 ghost use Rattle.axis.specs.Calls.{paperProbed};
-ghost use Rattle.grid.specs.Calls.{drawnAs, drawOf, probeOf, summaryOf, liveOf, liveOfBin, freshEnd, foundedOf, freshOf, cloneEnd, cloneOf, updateEnd, updateOf, trainEnd, trainCallOf, mergeableOf, mergeEnd, mergeIntoOf};
+ghost use Rattle.grid.specs.Calls.{drawnAs, drawOf, probeOf, summaryOf, liveOf, liveOfBin, freshEnd, foundedOf, freshOf, cloneEnd, cloneOf, stateEnd, updateOf, trainCallOf, mergeableOf, mergeIntoOf};
 ghost use Rattle.grid.specs.Batched.{batchEnd, batchOf};
 use accumulator::Estimated;
 use accumulator::Summed;
@@ -222,7 +222,7 @@ pub fn train(
     evaluation: f64,
     number: u64,
 ) -> u64
-    ensures { λ r. ⌜ trainEnd r (memory (now (reals .exit)) (now (counts .exit))) ≡
+    ensures { λ r. ⌜ stateEnd r (memory (now (reals .exit)) (now (counts .exit))) ≡
         trainCallOf (now (table .entry)) (memory (now (reals .entry)) (now (counts .entry))) s evaluation number ⌝ }
 {
     let refused = state::fault(table, reals, counts);
@@ -272,7 +272,7 @@ pub fn update(
     bins_rate: f64,
     axes_rate: f64,
 ) -> u64
-    ensures { λ n. ⌜ updateEnd n (memory (now (reals .exit)) (now (counts .exit))) ≡
+    ensures { λ n. ⌜ stateEnd n (memory (now (reals .exit)) (now (counts .exit))) ≡
         updateOf (now (table .entry)) «bins_rate» «axes_rate» (length (now («spare_reals» .entry))) (length (now («spare_counts» .entry))) (memory (now (reals .entry)) (now (counts .entry))) ⌝ }
 {
     match plan::sizes(table) {
@@ -322,7 +322,7 @@ pub fn merge(
     theirs: &[f64],
     tallies: &[u64],
 ) -> u64
-    ensures { λ n. ⌜ mergeEnd n (memory (now (reals .exit)) (now (counts .exit))) ≡
+    ensures { λ n. ⌜ stateEnd n (memory (now (reals .exit)) (now (counts .exit))) ≡
         mergeIntoOf (now (table .entry)) (memory (now (reals .entry)) (now (counts .entry))) (now (other .entry)) (memory (now (theirs .entry)) (now (tallies .entry))) ⌝ }
 {
     let refused = state::pair_fault(table, reals, counts, other, theirs, tallies);

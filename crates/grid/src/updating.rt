@@ -7,7 +7,7 @@ ghost use Rattle.plan.specs.Calls.{sizesOf};
 ghost use Rattle.model.specs.Update.{rateFits};
 ghost use Rattle.grid.specs.Memory.{memory};
 ghost use Rattle.grid.specs.Tree.{Laid};
-ghost use Rattle.grid.specs.Calls.{updateEnd, renewedOver, updatedBy};
+ghost use Rattle.grid.specs.Calls.{stateEnd, renewedOver, updatedBy};
 use crate::adapting;
 use crate::renewal;
 use crate::state;
@@ -31,7 +31,7 @@ fn update_over(
     axes_rate: f64,
 ) -> u64
     requires { ⌜ (length (now «spare_reals») ≡ length (now reals)) × (length (now «spare_counts») ≡ length (now counts)) × Laid 4 (now table) (length (now reals)) (length (now counts)) 0 ⌝ }
-    ensures { λ n. ⌜ updateEnd n (memory (now (reals .exit)) (now (counts .exit))) ≡
+    ensures { λ n. ⌜ stateEnd n (memory (now (reals .exit)) (now (counts .exit))) ≡
         renewedOver (now (table .entry)) «bins_rate» «axes_rate» (memory (now (reals .entry)) (now (counts .entry))) ⌝ }
 {
     renewal::copy_reals(spare_reals, reals);
@@ -60,7 +60,7 @@ pub fn update_state(
     needs: Needs,
 ) -> u64
     requires { ⌜ sizesOf (now table) ≡ gives needs ⌝ }
-    ensures { λ n. ⌜ updateEnd n (memory (now (reals .exit)) (now (counts .exit))) ≡
+    ensures { λ n. ⌜ stateEnd n (memory (now (reals .exit)) (now (counts .exit))) ≡
         updatedBy (now (table .entry)) «bins_rate» «axes_rate» (length (now («spare_reals» .entry))) (length (now («spare_counts» .entry))) (memory (now (reals .entry)) (now (counts .entry))) needs ⌝ }
 {
     let refused = state::judged_to(

@@ -8,7 +8,7 @@ use Rattle.model.specs.Merge.{mergeOf}
 use Rattle.grid.specs.Memory.{memory}
 use Rattle.grid.specs.State.{rootOf, pairFault}
 use Rattle.grid.specs.United.{unitedGrid}
-use Rattle.grid.specs.Calls.{mergeEnd, unitedBy, mergeIntoOf}
+use Rattle.grid.specs.Calls.{stateEnd, unitedBy, mergeIntoOf}
 use Rattle.grid.proofs.States.{pair-clear, stopped, went-on}
 use Rattle.grid.proofs.Unites.{merge-refused, merge-given}
 use borrow.Author.Needs.{needs}
@@ -35,7 +35,7 @@ same-length-2 c = search needs
 -- src/lib.rt:200:9
 returns : tie.Need-returns
 unfolding mergeIntoOf
-returns c = ap (λ (n : ℕ). mergeEnd n (memory (c .before .before .before .before .before .before .before .before .before .before .args .reals .now) (c .before .before .before .before .before .before .before .before .before .before .args .counts .now))) (c .before .pair-fault .ensures) ∙ sym (stopped (pairFault (c .before .before .before .before .before .before .before .before .before .before .args .table .now) (c .before .before .before .before .before .before .before .before .before .before .args .reals .now) (c .before .before .before .before .before .before .before .before .before .before .args .counts .now) (c .before .before .before .before .before .before .before .before .before .before .args .other .now) (c .before .before .before .before .before .before .before .before .before .before .args .theirs .now) (c .before .before .before .before .before .before .before .before .before .before .args .tallies .now)) (mergeEnd (pairFault (c .before .before .before .before .before .before .before .before .before .before .args .table .now) (c .before .before .before .before .before .before .before .before .before .before .args .reals .now) (c .before .before .before .before .before .before .before .before .before .before .args .counts .now) (c .before .before .before .before .before .before .before .before .before .before .args .other .now) (c .before .before .before .before .before .before .before .before .before .before .args .theirs .now) (c .before .before .before .before .before .before .before .before .before .before .args .tallies .now)) (memory (c .before .before .before .before .before .before .before .before .before .before .args .reals .now) (c .before .before .before .before .before .before .before .before .before .before .args .counts .now))) (unitedBy (mergeOf (rootOf (c .before .before .before .before .before .before .before .before .before .before .args .table .now) (c .before .before .before .before .before .before .before .before .before .before .args .reals .now) (c .before .before .before .before .before .before .before .before .before .before .args .counts .now)) (rootOf (c .before .before .before .before .before .before .before .before .before .before .args .other .now) (c .before .before .before .before .before .before .before .before .before .before .args .theirs .now) (c .before .before .before .before .before .before .before .before .before .before .args .tallies .now))) (unitedGrid (c .before .before .before .before .before .before .before .before .before .before .args .table .now) (c .before .before .before .before .before .before .before .before .before .before .args .other .now) (memory (c .before .before .before .before .before .before .before .before .before .before .args .theirs .now) (c .before .before .before .before .before .before .before .before .before .before .args .tallies .now)) 4 0 0 (memory (c .before .before .before .before .before .before .before .before .before .before .args .reals .now) (c .before .before .before .before .before .before .before .before .before .before .args .counts .now))) (memory (c .before .before .before .before .before .before .before .before .before .before .args .reals .now) (c .before .before .before .before .before .before .before .before .before .before .args .counts .now))) (λ z. c .if1 .taken (c .before .pair-fault .ensures ∙ z)))
+returns c = ap (λ (n : ℕ). stateEnd n (memory (c .before .before .before .before .before .before .before .before .before .before .args .reals .now) (c .before .before .before .before .before .before .before .before .before .before .args .counts .now))) (c .before .pair-fault .ensures) ∙ sym (stopped (pairFault (c .before .before .before .before .before .before .before .before .before .before .args .table .now) (c .before .before .before .before .before .before .before .before .before .before .args .reals .now) (c .before .before .before .before .before .before .before .before .before .before .args .counts .now) (c .before .before .before .before .before .before .before .before .before .before .args .other .now) (c .before .before .before .before .before .before .before .before .before .before .args .theirs .now) (c .before .before .before .before .before .before .before .before .before .before .args .tallies .now)) (stateEnd (pairFault (c .before .before .before .before .before .before .before .before .before .before .args .table .now) (c .before .before .before .before .before .before .before .before .before .before .args .reals .now) (c .before .before .before .before .before .before .before .before .before .before .args .counts .now) (c .before .before .before .before .before .before .before .before .before .before .args .other .now) (c .before .before .before .before .before .before .before .before .before .before .args .theirs .now) (c .before .before .before .before .before .before .before .before .before .before .args .tallies .now)) (memory (c .before .before .before .before .before .before .before .before .before .before .args .reals .now) (c .before .before .before .before .before .before .before .before .before .before .args .counts .now))) (unitedBy (mergeOf (rootOf (c .before .before .before .before .before .before .before .before .before .before .args .table .now) (c .before .before .before .before .before .before .before .before .before .before .args .reals .now) (c .before .before .before .before .before .before .before .before .before .before .args .counts .now)) (rootOf (c .before .before .before .before .before .before .before .before .before .before .args .other .now) (c .before .before .before .before .before .before .before .before .before .before .args .theirs .now) (c .before .before .before .before .before .before .before .before .before .before .args .tallies .now))) (unitedGrid (c .before .before .before .before .before .before .before .before .before .before .args .table .now) (c .before .before .before .before .before .before .before .before .before .before .args .other .now) (memory (c .before .before .before .before .before .before .before .before .before .before .args .theirs .now) (c .before .before .before .before .before .before .before .before .before .before .args .tallies .now)) 4 0 0 (memory (c .before .before .before .before .before .before .before .before .before .before .args .reals .now) (c .before .before .before .before .before .before .before .before .before .before .args .counts .now))) (memory (c .before .before .before .before .before .before .before .before .before .before .args .reals .now) (c .before .before .before .before .before .before .before .before .before .before .args .counts .now))) (λ z. c .if1 .taken (c .before .pair-fault .ensures ∙ z)))
 
 -- src/lib.rt:202:9
 grid-obstacle-requires : tie.Need-grid-obstacle-requires
@@ -52,7 +52,7 @@ same-length-4 c = search needs
 -- src/lib.rt:204:9
 returns-2 : tie.Need-returns-2
 unfolding mergeIntoOf unitedBy
-returns-2 c = sym (ap (λ (p : Paper Grid). unitedBy p (unitedGrid (c .before .before .before .before .before .before .before .before .before .before .before .before .before .before .args .table .now) (c .before .before .before .before .before .before .before .before .before .before .before .before .before .before .args .other .now) (memory (c .before .before .before .before .before .before .before .before .before .before .before .before .before .before .args .theirs .now) (c .before .before .before .before .before .before .before .before .before .before .before .before .before .before .args .tallies .now)) 4 0 0 (memory (c .before .before .before .before .before .before .before .before .before .before .before .before .before .before .args .reals .now) (c .before .before .before .before .before .before .before .before .before .before .before .before .before .before .args .counts .now))) (memory (c .before .before .before .before .before .before .before .before .before .before .before .before .before .before .args .reals .now) (c .before .before .before .before .before .before .before .before .before .before .before .before .before .before .args .counts .now))) (merge-refused (rootOf (c .before .before .before .before .before .before .before .before .before .before .before .before .before .before .args .table .now) (c .before .before .before .before .before .before .before .before .before .before .before .before .before .before .args .reals .now) (c .before .before .before .before .before .before .before .before .before .before .before .before .before .before .args .counts .now)) (rootOf (c .before .before .before .before .before .before .before .before .before .before .before .before .before .before .args .other .now) (c .before .before .before .before .before .before .before .before .before .before .before .before .before .before .args .theirs .now) (c .before .before .before .before .before .before .before .before .before .before .before .before .before .before .args .tallies .now)) (c .before .grid-obstacle .result) (c .before .grid-obstacle .ensures) (c .if2 .taken))) ∙ sym (went-on (pairFault (c .before .before .before .before .before .before .before .before .before .before .before .before .before .before .args .table .now) (c .before .before .before .before .before .before .before .before .before .before .before .before .before .before .args .reals .now) (c .before .before .before .before .before .before .before .before .before .before .before .before .before .before .args .counts .now) (c .before .before .before .before .before .before .before .before .before .before .before .before .before .before .args .other .now) (c .before .before .before .before .before .before .before .before .before .before .before .before .before .before .args .theirs .now) (c .before .before .before .before .before .before .before .before .before .before .before .before .before .before .args .tallies .now)) (mergeEnd (pairFault (c .before .before .before .before .before .before .before .before .before .before .before .before .before .before .args .table .now) (c .before .before .before .before .before .before .before .before .before .before .before .before .before .before .args .reals .now) (c .before .before .before .before .before .before .before .before .before .before .before .before .before .before .args .counts .now) (c .before .before .before .before .before .before .before .before .before .before .before .before .before .before .args .other .now) (c .before .before .before .before .before .before .before .before .before .before .before .before .before .before .args .theirs .now) (c .before .before .before .before .before .before .before .before .before .before .before .before .before .before .args .tallies .now)) (memory (c .before .before .before .before .before .before .before .before .before .before .before .before .before .before .args .reals .now) (c .before .before .before .before .before .before .before .before .before .before .before .before .before .before .args .counts .now))) (unitedBy (mergeOf (rootOf (c .before .before .before .before .before .before .before .before .before .before .before .before .before .before .args .table .now) (c .before .before .before .before .before .before .before .before .before .before .before .before .before .before .args .reals .now) (c .before .before .before .before .before .before .before .before .before .before .before .before .before .before .args .counts .now)) (rootOf (c .before .before .before .before .before .before .before .before .before .before .before .before .before .before .args .other .now) (c .before .before .before .before .before .before .before .before .before .before .before .before .before .before .args .theirs .now) (c .before .before .before .before .before .before .before .before .before .before .before .before .before .before .args .tallies .now))) (unitedGrid (c .before .before .before .before .before .before .before .before .before .before .before .before .before .before .args .table .now) (c .before .before .before .before .before .before .before .before .before .before .before .before .before .before .args .other .now) (memory (c .before .before .before .before .before .before .before .before .before .before .before .before .before .before .args .theirs .now) (c .before .before .before .before .before .before .before .before .before .before .before .before .before .before .args .tallies .now)) 4 0 0 (memory (c .before .before .before .before .before .before .before .before .before .before .before .before .before .before .args .reals .now) (c .before .before .before .before .before .before .before .before .before .before .before .before .before .before .args .counts .now))) (memory (c .before .before .before .before .before .before .before .before .before .before .before .before .before .before .args .reals .now) (c .before .before .before .before .before .before .before .before .before .before .before .before .before .before .args .counts .now))) (sym (c .before .before .before .before .before .pair-fault .ensures) ∙ c .before .before .before .before .if1 .left))
+returns-2 c = sym (ap (λ (p : Paper Grid). unitedBy p (unitedGrid (c .before .before .before .before .before .before .before .before .before .before .before .before .before .before .args .table .now) (c .before .before .before .before .before .before .before .before .before .before .before .before .before .before .args .other .now) (memory (c .before .before .before .before .before .before .before .before .before .before .before .before .before .before .args .theirs .now) (c .before .before .before .before .before .before .before .before .before .before .before .before .before .before .args .tallies .now)) 4 0 0 (memory (c .before .before .before .before .before .before .before .before .before .before .before .before .before .before .args .reals .now) (c .before .before .before .before .before .before .before .before .before .before .before .before .before .before .args .counts .now))) (memory (c .before .before .before .before .before .before .before .before .before .before .before .before .before .before .args .reals .now) (c .before .before .before .before .before .before .before .before .before .before .before .before .before .before .args .counts .now))) (merge-refused (rootOf (c .before .before .before .before .before .before .before .before .before .before .before .before .before .before .args .table .now) (c .before .before .before .before .before .before .before .before .before .before .before .before .before .before .args .reals .now) (c .before .before .before .before .before .before .before .before .before .before .before .before .before .before .args .counts .now)) (rootOf (c .before .before .before .before .before .before .before .before .before .before .before .before .before .before .args .other .now) (c .before .before .before .before .before .before .before .before .before .before .before .before .before .before .args .theirs .now) (c .before .before .before .before .before .before .before .before .before .before .before .before .before .before .args .tallies .now)) (c .before .grid-obstacle .result) (c .before .grid-obstacle .ensures) (c .if2 .taken))) ∙ sym (went-on (pairFault (c .before .before .before .before .before .before .before .before .before .before .before .before .before .before .args .table .now) (c .before .before .before .before .before .before .before .before .before .before .before .before .before .before .args .reals .now) (c .before .before .before .before .before .before .before .before .before .before .before .before .before .before .args .counts .now) (c .before .before .before .before .before .before .before .before .before .before .before .before .before .before .args .other .now) (c .before .before .before .before .before .before .before .before .before .before .before .before .before .before .args .theirs .now) (c .before .before .before .before .before .before .before .before .before .before .before .before .before .before .args .tallies .now)) (stateEnd (pairFault (c .before .before .before .before .before .before .before .before .before .before .before .before .before .before .args .table .now) (c .before .before .before .before .before .before .before .before .before .before .before .before .before .before .args .reals .now) (c .before .before .before .before .before .before .before .before .before .before .before .before .before .before .args .counts .now) (c .before .before .before .before .before .before .before .before .before .before .before .before .before .before .args .other .now) (c .before .before .before .before .before .before .before .before .before .before .before .before .before .before .args .theirs .now) (c .before .before .before .before .before .before .before .before .before .before .before .before .before .before .args .tallies .now)) (memory (c .before .before .before .before .before .before .before .before .before .before .before .before .before .before .args .reals .now) (c .before .before .before .before .before .before .before .before .before .before .before .before .before .before .args .counts .now))) (unitedBy (mergeOf (rootOf (c .before .before .before .before .before .before .before .before .before .before .before .before .before .before .args .table .now) (c .before .before .before .before .before .before .before .before .before .before .before .before .before .before .args .reals .now) (c .before .before .before .before .before .before .before .before .before .before .before .before .before .before .args .counts .now)) (rootOf (c .before .before .before .before .before .before .before .before .before .before .before .before .before .before .args .other .now) (c .before .before .before .before .before .before .before .before .before .before .before .before .before .before .args .theirs .now) (c .before .before .before .before .before .before .before .before .before .before .before .before .before .before .args .tallies .now))) (unitedGrid (c .before .before .before .before .before .before .before .before .before .before .before .before .before .before .args .table .now) (c .before .before .before .before .before .before .before .before .before .before .before .before .before .before .args .other .now) (memory (c .before .before .before .before .before .before .before .before .before .before .before .before .before .before .args .theirs .now) (c .before .before .before .before .before .before .before .before .before .before .before .before .before .before .args .tallies .now)) 4 0 0 (memory (c .before .before .before .before .before .before .before .before .before .before .before .before .before .before .args .reals .now) (c .before .before .before .before .before .before .before .before .before .before .before .before .before .before .args .counts .now))) (memory (c .before .before .before .before .before .before .before .before .before .before .before .before .before .before .args .reals .now) (c .before .before .before .before .before .before .before .before .before .before .before .before .before .before .args .counts .now))) (sym (c .before .before .before .before .before .pair-fault .ensures) ∙ c .before .before .before .before .if1 .left))
 
 -- src/lib.rt:206:5
 merge-grid-requires : tie.Need-merge-grid-requires
@@ -69,7 +69,7 @@ same-length-6 c = search needs
 -- src/lib.rt:187:1
 returns-3 : tie.Need-returns-3
 unfolding mergeIntoOf unitedBy
-returns-3 c = ap (mergeEnd 0) (c .before .before .before .before .merge-grid .ensures) ∙ sym (ap (λ (p : Paper Grid). unitedBy p (unitedGrid (c .before .before .before .before .before .before .before .before .before .before .before .before .before .before .before .before .before .before .before .before .before .args .table .now) (c .before .before .before .before .before .before .before .before .before .before .before .before .before .before .before .before .before .before .before .before .before .args .other .now) (memory (c .before .before .before .before .before .before .before .before .before .before .before .before .before .before .before .before .before .before .before .before .before .args .theirs .now) (c .before .before .before .before .before .before .before .before .before .before .before .before .before .before .before .before .before .before .before .before .before .args .tallies .now)) 4 0 0 (memory (c .before .before .before .before .before .before .before .before .before .before .before .before .before .before .before .before .before .before .before .before .before .args .reals .now) (c .before .before .before .before .before .before .before .before .before .before .before .before .before .before .before .before .before .before .before .before .before .args .counts .now))) (memory (c .before .before .before .before .before .before .before .before .before .before .before .before .before .before .before .before .before .before .before .before .before .args .reals .now) (c .before .before .before .before .before .before .before .before .before .before .before .before .before .before .before .before .before .before .before .before .before .args .counts .now))) (merge-given (rootOf (c .before .before .before .before .before .before .before .before .before .before .before .before .before .before .before .before .before .before .before .before .before .args .table .now) (c .before .before .before .before .before .before .before .before .before .before .before .before .before .before .before .before .before .before .before .before .before .args .reals .now) (c .before .before .before .before .before .before .before .before .before .before .before .before .before .before .before .before .before .before .before .before .before .args .counts .now)) (rootOf (c .before .before .before .before .before .before .before .before .before .before .before .before .before .before .before .before .before .before .before .before .before .args .other .now) (c .before .before .before .before .before .before .before .before .before .before .before .before .before .before .before .before .before .before .before .before .before .args .theirs .now) (c .before .before .before .before .before .before .before .before .before .before .before .before .before .before .before .before .before .before .before .before .before .args .tallies .now)) (c .before .before .before .before .before .before .before .before .grid-obstacle .result) (c .before .before .before .before .before .before .before .before .grid-obstacle .ensures) (c .before .before .before .before .before .before .before .if2 .left))) ∙ sym (went-on (pairFault (c .before .before .before .before .before .before .before .before .before .before .before .before .before .before .before .before .before .before .before .before .before .args .table .now) (c .before .before .before .before .before .before .before .before .before .before .before .before .before .before .before .before .before .before .before .before .before .args .reals .now) (c .before .before .before .before .before .before .before .before .before .before .before .before .before .before .before .before .before .before .before .before .before .args .counts .now) (c .before .before .before .before .before .before .before .before .before .before .before .before .before .before .before .before .before .before .before .before .before .args .other .now) (c .before .before .before .before .before .before .before .before .before .before .before .before .before .before .before .before .before .before .before .before .before .args .theirs .now) (c .before .before .before .before .before .before .before .before .before .before .before .before .before .before .before .before .before .before .before .before .before .args .tallies .now)) (mergeEnd (pairFault (c .before .before .before .before .before .before .before .before .before .before .before .before .before .before .before .before .before .before .before .before .before .args .table .now) (c .before .before .before .before .before .before .before .before .before .before .before .before .before .before .before .before .before .before .before .before .before .args .reals .now) (c .before .before .before .before .before .before .before .before .before .before .before .before .before .before .before .before .before .before .before .before .before .args .counts .now) (c .before .before .before .before .before .before .before .before .before .before .before .before .before .before .before .before .before .before .before .before .before .args .other .now) (c .before .before .before .before .before .before .before .before .before .before .before .before .before .before .before .before .before .before .before .before .before .args .theirs .now) (c .before .before .before .before .before .before .before .before .before .before .before .before .before .before .before .before .before .before .before .before .before .args .tallies .now)) (memory (c .before .before .before .before .before .before .before .before .before .before .before .before .before .before .before .before .before .before .before .before .before .args .reals .now) (c .before .before .before .before .before .before .before .before .before .before .before .before .before .before .before .before .before .before .before .before .before .args .counts .now))) (unitedBy (mergeOf (rootOf (c .before .before .before .before .before .before .before .before .before .before .before .before .before .before .before .before .before .before .before .before .before .args .table .now) (c .before .before .before .before .before .before .before .before .before .before .before .before .before .before .before .before .before .before .before .before .before .args .reals .now) (c .before .before .before .before .before .before .before .before .before .before .before .before .before .before .before .before .before .before .before .before .before .args .counts .now)) (rootOf (c .before .before .before .before .before .before .before .before .before .before .before .before .before .before .before .before .before .before .before .before .before .args .other .now) (c .before .before .before .before .before .before .before .before .before .before .before .before .before .before .before .before .before .before .before .before .before .args .theirs .now) (c .before .before .before .before .before .before .before .before .before .before .before .before .before .before .before .before .before .before .before .before .before .args .tallies .now))) (unitedGrid (c .before .before .before .before .before .before .before .before .before .before .before .before .before .before .before .before .before .before .before .before .before .args .table .now) (c .before .before .before .before .before .before .before .before .before .before .before .before .before .before .before .before .before .before .before .before .before .args .other .now) (memory (c .before .before .before .before .before .before .before .before .before .before .before .before .before .before .before .before .before .before .before .before .before .args .theirs .now) (c .before .before .before .before .before .before .before .before .before .before .before .before .before .before .before .before .before .before .before .before .before .args .tallies .now)) 4 0 0 (memory (c .before .before .before .before .before .before .before .before .before .before .before .before .before .before .before .before .before .before .before .before .before .args .reals .now) (c .before .before .before .before .before .before .before .before .before .before .before .before .before .before .before .before .before .before .before .before .before .args .counts .now))) (memory (c .before .before .before .before .before .before .before .before .before .before .before .before .before .before .before .before .before .before .before .before .before .args .reals .now) (c .before .before .before .before .before .before .before .before .before .before .before .before .before .before .before .before .before .before .before .before .before .args .counts .now))) (sym (c .before .before .before .before .before .before .before .before .before .before .before .before .pair-fault .ensures) ∙ c .before .before .before .before .before .before .before .before .before .before .before .if1 .left))
+returns-3 c = ap (stateEnd 0) (c .before .before .before .before .merge-grid .ensures) ∙ sym (ap (λ (p : Paper Grid). unitedBy p (unitedGrid (c .before .before .before .before .before .before .before .before .before .before .before .before .before .before .before .before .before .before .before .before .before .args .table .now) (c .before .before .before .before .before .before .before .before .before .before .before .before .before .before .before .before .before .before .before .before .before .args .other .now) (memory (c .before .before .before .before .before .before .before .before .before .before .before .before .before .before .before .before .before .before .before .before .before .args .theirs .now) (c .before .before .before .before .before .before .before .before .before .before .before .before .before .before .before .before .before .before .before .before .before .args .tallies .now)) 4 0 0 (memory (c .before .before .before .before .before .before .before .before .before .before .before .before .before .before .before .before .before .before .before .before .before .args .reals .now) (c .before .before .before .before .before .before .before .before .before .before .before .before .before .before .before .before .before .before .before .before .before .args .counts .now))) (memory (c .before .before .before .before .before .before .before .before .before .before .before .before .before .before .before .before .before .before .before .before .before .args .reals .now) (c .before .before .before .before .before .before .before .before .before .before .before .before .before .before .before .before .before .before .before .before .before .args .counts .now))) (merge-given (rootOf (c .before .before .before .before .before .before .before .before .before .before .before .before .before .before .before .before .before .before .before .before .before .args .table .now) (c .before .before .before .before .before .before .before .before .before .before .before .before .before .before .before .before .before .before .before .before .before .args .reals .now) (c .before .before .before .before .before .before .before .before .before .before .before .before .before .before .before .before .before .before .before .before .before .args .counts .now)) (rootOf (c .before .before .before .before .before .before .before .before .before .before .before .before .before .before .before .before .before .before .before .before .before .args .other .now) (c .before .before .before .before .before .before .before .before .before .before .before .before .before .before .before .before .before .before .before .before .before .args .theirs .now) (c .before .before .before .before .before .before .before .before .before .before .before .before .before .before .before .before .before .before .before .before .before .args .tallies .now)) (c .before .before .before .before .before .before .before .before .grid-obstacle .result) (c .before .before .before .before .before .before .before .before .grid-obstacle .ensures) (c .before .before .before .before .before .before .before .if2 .left))) ∙ sym (went-on (pairFault (c .before .before .before .before .before .before .before .before .before .before .before .before .before .before .before .before .before .before .before .before .before .args .table .now) (c .before .before .before .before .before .before .before .before .before .before .before .before .before .before .before .before .before .before .before .before .before .args .reals .now) (c .before .before .before .before .before .before .before .before .before .before .before .before .before .before .before .before .before .before .before .before .before .args .counts .now) (c .before .before .before .before .before .before .before .before .before .before .before .before .before .before .before .before .before .before .before .before .before .args .other .now) (c .before .before .before .before .before .before .before .before .before .before .before .before .before .before .before .before .before .before .before .before .before .args .theirs .now) (c .before .before .before .before .before .before .before .before .before .before .before .before .before .before .before .before .before .before .before .before .before .args .tallies .now)) (stateEnd (pairFault (c .before .before .before .before .before .before .before .before .before .before .before .before .before .before .before .before .before .before .before .before .before .args .table .now) (c .before .before .before .before .before .before .before .before .before .before .before .before .before .before .before .before .before .before .before .before .before .args .reals .now) (c .before .before .before .before .before .before .before .before .before .before .before .before .before .before .before .before .before .before .before .before .before .args .counts .now) (c .before .before .before .before .before .before .before .before .before .before .before .before .before .before .before .before .before .before .before .before .before .args .other .now) (c .before .before .before .before .before .before .before .before .before .before .before .before .before .before .before .before .before .before .before .before .before .args .theirs .now) (c .before .before .before .before .before .before .before .before .before .before .before .before .before .before .before .before .before .before .before .before .before .args .tallies .now)) (memory (c .before .before .before .before .before .before .before .before .before .before .before .before .before .before .before .before .before .before .before .before .before .args .reals .now) (c .before .before .before .before .before .before .before .before .before .before .before .before .before .before .before .before .before .before .before .before .before .args .counts .now))) (unitedBy (mergeOf (rootOf (c .before .before .before .before .before .before .before .before .before .before .before .before .before .before .before .before .before .before .before .before .before .args .table .now) (c .before .before .before .before .before .before .before .before .before .before .before .before .before .before .before .before .before .before .before .before .before .args .reals .now) (c .before .before .before .before .before .before .before .before .before .before .before .before .before .before .before .before .before .before .before .before .before .args .counts .now)) (rootOf (c .before .before .before .before .before .before .before .before .before .before .before .before .before .before .before .before .before .before .before .before .before .args .other .now) (c .before .before .before .before .before .before .before .before .before .before .before .before .before .before .before .before .before .before .before .before .before .args .theirs .now) (c .before .before .before .before .before .before .before .before .before .before .before .before .before .before .before .before .before .before .before .before .before .args .tallies .now))) (unitedGrid (c .before .before .before .before .before .before .before .before .before .before .before .before .before .before .before .before .before .before .before .before .before .args .table .now) (c .before .before .before .before .before .before .before .before .before .before .before .before .before .before .before .before .before .before .before .before .before .args .other .now) (memory (c .before .before .before .before .before .before .before .before .before .before .before .before .before .before .before .before .before .before .before .before .before .args .theirs .now) (c .before .before .before .before .before .before .before .before .before .before .before .before .before .before .before .before .before .before .before .before .before .args .tallies .now)) 4 0 0 (memory (c .before .before .before .before .before .before .before .before .before .before .before .before .before .before .before .before .before .before .before .before .before .args .reals .now) (c .before .before .before .before .before .before .before .before .before .before .before .before .before .before .before .before .before .before .before .before .before .args .counts .now))) (memory (c .before .before .before .before .before .before .before .before .before .before .before .before .before .before .before .before .before .before .before .before .before .args .reals .now) (c .before .before .before .before .before .before .before .before .before .before .before .before .before .before .before .before .before .before .before .before .before .args .counts .now))) (sym (c .before .before .before .before .before .before .before .before .before .before .before .before .pair-fault .ensures) ∙ c .before .before .before .before .before .before .before .before .before .before .before .if1 .left))
 
 pub merge-spec : {M : Type 1} → statement M
 merge-spec =

@@ -1,7 +1,7 @@
 use mathlib.Core.Path.{sym}
 use lib.ListN.{length}
 use Rattle.grid.specs.Memory.{memory}
-use Rattle.grid.specs.Calls.{updateEnd}
+use Rattle.grid.specs.Calls.{stateEnd}
 use Rattle.grid.proofs.States.{sizes-planned}
 use Rattle.grid.proofs.Spares.{update-planned, update-strayed}
 use borrow.Author.Needs.{needs}
@@ -46,7 +46,7 @@ same-length-4 c = search needs
 
 -- src/lib.rt:203:1
 returns : tie.Need-returns
-returns c = update-planned (c .before .before .before .before .before .before .before .before .before .before .before .before .before .before .before .before .before .before .before .before .before .before .args .table .now) (c .before .before .before .before .before .before .before .before .before .before .before .before .before .before .before .before .before .before .before .before .before .before .args .bins-rate) (c .before .before .before .before .before .before .before .before .before .before .before .before .before .before .before .before .before .before .before .before .before .before .args .axes-rate) (length (c .before .before .before .before .before .before .before .before .before .before .before .before .before .before .before .before .before .before .before .before .before .before .args .spare-reals .now)) (length (c .before .before .before .before .before .before .before .before .before .before .before .before .before .before .before .before .before .before .before .before .before .before .args .spare-counts .now)) (memory (c .before .before .before .before .before .before .before .before .before .before .before .before .before .before .before .before .before .before .before .before .before .before .args .reals .now) (c .before .before .before .before .before .before .before .before .before .before .before .before .before .before .before .before .before .before .before .before .before .before .args .counts .now)) (c .before .before .before .before .before .before .before .before .before .before .before .before .before .before .before .before .sizes .result) (c .before .before .before .before .before .before .before .before .before .before .before .before .before .before .needs .given .0 .0) (updateEnd (c .before .before .before .before .before .before .before .before .update-state .result) (memory (c .before .before .before .before .before .before .before .before .update-state .last .1 .0) (c .before .before .before .before .before .before .before .before .update-state .last .1 .1 .0))) (c .before .before .before .before .before .before .before .before .before .before .before .before .before .before .before .before .sizes .ensures) (sym (c .before .before .before .before .before .before .before .before .before .before .before .before .before .before .needs .given .1)) (c .before .before .before .before .before .before .before .before .update-state .ensures)
+returns c = update-planned (c .before .before .before .before .before .before .before .before .before .before .before .before .before .before .before .before .before .before .before .before .before .before .args .table .now) (c .before .before .before .before .before .before .before .before .before .before .before .before .before .before .before .before .before .before .before .before .before .before .args .bins-rate) (c .before .before .before .before .before .before .before .before .before .before .before .before .before .before .before .before .before .before .before .before .before .before .args .axes-rate) (length (c .before .before .before .before .before .before .before .before .before .before .before .before .before .before .before .before .before .before .before .before .before .before .args .spare-reals .now)) (length (c .before .before .before .before .before .before .before .before .before .before .before .before .before .before .before .before .before .before .before .before .before .before .args .spare-counts .now)) (memory (c .before .before .before .before .before .before .before .before .before .before .before .before .before .before .before .before .before .before .before .before .before .before .args .reals .now) (c .before .before .before .before .before .before .before .before .before .before .before .before .before .before .before .before .before .before .before .before .before .before .args .counts .now)) (c .before .before .before .before .before .before .before .before .before .before .before .before .before .before .before .before .sizes .result) (c .before .before .before .before .before .before .before .before .before .before .before .before .before .before .needs .given .0 .0) (stateEnd (c .before .before .before .before .before .before .before .before .update-state .result) (memory (c .before .before .before .before .before .before .before .before .update-state .last .1 .0) (c .before .before .before .before .before .before .before .before .update-state .last .1 .1 .0))) (c .before .before .before .before .before .before .before .before .before .before .before .before .before .before .before .before .sizes .ensures) (sym (c .before .before .before .before .before .before .before .before .before .before .before .before .before .before .needs .given .1)) (c .before .before .before .before .before .before .before .before .update-state .ensures)
 
 -- src/lib.rt:203:1
 returns-2 : tie.Need-returns-2
