@@ -55,32 +55,34 @@ fn run_on(
     grids::drawn(table, reals, counts, count)
 }
 
-// The kinds on a grid, which is laid first; 0 for a plan that is not laid.
-fn run_grid(
-    kind: u8,
+// The same on the axes grid; 0 where it is not laid.
+fn run_axes(
+    trains: bool,
     table: &mut [u64],
     reals: &mut [f64],
     counts: &mut [u64],
     room: &mut [f64],
     count: u64,
 ) -> u64 {
-    let small = kind == b'g' || kind == b'j';
-    let laid = if small {
-        plans::lay_axes(table, reals, counts)
-    } else {
-        plans::lay_tree(table, reals, counts)
-    };
-    if !laid {
+    if !plans::lay_axes(table, reals, counts) {
         return 0;
     }
-    run_on(
-        kind == b'g' || kind == b't',
-        table,
-        reals,
-        counts,
-        room,
-        count,
-    )
+    run_on(trains, table, reals, counts, room, count)
+}
+
+// The same on the bins grid.
+fn run_tree(
+    trains: bool,
+    table: &mut [u64],
+    reals: &mut [f64],
+    counts: &mut [u64],
+    room: &mut [f64],
+    count: u64,
+) -> u64 {
+    if !plans::lay_tree(table, reals, counts) {
+        return 0;
+    }
+    run_on(trains, table, reals, counts, room, count)
 }
 
 // The rooms come as references to arrays, so that the proof sees their lengths and not their zeros.
@@ -93,10 +95,10 @@ fn run(
     count: u64,
 ) -> u64 {
     match kind {
-        b'g' => run_grid(kind, table, reals, counts, room, count),
-        b'j' => run_grid(kind, table, reals, counts, room, count),
-        b'n' => run_grid(kind, table, reals, counts, room, count),
-        b't' => run_grid(kind, table, reals, counts, room, count),
+        b'g' => run_axes(true, table, reals, counts, room, count),
+        b'j' => run_axes(false, table, reals, counts, room, count),
+        b'n' => run_tree(false, table, reals, counts, room, count),
+        b't' => run_tree(true, table, reals, counts, room, count),
         _ => run_loop(kind, count),
     }
 }
