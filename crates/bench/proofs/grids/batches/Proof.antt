@@ -1,17 +1,10 @@
 -- A batch keeps the lengths of lent memory.
 use borrow.Author.Needs.{needs}
-use native.Mathlib.Omega.{arith}
-use Prim.Native.Nat.{ℕ, _+_, _-_, _*_, _^_, _≤_, _<_}
+use Prim.Native.Nat.{_-_, _≤_}
 use lib.ListN.{length}
-use mathlib.Core.Path.{_≡_, refl}
+use mathlib.Core.Path.{_≡_}
 use Rattle.bench.proofs.grids.batches.Statement.{statement}
 use Rattle.bench.proofs.grids.batches.Tie as tie
-use Rattle.bench.proofs.grids.batches.Reads as reads
-use Rattle.bench.proofs.grids.batches.Lts as lts
-use Rattle.bench.proofs.grids.word.Reads as word-reads
-use Rattle.grid.proofs.draw_and_train.Reads as draw-and-train-reads
-use Rattle.grid.proofs.live_estimate.Reads as live-estimate-reads
-use Rattle.stream.proofs.MonteCarloRng.seed_from_u64.Reads as seed-from-u64-reads
 
 abbrev Inv-loop : tie.InvT-loop
 Inv-loop table reals₀ counts₀ evaluations count stream₀ i₀ reals counts stream i = (i ≤ count) × (length reals ≡ length reals₀) × (length counts ≡ length counts₀)

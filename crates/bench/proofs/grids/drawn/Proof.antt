@@ -1,16 +1,8 @@
 -- The counter stays within its bound.
 use borrow.Author.Needs.{needs}
-use native.Mathlib.Omega.{arith}
-use Prim.Native.Nat.{ℕ, _+_, _-_, _*_, _^_, _≤_, _<_}
-use lib.ListN.{length, length-set}
-use mathlib.Core.Path.{_≡_, refl}
+use Prim.Native.Nat.{_-_, _≤_}
 use Rattle.bench.proofs.grids.drawn.Statement.{statement}
 use Rattle.bench.proofs.grids.drawn.Tie as tie
-use Rattle.bench.proofs.grids.drawn.Reads as reads
-use Rattle.bench.proofs.grids.drawn.Lts as lts
-use Rattle.answers.proofs.bits.Reads as bits-reads
-use Rattle.grid.proofs.draw.Reads as draw-reads
-use Rattle.stream.proofs.MonteCarloRng.seed_from_u64.Reads as seed-from-u64-reads
 
 abbrev Inv-loop : tie.InvT-loop
 Inv-loop table reals counts count stream₀ xor₀ i₀ stream xor i = i ≤ count

@@ -1,14 +1,11 @@
 -- The writes keep the length.
 use borrow.Author.Needs.{needs}
 use native.Mathlib.Omega.{arith}
-use Prim.Native.Nat.{ℕ, _+_, _-_, _*_, _^_, _≤_, _<_}
+use Prim.Native.Nat.{_-_, _≤_}
 use lib.ListN.{length, length-set}
 use mathlib.Core.Path.{_≡_, refl}
 use Rattle.bench.proofs.grids.evaluate.Statement.{statement}
 use Rattle.bench.proofs.grids.evaluate.Tie as tie
-use Rattle.bench.proofs.grids.evaluate.Reads as reads
-use Rattle.bench.proofs.grids.evaluate.Lts as lts
-use Rattle.bench.proofs.samples.evaluation.Reads as evaluation-reads
 
 abbrev Inv-loop : tie.InvT-loop
 Inv-loop evaluations₀ i₀ evaluations i = (i ≤ length evaluations) × (length evaluations ≡ length evaluations₀)

@@ -1,14 +1,11 @@
 -- The writes keep the length.
 use borrow.Author.Needs.{needs}
 use native.Mathlib.Omega.{arith}
-use Prim.Native.Nat.{ℕ, _+_, _-_, _*_, _^_, _≤_, _<_}
+use Prim.Native.Nat.{_-_, _≤_}
 use lib.ListN.{length, length-set}
 use mathlib.Core.Path.{_≡_, refl}
 use Rattle.bench.proofs.plans.write_tree.Statement.{statement}
 use Rattle.bench.proofs.plans.write_tree.Tie as tie
-use Rattle.bench.proofs.plans.write_tree.Reads as reads
-use Rattle.bench.proofs.plans.write_tree.Lts as lts
-use Rattle.bench.proofs.plans.byte_of_tree.Reads as byte-of-tree-reads
 
 abbrev Inv-loop : tie.InvT-loop
 Inv-loop bytes₀ i₀ bytes i = (i ≤ length bytes) × (length bytes ≡ length bytes₀)
