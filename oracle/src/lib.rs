@@ -12,4 +12,5 @@ pub mod model;
 pub mod numerical_integration;
 pub mod program;
 pub mod rand;
+pub mod timing;
 pub mod words;

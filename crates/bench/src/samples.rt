@@ -5,7 +5,7 @@ use accumulator::Updated;
 use answers::bits;
 
 // An evaluation that varies with `i` and costs next to nothing: the whole numbers from -512 to 511 in turn.
-fn evaluation(i: u64) -> f64 {
+pub fn evaluation(i: u64) -> f64 {
     ((i % 1024) as u32) as f64 - 512.0
 }
 

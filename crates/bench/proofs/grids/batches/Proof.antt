@@ -1,0 +1,90 @@
+-- A batch keeps the lengths of lent memory.
+use borrow.Author.Needs.{needs}
+use Prim.Native.Nat.{_-_, _≤_}
+use lib.ListN.{length}
+use mathlib.Core.Path.{_≡_}
+use Rattle.bench.proofs.grids.batches.Statement.{statement}
+use Rattle.bench.proofs.grids.batches.Tie as tie
+
+abbrev Inv-loop : tie.InvT-loop
+Inv-loop table reals₀ counts₀ evaluations count stream₀ i₀ reals counts stream i = (i ≤ count) × (length reals ≡ length reals₀) × (length counts ≡ length counts₀)
+
+abbrev μ-loop : tie.MeasureT-loop
+μ-loop table reals₀ counts₀ evaluations count stream₀ i₀ reals counts stream i = count - i
+
+-- src/grids.rt:32:9
+seed-from-u64-requires : tie.Need-seed-from-u64-requires Inv-loop μ-loop
+seed-from-u64-requires c κs = search needs
+
+-- src/grids.rt:34:5
+loop-holds : tie.Need-loop-holds Inv-loop μ-loop
+loop-holds c = search needs
+
+-- src/grids.rt:35:13
+draw-and-train-requires : tie.Need-draw-and-train-requires Inv-loop μ-loop
+draw-and-train-requires c κs = search needs
+
+-- src/grids.rt:37:13
+same-length : tie.Need-same-length Inv-loop μ-loop
+same-length c = search needs
+
+-- src/grids.rt:37:13
+same-length-2 : tie.Need-same-length-2 Inv-loop μ-loop
+same-length-2 c = search needs
+
+-- src/grids.rt:37:13
+returns : tie.Need-returns Inv-loop μ-loop
+returns c = search needs
+
+-- src/grids.rt:40:9
+add-i : tie.Need-add-i Inv-loop μ-loop
+add-i c = search needs
+
+-- src/grids.rt:34:5
+loop-less : tie.Need-loop-less Inv-loop μ-loop
+loop-less c = search needs
+
+-- src/grids.rt:34:5
+loop-again : tie.Need-loop-again Inv-loop μ-loop
+loop-again c = search needs
+
+-- src/grids.rt:42:10
+live-estimate-requires : tie.Need-live-estimate-requires Inv-loop μ-loop
+live-estimate-requires c κs = search needs
+
+-- src/grids.rt:42:5
+word-requires : tie.Need-word-requires Inv-loop μ-loop
+word-requires c κs = search needs
+
+-- src/grids.rt:25:1
+same-length-3 : tie.Need-same-length-3 Inv-loop μ-loop
+same-length-3 c = search needs
+
+-- src/grids.rt:25:1
+same-length-4 : tie.Need-same-length-4 Inv-loop μ-loop
+same-length-4 c = search needs
+
+-- src/grids.rt:25:1
+returns-2 : tie.Need-returns-2 Inv-loop μ-loop
+returns-2 c = search needs
+
+pub batches-spec : {M : Type 1} → statement M
+batches-spec =
+    tie.close
+    (tie.spec
+    Inv-loop
+    μ-loop
+    seed-from-u64-requires
+    loop-holds
+    draw-and-train-requires
+    same-length
+    same-length-2
+    returns
+    add-i
+    loop-less
+    loop-again
+    live-estimate-requires
+    word-requires
+    same-length-3
+    same-length-4
+    returns-2)

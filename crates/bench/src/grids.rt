@@ -1,0 +1,76 @@
+// Draws and trainings on a grid in lent memory, from new(0, 0).
+use crate::samples;
+use accumulator::Estimated;
+use answers::bits;
+use stream::MonteCarloRng;
+
+// The evaluations of a batch.
+fn evaluate(evaluations: &mut [f64]) {
+    let mut i = 0;
+    while i < evaluations.len() {
+        evaluations[i] = samples::evaluation(i as u64);
+        i += 1;
+    }
+}
+
+// An estimate's word, or a refusal's number.
+fn word(answer: Estimated) -> u64 {
+    match answer {
+        Estimated::Refused(number) => number,
+        Estimated::Estimate(e) => bits(e.avg) ^ bits(e.err) ^ bits(e.chi_sq),
+    }
+}
+
+// Batches of draws and trainings: the word of the live estimate and of the stream after them, or a refusal's number.
+fn batches(
+    table: &[u64],
+    reals: &mut [f64],
+    counts: &mut [u64],
+    evaluations: &[f64],
+    count: u64,
+) -> u64 {
+    let mut stream = MonteCarloRng::seed_from_u64(0);
+    let mut i: u64 = 0;
+    while i < count {
+        let batch = grid::draw_and_train(table, reals, counts, stream, evaluations, 1);
+        if batch.refused != 0 {
+            return batch.refused;
+        }
+        stream = batch.stream;
+        i += 1;
+    }
+    word(grid::live_estimate(table, reals, counts)) ^ stream.s0
+}
+
+// So many samples, in whole batches of 100,000.
+pub fn trained(
+    table: &[u64],
+    reals: &mut [f64],
+    counts: &mut [u64],
+    room: &mut [f64],
+    count: u64,
+) -> u64 {
+    evaluate(room);
+    batches(table, reals, counts, room, count / 100000)
+}
+
+// Draws one by one, each of which judges the grid: the exclusive or of their weights and first coordinates, or a refusal's number.
+pub fn drawn(table: &[u64], reals: &[f64], counts: &[u64], count: u64) -> u64 {
+    let mut stream = MonteCarloRng::seed_from_u64(0);
+    let mut xor: u64 = 0;
+    let mut i: u64 = 0;
+    while i < count {
+        let drawn = grid::draw(table, reals, counts, stream);
+        if drawn.refused != 0 {
+            return drawn.refused;
+        }
+        let drawing = drawn.drawing;
+        let sample = drawing.sample;
+        let weights = sample.weights;
+        let coordinates = sample.coordinates;
+        xor = xor ^ bits(weights[0]) ^ bits(coordinates[0]);
+        stream = drawing.stream;
+        i += 1;
+    }
+    xor
+}

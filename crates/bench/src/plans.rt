@@ -1,0 +1,44 @@
+// The plans of the grids that are timed, laid in lent memory.
+use plan::Read;
+
+// Whether a plan was laid.
+fn is_laid(answer: Read) -> bool {
+    match answer {
+        Read::Plan { end: _, needs: _ } => true,
+        Read::Refused {
+            number: _,
+            offset: _,
+        } => false,
+    }
+}
+
+// An axes grid of 5 axes of 64 bins.
+pub fn lay_axes(table: &mut [u64], reals: &mut [f64], counts: &mut [u64]) -> bool {
+    let bytes = [1u8, 16, 0, 5, 64, 0, 0, 0, 0, 0, 0, 0, 0, 0, 0, 0, 0, 0, 0];
+    is_laid(grid::fresh(&bytes, table, reals, counts))
+}
+
+// The bytes of a bins grid of 16 bins, its ratio 10, and at each bin an axes grid of 2 axes of 32 bins.
+fn byte_of_tree(i: usize) -> u8 {
+    let head = [3u8, 11, 0, 16, 0, 0, 0, 0, 0, 0, 0, 36, 64, 0];
+    let child = [1u8, 16, 0, 2, 32, 0, 0, 0, 0, 0, 0, 0, 0, 0, 0, 0, 0, 0, 0];
+    if i < 14 {
+        return head[i];
+    }
+    child[(i - 14) % 19]
+}
+
+fn write_tree(bytes: &mut [u8]) {
+    let mut i = 0;
+    while i < bytes.len() {
+        bytes[i] = byte_of_tree(i);
+        i += 1;
+    }
+}
+
+// That bins grid.
+pub fn lay_tree(table: &mut [u64], reals: &mut [f64], counts: &mut [u64]) -> bool {
+    let mut bytes = [0u8; 318];
+    write_tree(&mut bytes);
+    is_laid(grid::fresh(&bytes, table, reals, counts))
+}
