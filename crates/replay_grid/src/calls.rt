@@ -275,7 +275,23 @@ fn is_laid(answer: Read) -> bool {
     }
 }
 
-// One plan on memory of zeros: whether it is laid, where the kind is 0, else its calls.
+// A plan laid, its bytes from a place on; whether it was not refused.
+fn lay_plan(
+    list: &[u8],
+    at: usize,
+    room: &mut [u8],
+    table: &mut [u64],
+    reals: &mut [f64],
+    counts: &mut [u64],
+) -> bool
+    requires { ⌜ (at < 990000) × (length (now room) ≡ 2048) ⌝ }
+{
+    let size = list::below(list, at + 1, 2048);
+    list::load(list, at + 2, room);
+    is_laid(grid::fresh(&room[..size], table, reals, counts))
+}
+
+// One plan: whether it is laid, where the kind is 0, else its calls.
 fn replay_plan(
     list: &[u8],
     at: usize,
@@ -292,17 +308,12 @@ fn replay_plan(
     requires { ⌜ (at < 990000) × (length (now room) ≡ 2048) ⌝ }
     ensures { λ r. ⌜ (r .agreed ≤ 8192) × (r .all ≤ 8192) ⌝ }
 {
-    let size = list::below(list, at + 1, 2048);
-    list::load(list, at + 2, room);
-    memory::clear(reals, counts);
-    memory::clear(other_reals, other_counts);
-    let answer = grid::fresh(&room[..size], table, reals, counts);
-    let agreed = one_if(is_laid(answer));
+    let from = at + 2 + (list::below(list, at + 1, 2048) + 7) / 8;
+    let end = at + 1 + list::below(list, at, 4096);
+    let agreed = one_if(lay_plan(list, at, room, table, reals, counts));
     if kind == 0 {
         return Replayed { agreed, all: 1 };
     }
-    let from = at + 2 + (size + 7) / 8;
-    let end = at + 1 + list::below(list, at, 4096);
     replay_calls(
         list,
         from,
@@ -318,7 +329,7 @@ fn replay_plan(
     )
 }
 
-// The plans of a list one after the other.
+// The plans of a list one after the other, each on memory of zeros.
 pub fn replay(
     list: &[u8],
     room: &mut [u8],
@@ -341,6 +352,8 @@ pub fn replay(
         if 980000 < at {
             return Replayed { agreed, all };
         }
+        memory::clear(reals, counts);
+        memory::clear(other_reals, other_counts);
         let replayed = replay_plan(
             list,
             at,

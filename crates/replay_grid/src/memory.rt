@@ -36,21 +36,25 @@ fn mixed(mark: u64, word: u64) -> u64 {
     again ^ (again >> 14)
 }
 
-// The bits of all doubles joined to the mark, any NaN as 7ff8000000000000.
-fn mark_reals(start: u64, reals: &[f64]) -> u64 {
+// The bits of as many doubles joined to the mark, any NaN as 7ff8000000000000.
+fn mark_reals(start: u64, reals: &[f64], end: usize) -> u64
+    requires { ⌜ end ≤ length (now reals) ⌝ }
+{
     let mut mark = start;
     let mut i = 0;
-    while i < reals.len() {
+    while i < end {
         mark = mixed(mark, bits(reals[i]));
         i += 1;
     }
     mark
 }
 
-fn mark_counts(start: u64, counts: &[u64]) -> u64 {
+fn mark_counts(start: u64, counts: &[u64], end: usize) -> u64
+    requires { ⌜ end ≤ length (now counts) ⌝ }
+{
     let mut mark = start;
     let mut i = 0;
-    while i < counts.len() {
+    while i < end {
         mark = mixed(mark, counts[i]);
         i += 1;
     }
@@ -65,8 +69,8 @@ fn mark_front(reals: &[f64], counts: &[u64], last: usize, end: usize) -> u64 {
     if counts.len() < end {
         return 0;
     }
-    let mark = mark_reals(0xcbf2_9ce4_8422_2325, &reals[..last]);
-    mark_counts(mark, &counts[..end])
+    let mark = mark_reals(0xcbf2_9ce4_8422_2325, reals, last);
+    mark_counts(mark, counts, end)
 }
 
 // The mark of all that the table's plan needs, what is room now among it.

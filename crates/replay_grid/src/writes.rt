@@ -53,16 +53,17 @@ pub fn sample(
 {
     let drawn = grid::draw(table, reals, counts, start);
     let drawing = drawn.drawing;
+    let sample = drawing.sample;
+    let stream = drawing.stream;
     let evaluation = double(word(list, at));
     let number = word(list, at + 1);
-    let mut answer = drawn.refused;
-    if answer == 0 {
-        answer = grid::train(table, reals, counts, drawing.sample, evaluation, number);
+    if drawn.refused != 0 {
+        let agrees = holds_end(list, at + 2, drawn.refused, table, reals, counts);
+        return Went { agrees, stream };
     }
-    Went {
-        agrees: holds_end(list, at + 2, answer, table, reals, counts),
-        stream: drawing.stream,
-    }
+    let answer = grid::train(table, reals, counts, sample, evaluation, number);
+    let agrees = holds_end(list, at + 2, answer, table, reals, counts);
+    Went { agrees, stream }
 }
 
 // update

@@ -61,11 +61,15 @@ fn round(dice: &mut Dice, tape: &mut Tape) {
 fn damaged(dice: &mut Dice, tape: &mut Tape) {
     let mut stream = tape.stream.clone();
     let point = tape.model.draw(&mut stream).unwrap_or_default();
-    let point = changed(dice, point);
-    let eval = if dice.chance(1, 6) {
-        double(dice)
+    let point = if dice.chance(1, 3) {
+        point
     } else {
-        evaluation(dice)
+        changed(dice, point)
+    };
+    let eval = match dice.below(6) {
+        0 => double(dice),
+        1 => dice.pick(&[f64::NAN, f64::INFINITY, f64::NEG_INFINITY, 1e200]),
+        _ => evaluation(dice),
     };
     let number = dice.pick(&[1, 2, MOST, 7, 7, 3, 5, 6, 0, MOST + 1]);
     tape.train(&point, eval, number);
@@ -101,6 +105,7 @@ pub fn directed() -> Vec<Vec<u64>> {
         infinite_last_edge,
         weight_becomes_0,
         least_floor,
+        weight_changed,
         minus_zeros,
         undefined_error,
         eight_beside_nine,
@@ -181,9 +186,14 @@ fn weight_becomes_0() -> Tape {
     under_floor(0.5, 5e-321)
 }
 
-/// The least floor above 0 draws its word and changes a weight.
+/// The least floor above 0 draws its word.
 fn least_floor() -> Tape {
     under_floor(f64::from_bits(1), 5e-321)
+}
+
+/// It changes a weight whose inverse's inverse is another.
+fn weight_changed() -> Tape {
+    under_floor(f64::from_bits(1), 0.45)
 }
 
 /// Floor 0.5, weight 0.5: the double nearest 2/3.
