@@ -269,8 +269,6 @@ fn grid(c: &mut Cursor) {
             6 => c.marked(22),
             7 => c.marked(2),
             8 => c.marked(1),
-            9 => c.answer(0),
-            10 => c.marked(0),
             11 => c.marked(3),
             12 => c.marked(2),
             other => panic!("opcode {other}"),

@@ -1,9 +1,9 @@
 //! Records of a plan and of calls on its grid: the plan's bytes, a stream, then
 //! call after call, each behind its number of words.
 
+use super::histories;
 use super::lent::{Lent, Slot, slots};
 use super::tree::changed;
-use super::histories;
 use crate::generate::{Budget, Dice, plan};
 use crate::model::{
     Answer,
@@ -22,11 +22,8 @@ const LIVE_ESTIMATE_OF_BIN: u64 = 5;
 const TRAIN: u64 = 6;
 const UPDATE: u64 = 7;
 const COPY: u64 = 8;
-const IS_MERGEABLE: u64 = 9;
-const MERGE: u64 = 10;
 const PUT: u64 = 11;
 const SAMPLE: u64 = 12;
-const MERGES: bool = false;
 
 /// What the structs of a sample and of a probe have room for.
 const LEVELS: usize = 4;
@@ -157,17 +154,6 @@ impl Tape {
             self.lent = self.other_lent.clone();
         }
         self.writing(COPY, &[1], answer.map(|_| ()));
-    }
-
-    pub fn merge(&mut self) {
-        if !MERGES { return }
-        let Some(other) = self.other.clone() else {
-            return;
-        };
-        let mergeable = self.model.is_mergeable(&other);
-        self.call(IS_MERGEABLE, &[], mergeable.map(|_| Vec::new()));
-        let answer = self.model.merge(&other);
-        self.writing(MERGE, &[], answer);
     }
 
     pub fn draw(&mut self) -> Point {
