@@ -357,11 +357,8 @@ module _ (f : ℕ → model.Grid) (table : List ℕ) (reals : List Float) (count
     unfolding binsIn updateBins childrenAfter badOf overlaid
     bins-updated i zero = refl
     bins-updated i (suc n) =
-        rw (
-          child-updated (getD table (w + 7 + i) 0),
-          bins-updated (i + 1) n,
-          or-shuffle (childAfter step (getD table (w + 7 + i) 0) .eight) (not (wellFormed (updatedOf false (binIn table reals counts w i .own)))) (childrenAfter step table w (i + 1) n .eight) (badOf (λ (j : ℕ). binIn table reals counts w j .own) (i + 1) n),
-        )
+        rw (child-updated (getD table (w + 7 + i) 0), bins-updated (i + 1) n,
+        or-shuffle (childAfter step (getD table (w + 7 + i) 0) .eight) (not (wellFormed (updatedOf false (binIn table reals counts w i .own)))) (childrenAfter step table w (i + 1) n .eight) (badOf (λ (j : ℕ). binIn table reals counts w j .own) (i + 1) n))
 
     after-length : (i n : ℕ) → length (childrenAfter step table w i n .after) ≡ n
     unfolding childrenAfter

@@ -5,7 +5,6 @@ use crate::list;
 use crate::memory;
 use answers::double;
 use answers::word;
-use grid::Sample;
 use stream::MonteCarloRng;
 
 // Whether a call agreed, and the stream after it.
