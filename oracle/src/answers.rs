@@ -4,6 +4,8 @@
 mod accumulator;
 mod axis;
 mod grid;
+mod histories;
+mod lent;
 mod plan;
 mod real;
 mod stream;

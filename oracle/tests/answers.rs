@@ -29,6 +29,14 @@ impl Cursor<'_> {
         self.skip(count);
     }
 
+    /// Arguments, a refusal number, and the mark of the memory, refused or not.
+    fn marked(&mut self, arguments: usize) {
+        self.skip(arguments);
+        let refusal = self.word();
+        *self.refusals.entry(refusal).or_default() += 1;
+        self.skip(1);
+    }
+
     fn bytes(&mut self) {
         let count = self.word() as usize;
         self.skip(count.div_ceil(8));
@@ -258,6 +266,11 @@ fn grid(c: &mut Cursor) {
                 c.skip(5);
                 c.answer(3);
             }
+            6 => c.marked(22),
+            7 => c.marked(2),
+            8 => c.marked(1),
+            11 => c.marked(3),
+            12 => c.marked(2),
             other => panic!("opcode {other}"),
         }
         assert_eq!(c.rest.len(), left);
@@ -313,7 +326,7 @@ fn trees() {
 
 #[test]
 fn grids() {
-    check("grid", 300, grid, &[0, 4, 5, 6]);
+    check("grid", 300, grid, &[0, 3, 4, 5, 6, 7, 8, 9, 12]);
 }
 
 #[test]

@@ -4,6 +4,9 @@ ghost use mathlib.Core.Path.{_≡_};
 ghost use Prim.Native.Nat.{_+_, _<_, _≤_};
 ghost use lib.ListN.{length};
 use crate::list;
+use crate::memory;
+use crate::writes;
+use crate::writes::Went;
 use accumulator::Estimated;
 use accumulator::Summed;
 use answers::bits;
@@ -18,12 +21,6 @@ use stream::MonteCarloRng;
 pub struct Replayed {
     pub agreed: u64,
     pub all: u64,
-}
-
-// Whether a call agreed, and the stream after it.
-struct Went {
-    agrees: bool,
-    stream: MonteCarloRng,
 }
 
 // Whether a drawn sample and the stream after it are those of the list.
@@ -183,8 +180,12 @@ fn replay_call(
     at: usize,
     kind: u64,
     table: &[u64],
-    reals: &[f64],
-    counts: &[u64],
+    reals: &mut [f64],
+    counts: &mut [u64],
+    other_reals: &mut [f64],
+    other_counts: &mut [u64],
+    spare_reals: &mut [f64],
+    spare_counts: &mut [u64],
     start: MonteCarloRng,
 ) -> Went
     requires { ⌜ at < 1047000 ⌝ }
@@ -192,7 +193,28 @@ fn replay_call(
     if kind == 1 {
         return replay_draw(list, at, table, reals, counts, start);
     }
-    let agrees = replay_reading(list, at, kind, table, reals, counts);
+    if kind == 12 {
+        return writes::sample(list, at, table, reals, counts, start);
+    }
+    if kind < 6 {
+        let agrees = replay_reading(list, at, kind, table, reals, counts);
+        return Went {
+            agrees,
+            stream: start,
+        };
+    }
+    let agrees = writes::replay_writing(
+        list,
+        at,
+        kind,
+        table,
+        reals,
+        counts,
+        other_reals,
+        other_counts,
+        spare_reals,
+        spare_counts,
+    );
     Went {
         agrees,
         stream: start,
@@ -205,8 +227,12 @@ fn replay_calls(
     from: usize,
     end: usize,
     table: &[u64],
-    reals: &[f64],
-    counts: &[u64],
+    reals: &mut [f64],
+    counts: &mut [u64],
+    other_reals: &mut [f64],
+    other_counts: &mut [u64],
+    spare_reals: &mut [f64],
+    spare_counts: &mut [u64],
     kind: u64,
 ) -> Replayed
     requires { ⌜ (from + 4 < 1000000) × (end ≤ from + 4096) ⌝ }
@@ -218,7 +244,19 @@ fn replay_calls(
     let mut at = from + 4;
     while at < end {
         let call = word(list, at + 1);
-        let went = replay_call(list, at + 2, call, table, reals, counts, stream);
+        let went = replay_call(
+            list,
+            at + 2,
+            call,
+            table,
+            reals,
+            counts,
+            other_reals,
+            other_counts,
+            spare_reals,
+            spare_counts,
+            stream,
+        );
         stream = went.stream;
         agreed += one_if((call == kind) & went.agrees);
         all += one_if(call == kind);
@@ -237,6 +275,22 @@ fn is_laid(answer: Read) -> bool {
     }
 }
 
+// A plan laid, its bytes from a place on; whether it was not refused.
+fn lay_plan(
+    list: &[u8],
+    at: usize,
+    room: &mut [u8],
+    table: &mut [u64],
+    reals: &mut [f64],
+    counts: &mut [u64],
+) -> bool
+    requires { ⌜ (at < 990000) × (length (now room) ≡ 2048) ⌝ }
+{
+    let size = list::below(list, at + 1, 2048);
+    list::load(list, at + 2, room);
+    is_laid(grid::fresh(&room[..size], table, reals, counts))
+}
+
 // One plan: whether it is laid, where the kind is 0, else its calls.
 fn replay_plan(
     list: &[u8],
@@ -245,30 +299,47 @@ fn replay_plan(
     table: &mut [u64],
     reals: &mut [f64],
     counts: &mut [u64],
+    other_reals: &mut [f64],
+    other_counts: &mut [u64],
+    spare_reals: &mut [f64],
+    spare_counts: &mut [u64],
     kind: u64,
 ) -> Replayed
     requires { ⌜ (at < 990000) × (length (now room) ≡ 2048) ⌝ }
     ensures { λ r. ⌜ (r .agreed ≤ 8192) × (r .all ≤ 8192) ⌝ }
 {
-    let size = list::below(list, at + 1, 2048);
-    list::load(list, at + 2, room);
-    let answer = grid::fresh(&room[..size], table, reals, counts);
-    let agreed = one_if(is_laid(answer));
+    let from = at + 2 + (list::below(list, at + 1, 2048) + 7) / 8;
+    let end = at + 1 + list::below(list, at, 4096);
+    let agreed = one_if(lay_plan(list, at, room, table, reals, counts));
     if kind == 0 {
         return Replayed { agreed, all: 1 };
     }
-    let from = at + 2 + (size + 7) / 8;
-    let end = at + 1 + list::below(list, at, 4096);
-    replay_calls(list, from, end, table, reals, counts, kind)
+    replay_calls(
+        list,
+        from,
+        end,
+        table,
+        reals,
+        counts,
+        other_reals,
+        other_counts,
+        spare_reals,
+        spare_counts,
+        kind,
+    )
 }
 
-// The plans of a list one after the other.
+// The plans of a list one after the other, each on memory of zeros.
 pub fn replay(
     list: &[u8],
     room: &mut [u8],
     table: &mut [u64],
     reals: &mut [f64],
     counts: &mut [u64],
+    other_reals: &mut [f64],
+    other_counts: &mut [u64],
+    spare_reals: &mut [f64],
+    spare_counts: &mut [u64],
     kind: u64,
 ) -> Replayed
     requires { ⌜ length (now room) ≡ 2048 ⌝ }
@@ -281,7 +352,21 @@ pub fn replay(
         if 980000 < at {
             return Replayed { agreed, all };
         }
-        let replayed = replay_plan(list, at, room, table, reals, counts, kind);
+        memory::clear(reals, counts);
+        memory::clear(other_reals, other_counts);
+        let replayed = replay_plan(
+            list,
+            at,
+            room,
+            table,
+            reals,
+            counts,
+            other_reals,
+            other_counts,
+            spare_reals,
+            spare_counts,
+            kind,
+        );
         agreed += replayed.agreed;
         all += replayed.all;
         at = at + 1 + list::below(list, at, 4096);

@@ -5,6 +5,7 @@ use answers::double;
 use answers::word;
 use grid::Coordinates;
 use grid::Region;
+use grid::Sample;
 use stream::MonteCarloRng;
 
 // Whether the words from a place on are these.
@@ -124,5 +125,32 @@ pub fn region_at(list: &[u8], at: usize) -> Region
         path: path_at(list, at),
         levels: word(list, at) as usize,
         coordinates: coordinates_at(list, at + 5),
+    }
+}
+
+// Five doubles.
+fn weights_at(list: &[u8], at: usize) -> [f64; 5]
+    requires { ⌜ at < 1048576 ⌝ }
+{
+    [
+        double(word(list, at)),
+        double(word(list, at + 1)),
+        double(word(list, at + 2)),
+        double(word(list, at + 3)),
+        double(word(list, at + 4)),
+    ]
+}
+
+// A sample: path, weights and coordinates, each behind its number.
+pub fn sample_at(list: &[u8], at: usize) -> Sample
+    requires { ⌜ at < 1048000 ⌝ }
+{
+    Sample {
+        path: path_at(list, at),
+        levels: word(list, at) as usize,
+        weights: weights_at(list, at + 6),
+        given: word(list, at + 5) as usize,
+        coordinates: doubles_at(list, at + 12),
+        axes: word(list, at + 11) as usize,
     }
 }

@@ -1,6 +1,8 @@
 //! Records of a plan and of calls on its grid: the plan's bytes, a stream, then
 //! call after call, each behind its number of words.
 
+use super::histories;
+use super::lent::{Lent, Slot, slots};
 use super::tree::changed;
 use crate::generate::{Budget, Dice, plan};
 use crate::model::{
@@ -17,6 +19,11 @@ const PROBE: u64 = 2;
 const SUMMARY: u64 = 3;
 const LIVE_ESTIMATE: u64 = 4;
 const LIVE_ESTIMATE_OF_BIN: u64 = 5;
+const TRAIN: u64 = 6;
+const UPDATE: u64 = 7;
+const COPY: u64 = 8;
+const PUT: u64 = 11;
+const SAMPLE: u64 = 12;
 
 /// What the structs of a sample and of a probe have room for.
 const LEVELS: usize = 4;
@@ -27,17 +34,50 @@ const AXES: usize = 8;
 const MOST_ROOM: usize = 2048;
 
 pub fn list(dice: &mut Dice, count: usize) -> Vec<Vec<u64>> {
-    (0..count).map(|_| record(dice)).collect()
+    let mut records = histories::directed();
+    records.extend((0..count).map(|_| record(dice)));
+    records
 }
 
-/// The words of one plan's calls.
-struct Tape {
-    model: Model,
-    stream: MonteCarloRng,
+/// The words of one plan's calls. Its grid and another, once there is one, lie in
+/// lent memory.
+pub(super) struct Tape {
+    pub model: Model,
+    pub other: Option<Model>,
+    lent: Lent,
+    other_lent: Lent,
+    pub stream: MonteCarloRng,
+    pub samples: u64,
     words: Vec<u64>,
 }
 
 impl Tape {
+    pub fn new(plan: &GridPlan, state: [u64; 4]) -> Tape {
+        let model = Model::fresh(plan);
+        let mut words = packed(&plan.bytes());
+        words.extend(state);
+        Tape {
+            lent: Lent::of(&model),
+            other_lent: Lent::default(),
+            model,
+            other: None,
+            stream: MonteCarloRng::from_words(state),
+            samples: 0,
+            words,
+        }
+    }
+
+    /// How many words there are by now.
+    pub fn size(&self) -> usize {
+        self.words.len()
+    }
+
+    pub fn record(self) -> Vec<u64> {
+        let mut record = vec![self.words.len() as u64];
+        record.extend(self.words);
+        record
+    }
+
     /// How many words follow, opcode, arguments, refusal number, then the answer
     /// unless refused.
     fn call(&mut self, opcode: u64, arguments: &[u64], answer: Answer<Vec<u64>>) {
@@ -49,12 +89,77 @@ impl Tape {
         self.words.extend(call);
     }
 
-    fn draw(&mut self) -> Point {
+    /// A call that may write: behind its number stands the mark of the memory after it.
+    fn writing(&mut self, opcode: u64, arguments: &[u64], answer: Answer<()>) {
+        self.lent.lay(&self.model);
+        let mut words = arguments.to_vec();
+        words.extend([number(&answer), self.lent.mark()]);
+        self.words.push(1 + words.len() as u64);
+        self.words.push(opcode);
+        self.words.extend(words);
+    }
+
+    pub fn train(&mut self, point: &Point, eval: f64, number: u64) {
+        let answer = self.model.train(point, eval, number);
+        let mut words = point_words(point);
+        words.extend([bits(eval), number]);
+        self.writing(TRAIN, &words, answer);
+    }
+
+    /// Draws, and trains what was drawn.
+    pub fn sample(&mut self, eval: f64) {
+        self.samples += 1;
+        let number = self.samples;
+        let drawn = self.model.draw(&mut self.stream);
+        let answer = drawn.and_then(|point| self.model.train(&point, eval, number));
+        self.writing(SAMPLE, &[bits(eval), number], answer);
+    }
+
+    pub fn update(&mut self, bins_rate: f64, axes_rate: f64) {
+        let answer = self.model.update(bins_rate, axes_rate);
+        self.writing(UPDATE, &[bins_rate, axes_rate].map(bits), answer);
+    }
+
+    /// One word of the state, named by its place in a dump.
+    pub fn put(&mut self, at: usize, word: u64) {
+        let mut words = self.model.grid.words();
+        words[at] = word;
+        self.model = Model::from_words(&self.model.plan, &words);
+        let place = match slots(&self.model)[at] {
+            Slot::Real(place) => [0, place as u64],
+            Slot::Count(place) => [1, place as u64],
+        };
+        self.writing(PUT, &[place[0], place[1], word], Ok(()));
+    }
+
+    /// To the other memory; its mark is that of the copy.
+    pub fn copy(&mut self) {
+        let answer = self.model.clone_without_samples();
+        let refused = number(&answer);
+        if let Ok(copy) = answer {
+            self.other_lent = self.lent.clone();
+            self.other_lent.lay(&copy);
+            self.other = Some(copy);
+        }
+        let mark = self.other_lent.mark_of(&self.lent);
+        self.words.extend([4, COPY, 0, refused, mark]);
+    }
+
+    /// Back from the other memory.
+    pub fn copy_back(&mut self) {
+        let Some(other) = &self.other else { return };
+        let answer = other.clone_without_samples();
+        if let Ok(copy) = &answer {
+            self.model = copy.clone();
+            self.lent = self.other_lent.clone();
+        }
+        self.writing(COPY, &[1], answer.map(|_| ()));
+    }
+
+    pub fn draw(&mut self) -> Point {
         let answer = self.model.draw(&mut self.stream);
         let words = answer.clone().map(|point| {
-            let mut words = path_words(&point.path);
-            words.extend(fixed(&doubles(&point.weights), WEIGHTS));
-            words.extend(fixed(&doubles(&point.coordinates), AXES));
+            let mut words = point_words(&point);
             words.extend(self.stream.words());
             words
         });
@@ -62,10 +167,14 @@ impl Tape {
         answer.unwrap_or_default()
     }
 
-    fn probe(&mut self, dice: &mut Dice, point: &Point) {
+    pub fn probe(&mut self, dice: &mut Dice, point: &Point) {
         let open = |dice: &mut Dice, x| if dice.chance(1, 4) { None } else { Some(x) };
         let coordinates: Vec<_> = point.coordinates.iter().map(|&x| open(dice, x)).collect();
-        let answer = self.model.probe(&point.path, &coordinates);
+        self.probe_of(point, &coordinates);
+    }
+
+    fn probe_of(&mut self, point: &Point, coordinates: &[Option<f64>]) {
+        let answer = self.model.probe(&point.path, coordinates);
         let marks: Vec<u64> = coordinates.iter().map(|x| x.is_none() as u64).collect();
         let mut words = path_words(&point.path);
         words.extend(fixed(&doubles(&point.coordinates), AXES));
@@ -73,17 +182,23 @@ impl Tape {
         self.call(PROBE, &words, answer.map(|weight| vec![bits(weight)]));
     }
 
-    fn summary(&mut self) {
+    /// All of a point's coordinates given.
+    pub fn probe_at(&mut self, point: &Point) {
+        let given: Vec<_> = point.coordinates.iter().copied().map(Some).collect();
+        self.probe_of(point, &given);
+    }
+
+    pub fn summary(&mut self) {
         let answer = self.model.summary();
         self.call(SUMMARY, &[], answer.map(|s| s.words().to_vec()));
     }
 
-    fn live_estimate(&mut self) {
+    pub fn live_estimate(&mut self) {
         let answer = self.model.live_estimate(&[]);
         self.call(LIVE_ESTIMATE, &[], answer.map(|e| doubles(&e)));
     }
 
-    fn live_estimate_of_bin(&mut self, path: &[usize]) {
+    pub fn live_estimate_of_bin(&mut self, path: &[usize]) {
         let answer = self.model.live_estimate(path);
         self.call(
             LIVE_ESTIMATE_OF_BIN,
@@ -110,19 +225,19 @@ fn path_words(path: &[usize]) -> Vec<u64> {
     fixed(&words, LEVELS)
 }
 
+fn point_words(point: &Point) -> Vec<u64> {
+    let mut words = path_words(&point.path);
+    words.extend(fixed(&doubles(&point.weights), WEIGHTS));
+    words.extend(fixed(&doubles(&point.coordinates), AXES));
+    words
+}
+
 fn record(dice: &mut Dice) -> Vec<u64> {
     let plan = plan_with_room(dice);
-    let state = [0; 4].map(|_| dice.word());
-    let mut tape = Tape {
-        model: Model::fresh(&plan),
-        stream: MonteCarloRng::from_words(state),
-        words: packed(&plan.bytes()),
-    };
-    tape.words.extend(state);
+    let mut tape = Tape::new(&plan, [0; 4].map(|_| dice.word()));
     calls(dice, &mut tape);
-    let mut record = vec![tape.words.len() as u64];
-    record.extend(tape.words);
-    record
+    histories::history(dice, &mut tape);
+    tape.record()
 }
 
 fn plan_with_room(dice: &mut Dice) -> GridPlan {

@@ -27,7 +27,7 @@ const COPY: u64 = 9;
 const SUMMARY: u64 = 10;
 const LIVE_ESTIMATE: u64 = 11;
 
-const ULP: f64 = f64::EPSILON / 2.0;
+pub(super) const ULP: f64 = f64::EPSILON / 2.0;
 
 /// The largest plan of a sequence made by chance, so that dumps stay short.
 const MOST_ROOM: usize = 24;
@@ -208,7 +208,7 @@ fn point_words(point: &Point) -> Vec<u64> {
     .concat()
 }
 
-fn one_axis(bins: usize, evolution: &[usize], floor: f64) -> GridPlan {
+pub(super) fn one_axis(bins: usize, evolution: &[usize], floor: f64) -> GridPlan {
     GridPlan::Axes(AxesPlan {
         axes: 1,
         bins,
@@ -219,7 +219,7 @@ fn one_axis(bins: usize, evolution: &[usize], floor: f64) -> GridPlan {
     })
 }
 
-fn bins_grid(children: Vec<Option<GridPlan>>, ratio: f64, on_average: bool) -> GridPlan {
+pub(super) fn bins_grid(children: Vec<Option<GridPlan>>, ratio: f64, on_average: bool) -> GridPlan {
     GridPlan::Bins(BinsPlan {
         ratio,
         on_average,
@@ -227,7 +227,7 @@ fn bins_grid(children: Vec<Option<GridPlan>>, ratio: f64, on_average: bool) -> G
     })
 }
 
-fn at(x: f64) -> Point {
+pub(super) fn at(x: f64) -> Point {
     Point {
         path: Vec::new(),
         weights: vec![1.0],
@@ -235,7 +235,7 @@ fn at(x: f64) -> Point {
     }
 }
 
-fn in_bin(index: usize, weight: f64) -> Point {
+pub(super) fn in_bin(index: usize, weight: f64) -> Point {
     Point {
         path: vec![index],
         weights: vec![weight],
@@ -244,11 +244,11 @@ fn in_bin(index: usize, weight: f64) -> Point {
 }
 
 /// Where the root's waiting samples and its iterations stand in a dump.
-const SAMPLES: usize = 12;
-const ITERATIONS: usize = 14;
+pub(super) const SAMPLES: usize = 12;
+pub(super) const ITERATIONS: usize = 14;
 
 /// Where the edges of an axes root of one axis begin in its dump.
-const ROOT_EDGES: usize = RECORD_WORDS + 2;
+pub(super) const ROOT_EDGES: usize = RECORD_WORDS + 2;
 
 /// A fresh tape with a plan at place 0 and its words.
 fn begun(plan: &GridPlan) -> (Tape, Vec<u64>) {
