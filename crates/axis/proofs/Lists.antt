@@ -2,7 +2,7 @@
 use mathlib.Core.Path.{_≡_, refl, sym, ap, _∙_}
 use mathlib.Core.Bool.{Bool, true, false, cond, _&&_}
 use mathlib.Core.List.{List, [], _∷_, _++_, append-assoc}
-use Prim.Native.Nat.{ℕ, zero, suc, _+_, _-_, _^_, _≤_, _<_, _/_}
+use Prim.Native.Nat.{ℕ, zero, suc, _+_, _-_, _^_, _≤_, _<_}
 use native.Mathlib.Numerals.{add-one}
 use native.Mathlib.Omega.{arith}
 use lib.Dec.{leb}
@@ -87,12 +87,3 @@ pub write-next : {A : Type 0} (d : A) (l : List A) (i : ℕ) (v : A) (W W′ : L
     → take (i + 1) (set l i v) ++ W′ ≡ take i l ++ W
 write-next d l i v W W′ h e =
     rw (add-one, take-suc-set l i v h, append-assoc) (ap (λ (x : List _). take i l ++ x) (sym e))
-
--- a length shifted by nothing is itself, and by 63 is 0
-pub shift-small : (t : Bool) (s : ℕ) → s ≡ cond t 0 63 → s < 64
-shift-small true s e = omega (arith, e)
-shift-small false s e = omega (arith, e)
-
-pub shift-kept : (t : Bool) (h s : ℕ) → s ≡ cond t 0 63 → h < 2 ^ 63 → h / 2 ^ s ≡ cond t h 0
-shift-kept true h s e l = rw e (omega arith)
-shift-kept false h s e l = rw e (omega arith)

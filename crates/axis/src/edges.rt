@@ -1,7 +1,6 @@
 // The edges of an axis, with nothing judged: each function answers on any list.
 ghost use mathlib.Core.Path.{_≡_};
 ghost use mathlib.Core.Bool.{cond};
-ghost use Prim.Native.Nat.{_^_, _<_};
 ghost use lib.ListN.{length, getD};
 ghost use lib.Ieee.{nan};
 ghost use Rattle.axis.specs.Edges.{binsOf, widthOf, weightOf, evenFrom};
@@ -9,19 +8,11 @@ ghost use Rattle.axis.specs.Search.{searchOf};
 ghost use Rattle.axis.specs.Calls.{pointOf};
 use crate::Point;
 
-// No shift where the test passed, else one that leaves nothing of a length.
-fn shift_of(test: bool) -> usize
-    ensures { λ r. ⌜ r ≡ cond test 0 63 ⌝ }
-{
-    if test { 0 } else { 63 }
-}
-
-// `half` where the test passed, else 0: by a shift, since of a choice the compiler makes a branch, which costs most of a search.
+// `half` where the test passed, else 0.
 fn keep(test: bool, half: usize) -> usize
-    requires { ⌜ half < 2 ^ 63 ⌝ }
     ensures { λ r. ⌜ r ≡ cond test half 0 ⌝ }
 {
-    half >> shift_of(test)
+    if test { half } else { 0 }
 }
 
 // The bin of x, by halves.

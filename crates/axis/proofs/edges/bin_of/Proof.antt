@@ -49,7 +49,7 @@ shared-slice-read-keep c = omega arith
 
 -- src/edges.rt:29:23
 keep-requires : tie.Need-keep-requires Inv-loop μ-loop
-keep-requires c κs = omega arith
+keep-requires c κs = tt
 
 -- src/edges.rt:29:16
 add-base : tie.Need-add-base Inv-loop μ-loop
