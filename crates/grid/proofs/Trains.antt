@@ -7,11 +7,12 @@ use native.Mathlib.Numerals.{add-one}
 use native.Mathlib.Omega.{arith}
 use lib.ListN.{length, take, drop, set, getD, drop-of-length-le}
 use lib.Seq.{drop-cons, take-suc-set, getD-take}
-use lib.Ieee.{Float, nan, eq}
+use lib.Ieee.{Float, nan, eq, lt, le}
 use Rattle.real.specs.Numbers.{zero64}
 use Rattle.accumulator.specs.Steps.{zeroCount}
 use Rattle.real.proofs.Truth.{both}
-use Rattle.axis.specs.Edges.{inUnit, binOf}
+use Rattle.axis.specs.Edges.{wellFormed, inUnit, binOf}
+use Rattle.axis.proofs.Bins.{bin-rule, or-left}
 use Rattle.grid.specs.Layout.{stretch, axisReals, axisCounts, axisAt, axesFrom}
 use Rattle.grid.specs.Memory.{Memory, memory}
 use Rattle.grid.specs.Sampled.{entries}
@@ -47,6 +48,12 @@ pub entries-take : {A : Type 0} (d : A) (xs : List A) (n : ℕ) → n ≤ length
 entries-take d xs n h = entries-from d xs 0 n (omega arith)
 
 -- ---- bins
+
+-- where x lies in a bin, that is its bin
+pub near-is : (es : List Float) (x : Float) (i : ℕ) → wellFormed es ≡ true → i < length es - 1 → (lt (getD es i nan) x && le x (getD es (i + 1) nan)) ≡ true → i ≡ binOf es x
+near-is es x i w h e =
+    let b = both (lt (getD es i nan) x) _ e in
+    bin-rule es x i w .0 (record { there = omega arith; above = or-left _ _ (b .0); upto = rw (add-one i) at (b .1) }) .1
 
 module _ (m : ℕ) (reals : List Float) (counts : List ℕ) where
   -- the bin of one coordinate more, found on the part of the edges that is lent

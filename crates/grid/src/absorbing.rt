@@ -23,6 +23,7 @@ fn absorb_axes(
     depth: usize,
     evaluation: f64,
     number: u64,
+    near: [usize; 8],
 )
     requires { ⌜ AxesLaid (now table) (length (now reals)) (length (now counts)) w × (depth ≤ 4) × Takes (axes (axesGridAt (now table) (now reals) (now counts) w)) s depth number ⌝ }
     ensures { λ _. ⌜ memory (now (reals .exit)) (now (counts .exit)) ≡ absorbedAxes (now (table .entry)) s evaluation number w depth (memory (now (reals .entry)) (now (counts .entry))) ⌝ }
@@ -33,7 +34,7 @@ fn absorb_axes(
     let g = layout::axes_place(table, w);
     let r = table[w + 9] as usize;
     let c = table[w + 10] as usize;
-    let spots = training::locate(reals, counts, g, xs);
+    let spots = training::locate(reals, counts, g, xs, near);
     let own = adding::with_sample(reals, counts, r, c, evaluation * weight, number);
     training::train_axes(reals, counts, g, spots, weight * evaluation);
     accounts::store(reals, counts, r, c, own);
@@ -50,6 +51,7 @@ fn absorb_child(
     depth: usize,
     evaluation: f64,
     number: u64,
+    near: [usize; 8],
 )
     requires { ⌜ ChildLaid level (now table) (length (now reals)) (length (now counts)) link × (depth + level ≤ 4) × TakesChild (childIn (gridAt level (now table) (now reals) (now counts)) link) s depth number ⌝ }
     ensures { λ _. ⌜ memory (now (reals .exit)) (now (counts .exit)) ≡ absorbedChild (absorbed level (now (table .entry)) s evaluation number) link depth (memory (now (reals .entry)) (now (counts .entry))) ⌝ }
@@ -67,6 +69,7 @@ fn absorb_child(
         depth,
         evaluation,
         number,
+        near,
     );
 }
 
@@ -81,6 +84,7 @@ fn absorb_bins(
     depth: usize,
     evaluation: f64,
     number: u64,
+    near: [usize; 8],
 )
     requires { ⌜ BinsLaid (Laid level (now table) (length (now reals)) (length (now counts))) (now table) (length (now reals)) (length (now counts)) w × (depth + level ≤ 3)
         × Takes (bins (headAt (now table) (now reals) (now counts) w) (binsIn (gridAt level (now table) (now reals) (now counts)) (now table) (now reals) (now counts) w 0 (getD (now table) (w + 2) 0))) s depth number ⌝ }
@@ -109,6 +113,7 @@ fn absorb_bins(
         depth + 1,
         evaluation,
         number,
+        near,
     );
     accounts::store(reals, counts, inner_r, inner_c, inner);
     accounts::store(reals, counts, r, c, own);
@@ -125,12 +130,13 @@ pub fn absorb_grid(
     depth: usize,
     evaluation: f64,
     number: u64,
+    near: [usize; 8],
 )
     requires { ⌜ Laid level (now table) (length (now reals)) (length (now counts)) w × (depth + level ≤ 4) × Takes (gridAt level (now table) (now reals) (now counts) w) s depth number ⌝ }
     ensures { λ _. ⌜ memory (now (reals .exit)) (now (counts .exit)) ≡ absorbed level (now (table .entry)) s evaluation number w depth (memory (now (reals .entry)) (now (counts .entry))) ⌝ }
 {
     if table[w] == 1 {
-        absorb_axes(table, reals, counts, w, s, depth, evaluation, number);
+        absorb_axes(table, reals, counts, w, s, depth, evaluation, number, near);
         return;
     }
     absorb_bins(
@@ -143,5 +149,6 @@ pub fn absorb_grid(
         depth,
         evaluation,
         number,
+        near,
     );
 }

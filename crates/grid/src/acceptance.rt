@@ -26,6 +26,7 @@ fn axes_accept(
     depth: usize,
     evaluation: f64,
     number: u64,
+    near: [usize; 8],
 ) -> bool
     requires { ⌜ AxesLaid (now table) (length (now reals)) (length (now counts)) w × (depth ≤ 4) × Takes (axes (axesGridAt (now table) (now reals) (now counts) w)) s depth number ⌝ }
     ensures { λ o. ⌜ o ≡ keptGrid (trainGrid (axes (axesGridAt (now (table .entry)) (now (reals .entry)) (now (counts .entry)) w)) (pathLeft s depth) (weightsLeft s depth) (placesIn s) evaluation number) ⌝ }
@@ -34,7 +35,7 @@ fn axes_accept(
     let weight = weights[depth];
     let xs = s.coordinates;
     let g = layout::axes_place(table, w);
-    let spots = training::locate(reals, counts, g, xs);
+    let spots = training::locate(reals, counts, g, xs, near);
     let fit = training::cells_fit(reals, counts, g, spots, weight * evaluation);
     let r = table[w + 9] as usize;
     let c = table[w + 10] as usize;
@@ -53,6 +54,7 @@ fn child_accepts(
     depth: usize,
     evaluation: f64,
     number: u64,
+    near: [usize; 8],
 ) -> bool
     requires { ⌜ ChildLaid level (now table) (length (now reals)) (length (now counts)) link × (depth + level ≤ 4) × TakesChild (childIn (gridAt level (now table) (now reals) (now counts)) link) s depth number ⌝ }
     ensures { λ o. ⌜ o ≡ keptChild (trainChild (childIn (gridAt level (now (table .entry)) (now (reals .entry)) (now (counts .entry))) link) (pathLeft s depth) (weightsLeft s depth) (placesIn s) evaluation number) ⌝ }
@@ -70,6 +72,7 @@ fn child_accepts(
         depth,
         evaluation,
         number,
+        near,
     )
 }
 
@@ -84,6 +87,7 @@ fn bins_accept(
     depth: usize,
     evaluation: f64,
     number: u64,
+    near: [usize; 8],
 ) -> bool
     requires { ⌜ BinsLaid (Laid level (now table) (length (now reals)) (length (now counts))) (now table) (length (now reals)) (length (now counts)) w × (depth + level ≤ 3)
         × Takes (bins (headAt (now table) (now reals) (now counts) w) (binsIn (gridAt level (now table) (now reals) (now counts)) (now table) (now reals) (now counts) w 0 (getD (now table) (w + 2) 0))) s depth number ⌝ }
@@ -114,6 +118,7 @@ fn bins_accept(
         depth + 1,
         evaluation,
         number,
+        near,
     );
     own & (inner & below)
 }
@@ -129,12 +134,13 @@ pub fn grid_accepts(
     depth: usize,
     evaluation: f64,
     number: u64,
+    near: [usize; 8],
 ) -> bool
     requires { ⌜ Laid level (now table) (length (now reals)) (length (now counts)) w × (depth + level ≤ 4) × Takes (gridAt level (now table) (now reals) (now counts) w) s depth number ⌝ }
     ensures { λ o. ⌜ o ≡ keptGrid (trainGrid (gridAt level (now (table .entry)) (now (reals .entry)) (now (counts .entry)) w) (pathLeft s depth) (weightsLeft s depth) (placesIn s) evaluation number) ⌝ }
 {
     if table[w] == 1 {
-        return axes_accept(table, reals, counts, w, s, depth, evaluation, number);
+        return axes_accept(table, reals, counts, w, s, depth, evaluation, number, near);
     }
     bins_accept(
         table,
@@ -146,6 +152,7 @@ pub fn grid_accepts(
         depth,
         evaluation,
         number,
+        near,
     )
 }
 
@@ -157,6 +164,7 @@ pub fn objection(
     s: Sample,
     evaluation: f64,
     number: u64,
+    near: [usize; 8],
 ) -> u64
     requires { ⌜ Laid 4 (now table) (length (now reals)) (length (now counts)) 0 × (sound (rootOf (now table) (now reals) (now counts)) ≡ true) ⌝ }
     ensures { λ n. ⌜ n ≡ objectionOf (trainOf (rootOf (now (table .entry)) (now (reals .entry)) (now (counts .entry))) (sampleOf s) evaluation number) ⌝ }
@@ -178,7 +186,7 @@ pub fn objection(
     if !training::are_finite(weights, s.given) {
         return 7;
     }
-    if !grid_accepts(table, reals, counts, 4, 0, s, 0, evaluation, number) {
+    if !grid_accepts(table, reals, counts, 4, 0, s, 0, evaluation, number, near) {
         return 8;
     }
     0

@@ -1,16 +1,21 @@
 // The axes of a grid: each works on its own stretch of the lent edges, wherever that begins.
 ghost use mathlib.Core.Path.{_≡_};
 ghost use mathlib.Core.Bool.{true};
+ghost use lib.Ieee.{binary64, mul};
 ghost use Rattle.real.specs.Numbers.{one64};
+ghost use Rattle.real.specs.Count.{countOf};
+ghost use Rattle.real.specs.Whole.{wholeOf};
 ghost use Rattle.axis.specs.Edges.{wellFormed, inUnit};
 ghost use Rattle.model.specs.Draw.{placeOn, walked, placedFrom, flooredOf};
 ghost use Rattle.grid.specs.Drawn.{axesAt, placedBy, Filled, underFloor, Stands};
 use axis::Point;
 use stream::MonteCarloRng;
 
-// Coordinates, the weight, and the stream after them.
+// Coordinates, the weight, and the stream after them; and the bins that the coordinates were drawn from, as guesses for the search in
+// training, which takes any number.
 pub struct Walked {
     pub coordinates: [f64; 8],
+    pub near: [usize; 8],
     pub weight: f64,
     pub stream: MonteCarloRng,
 }
@@ -38,12 +43,20 @@ fn place_on(edges: &[f64], unit: f64, evenly: bool) -> Point
     axis::edges::point_of(edges, unit)
 }
 
+// The bin that a unit draw falls to, of so many.
+fn drawn_bin(many: usize, unit: f64) -> usize
+    ensures { λ r. ⌜ r ≡ wholeOf (mul binary64 (countOf many) unit) ⌝ }
+{
+    real::whole(real::count(many as u64) * unit) as usize
+}
+
 // Draws a coordinate on each axis.
 fn walk_axes(reals: &[f64], counts: &[u64], g: AxesAt, evenly: bool, start: MonteCarloRng) -> Walked
     requires { ⌜ Stands (now reals) (now counts) g ⌝ }
     ensures { λ w. ⌜ (placedBy (g .axes) w ≡ walked evenly (axesAt (now (reals .entry)) (now (counts .entry)) g) one64 start) × Filled (g .axes) w ⌝ }
 {
     let mut coordinates = [0.0f64; 8];
+    let mut near = [0usize; 8];
     let mut weight = 1.0;
     let mut stream = start;
     let mut at = g.reals;
@@ -59,10 +72,12 @@ fn walk_axes(reals: &[f64], counts: &[u64], g: AxesAt, evenly: bool, start: Mont
         stream = unit.stream;
         at = at + (6 * g.most + 1);
         place = place + (3 * g.most + 2);
+        near[done] = drawn_bin(held, unit.value);
         done += 1;
     }
     Walked {
         coordinates,
+        near,
         weight,
         stream,
     }

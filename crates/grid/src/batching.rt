@@ -28,16 +28,29 @@ fn step(
     ensures { λ r. ⌜ stepEnd (r .refused) (r .stream) (memory (now (reals .exit)) (now (counts .exit))) ≡
         stepOf (now (table .entry)) (memory (now (reals .entry)) (now (counts .entry))) start evaluation number ⌝ }
 {
-    let drawing = sampling::draw_grid(table, reals, counts, 4, 0, start);
+    let traced = sampling::draw_grid(table, reals, counts, 4, 0, start);
+    let near = traced.near;
+    let drawing = traced.drawing;
     let sample = drawing.sample;
-    let refused = acceptance::objection(table, reals, counts, sample, evaluation, number);
+    let refused = acceptance::objection(table, reals, counts, sample, evaluation, number, near);
     if refused != 0 {
         return Stepped {
             refused,
             stream: start,
         };
     }
-    absorbing::absorb_grid(table, reals, counts, 4, 0, sample, 0, evaluation, number);
+    absorbing::absorb_grid(
+        table,
+        reals,
+        counts,
+        4,
+        0,
+        sample,
+        0,
+        evaluation,
+        number,
+        near,
+    );
     let stream = drawing.stream;
     Stepped { refused, stream }
 }

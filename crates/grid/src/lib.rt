@@ -96,7 +96,8 @@ pub fn draw(table: &[u64], reals: &[f64], counts: &[u64], start: stream::MonteCa
         let drawing = sampling::draw_nothing(start);
         return Drawn { refused, drawing };
     }
-    let drawing = sampling::draw_grid(table, reals, counts, 4, 0, start);
+    let traced = sampling::draw_grid(table, reals, counts, 4, 0, start);
+    let drawing = traced.drawing;
     Drawn { refused, drawing }
 }
 
@@ -229,11 +230,12 @@ pub fn train(
     if refused != 0 {
         return refused;
     }
-    let objection = acceptance::objection(table, reals, counts, s, evaluation, number);
+    let near = [0usize; 8];
+    let objection = acceptance::objection(table, reals, counts, s, evaluation, number, near);
     if objection != 0 {
         return objection;
     }
-    absorbing::absorb_grid(table, reals, counts, 4, 0, s, 0, evaluation, number);
+    absorbing::absorb_grid(table, reals, counts, 4, 0, s, 0, evaluation, number, near);
     0
 }
 

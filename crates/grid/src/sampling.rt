@@ -15,6 +15,12 @@ use crate::axes;
 use crate::layout;
 use stream::MonteCarloRng;
 
+// A draw, and the bins that its coordinates were drawn from, as guesses: they may be any numbers.
+pub struct Traced {
+    pub drawing: Drawing,
+    pub near: [usize; 8],
+}
+
 // The first bin whose running sum of probabilities is at least the draw; if none, the last.
 fn reach(chances: &[f64], r: f64) -> usize
     requires { ⌜ 1 ≤ length (now chances) ⌝ }
@@ -87,13 +93,14 @@ fn draw_from_axes(
     counts: &[u64],
     w: usize,
     start: MonteCarloRng,
-) -> Drawing
+) -> Traced
     requires { ⌜ AxesLaid (now table) (length (now reals)) (length (now counts)) w × (sound (axes (axesGridAt (now table) (now reals) (now counts) w)) ≡ true) ⌝ }
-    ensures { λ d. ⌜ DrawsAs 0 (drawAxes (axesGridAt (now (table .entry)) (now (reals .entry)) (now (counts .entry)) w) start) d ⌝ }
+    ensures { λ d. ⌜ DrawsAs 0 (drawAxes (axesGridAt (now (table .entry)) (now (reals .entry)) (now (counts .entry)) w) start) (d .drawing) ⌝ }
 {
     let g = layout::axes_place(table, w);
     let walked = axes::draw_axes(reals, counts, g, start);
     let coordinates = walked.coordinates;
+    let near = walked.near;
     let stream = walked.stream;
     let weights = [walked.weight, 0.0, 0.0, 0.0, 0.0];
     let sample = Sample {
@@ -104,7 +111,8 @@ fn draw_from_axes(
         coordinates,
         axes: g.axes,
     };
-    Drawing { sample, stream }
+    let drawing = Drawing { sample, stream };
+    Traced { drawing, near }
 }
 
 // A draw from what hangs at a link.
@@ -115,12 +123,14 @@ fn draw_child(
     level: usize,
     link: usize,
     start: MonteCarloRng,
-) -> Drawing
+) -> Traced
     requires { ⌜ ChildLaid level (now table) (length (now reals)) (length (now counts)) link × (level ≤ 4) × (soundChild (childIn (gridAt level (now table) (now reals) (now counts)) link) ≡ true) ⌝ }
-    ensures { λ d. ⌜ DrawsAs level (drawChild (childIn (gridAt level (now (table .entry)) (now (reals .entry)) (now (counts .entry))) link) start) d ⌝ }
+    ensures { λ d. ⌜ DrawsAs level (drawChild (childIn (gridAt level (now (table .entry)) (now (reals .entry)) (now (counts .entry))) link) start) (d .drawing) ⌝ }
 {
     if link == 0 {
-        return draw_nothing(start);
+        let drawing = draw_nothing(start);
+        let near = [0usize; 8];
+        return Traced { drawing, near };
     }
     draw_grid(table, reals, counts, level, link, start)
 }
@@ -133,11 +143,11 @@ fn draw_from_bins(
     level: usize,
     w: usize,
     start: MonteCarloRng,
-) -> Drawing
+) -> Traced
     requires { ⌜ BinsLaid (Laid level (now table) (length (now reals)) (length (now counts))) (now table) (length (now reals)) (length (now counts)) w × (level ≤ 3)
         × (sound (bins (headAt (now table) (now reals) (now counts) w) (binsIn (gridAt level (now table) (now reals) (now counts)) (now table) (now reals) (now counts) w 0 (getD (now table) (w + 2) 0))) ≡ true) ⌝ }
     ensures { λ d. ⌜ DrawsAs (level + 1) (drawGrid (bins (headAt (now (table .entry)) (now (reals .entry)) (now (counts .entry)) w)
-        (binsIn (gridAt level (now (table .entry)) (now (reals .entry)) (now (counts .entry))) (now (table .entry)) (now (reals .entry)) (now (counts .entry)) w 0 (getD (now (table .entry)) (w + 2) 0))) start) d ⌝ }
+        (binsIn (gridAt level (now (table .entry)) (now (reals .entry)) (now (counts .entry))) (now (table .entry)) (now (reals .entry)) (now (counts .entry)) w 0 (getD (now (table .entry)) (w + 2) 0))) start) (d .drawing) ⌝ }
 {
     let unit = start.unit();
     let next = unit.stream;
@@ -147,11 +157,14 @@ fn draw_from_bins(
     let chance = reals[first + bin];
     let link = table[w + 7 + bin] as usize;
     let below = draw_child(table, reals, counts, level, link, next);
-    let inner = below.sample;
-    let stream = below.stream;
+    let near = below.near;
+    let drawn = below.drawing;
+    let inner = drawn.sample;
+    let stream = drawn.stream;
     let weight = real::inv(chance) * weight_of(inner);
     let sample = push(inner, bin, weight);
-    Drawing { sample, stream }
+    let drawing = Drawing { sample, stream };
+    Traced { drawing, near }
 }
 
 // A draw from the grid whose run begins at word w.
@@ -162,9 +175,9 @@ pub fn draw_grid(
     level: usize,
     w: usize,
     start: MonteCarloRng,
-) -> Drawing
+) -> Traced
     requires { ⌜ Laid level (now table) (length (now reals)) (length (now counts)) w × (level ≤ 4) × (sound (gridAt level (now table) (now reals) (now counts) w) ≡ true) ⌝ }
-    ensures { λ d. ⌜ DrawsAs level (drawGrid (gridAt level (now (table .entry)) (now (reals .entry)) (now (counts .entry)) w) start) d ⌝ }
+    ensures { λ d. ⌜ DrawsAs level (drawGrid (gridAt level (now (table .entry)) (now (reals .entry)) (now (counts .entry)) w) start) (d .drawing) ⌝ }
 {
     if table[w] == 1 {
         return draw_from_axes(table, reals, counts, w, start);

@@ -4,6 +4,7 @@ ghost use mathlib.Core.Bool.{true};
 ghost use Prim.Native.Nat.{_≤_};
 ghost use lib.ListN.{take};
 ghost use lib.Ieee.{nan};
+ghost use Rattle.axis.specs.Edges.{wellFormed, inUnit, binOf};
 ghost use Rattle.grid.specs.Sampled.{entries};
 ghost use Rattle.real.specs.Total.{allFinite};
 ghost use Rattle.accumulator.specs.Steps.{zeroCount};
@@ -40,8 +41,28 @@ pub fn are_finite(ws: [f64; 5], n: usize) -> bool
     ok
 }
 
-// The bin of each coordinate on its axis.
-pub fn locate(reals: &[f64], counts: &[u64], g: AxesAt, xs: [f64; 8]) -> [usize; 8]
+// The bin of x: the guess where x lies there, else the one that is searched for.
+fn bin_near(edges: &[f64], x: f64, guess: usize) -> usize
+    requires { ⌜ (wellFormed (now edges) ≡ true) × (inUnit x ≡ true) ⌝ }
+    ensures { λ r. ⌜ r ≡ binOf (now (edges .entry)) x ⌝ }
+{
+    let last = edges.len() - 1;
+    if guess < last {
+        if (edges[guess] < x) & (x <= edges[guess + 1]) {
+            return guess;
+        }
+    }
+    axis::edges::bin_of(edges, x)
+}
+
+// The bin of each coordinate on its axis; for each a guess, which may be any number.
+pub fn locate(
+    reals: &[f64],
+    counts: &[u64],
+    g: AxesAt,
+    xs: [f64; 8],
+    near: [usize; 8],
+) -> [usize; 8]
     requires { ⌜ Stands (now reals) (now counts) g × (allInUnit (entries nan xs 0 (g .axes)) ≡ true) ⌝ }
     ensures { λ r. ⌜ take (g .axes) r ≡ binsOn (axesAt (now (reals .entry)) (now (counts .entry)) g) (entries nan xs 0 (g .axes)) ⌝ }
 {
@@ -52,7 +73,7 @@ pub fn locate(reals: &[f64], counts: &[u64], g: AxesAt, xs: [f64; 8]) -> [usize;
     while done < g.axes {
         let held = counts[place] as usize;
         let end = at + held + 1;
-        bins[done] = axis::edges::bin_of(&reals[at..end], xs[done]);
+        bins[done] = bin_near(&reals[at..end], xs[done], near[done]);
         at = at + (6 * g.most + 1);
         place = place + (3 * g.most + 2);
         done += 1;

@@ -36,7 +36,7 @@ draw-grid-requires c κs = ((clear (c .before .before .before .before .before .a
 -- src/lib.rt:46:1
 returns-2 : tie.Need-returns-2
 unfolding drawOf drawnAs
-returns-2 c = ap₂ (λ (n : ℕ) (d : laid.Drawing). record { refused = n; drawing = d }) (c .before .if1 .left) (c .draw-grid .ensures .0) ∙ sym (ap (drawnAs (c .before .before .before .before .before .before .args .start)) (answered-last (stateFault (c .before .before .before .before .before .before .args .table .now) (c .before .before .before .before .before .before .args .reals .now) (c .before .before .before .before .before .before .args .counts .now)) (gives (drawGrid (rootOf (c .before .before .before .before .before .before .args .table .now) (c .before .before .before .before .before .before .args .reals .now) (c .before .before .before .before .before .before .args .counts .now)) (c .before .before .before .before .before .before .args .start))) (sym (c .before .before .fault .ensures) ∙ c .before .if1 .left)))
+returns-2 c = ap₂ (λ (n : ℕ) (d : laid.Drawing). record { refused = n; drawing = d }) (c .before .before .if1 .left) (c .before .draw-grid .ensures .0) ∙ sym (ap (drawnAs (c .before .before .before .before .before .before .before .args .start)) (answered-last (stateFault (c .before .before .before .before .before .before .before .args .table .now) (c .before .before .before .before .before .before .before .args .reals .now) (c .before .before .before .before .before .before .before .args .counts .now)) (gives (drawGrid (rootOf (c .before .before .before .before .before .before .before .args .table .now) (c .before .before .before .before .before .before .before .args .reals .now) (c .before .before .before .before .before .before .before .args .counts .now)) (c .before .before .before .before .before .before .before .args .start))) (sym (c .before .before .before .fault .ensures) ∙ c .before .before .if1 .left)))
 
 pub draw-spec : {M : Type 1} → statement M
 draw-spec =

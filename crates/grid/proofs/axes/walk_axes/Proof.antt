@@ -1,3 +1,4 @@
+use borrow.Author.Needs.{needs}
 use native.Mathlib.Omega.{arith}
 use mathlib.Core.Path.{_≡_, refl, sym, _∙_}
 use Prim.Native.Nat.{_-_, _≤_}
@@ -14,20 +15,21 @@ use Rattle.grid.proofs.axes.walk_axes.Reads as reads
 use Rattle.grid.proofs.axes.walk_axes.Lts as lts
 use Rattle.grid.proofs.axes.place_on.Reads as place-on-reads
 use Rattle.stream.proofs.MonteCarloRng.unit.Reads as unit-reads
+use Rattle.grid.proofs.axes.drawn_bin.Reads as drawn-bin-reads
 
 abbrev Inv-loop : tie.InvT-loop
-Inv-loop reals counts g evenly coordinates₀ weight₀ stream₀ at₀ place₀ done₀ coordinates weight stream at place done =
+Inv-loop reals counts g evenly coordinates₀ near₀ weight₀ stream₀ at₀ place₀ done₀ coordinates near weight stream at place done =
     (done ≤ g .axes) × (length coordinates ≡ 8) × Standing (g .most) reals counts (g .axes - done) at place
     × (behind (take done coordinates) (walked evenly (axesFrom (g .most) reals counts (g .axes - done) at place) weight stream) ≡ walked evenly (axesFrom (g .most) reals counts (g .axes) (g .reals) (g .counts)) one64 stream₀)
-    × (drop done coordinates ≡ replicate (8 - done) zero64)
+    × (drop done coordinates ≡ replicate (8 - done) zero64) × (length near ≡ 8)
 
 abbrev μ-loop : tie.MeasureT-loop
-μ-loop reals counts g evenly coordinates₀ weight₀ stream₀ at₀ place₀ done₀ coordinates weight stream at place done =
+μ-loop reals counts g evenly coordinates₀ near₀ weight₀ stream₀ at₀ place₀ done₀ coordinates near weight stream at place done =
     g .axes - done
 
 -- src/axes.rt:28:5
 loop-holds : tie.Need-loop-holds Inv-loop μ-loop
-loop-holds c = let e : c .before .before .args .g .axes - 0 ≡ c .before .before .args .g .axes = omega arith in (omega arith, refl, rw e (c .before .before .pre .2), rw e, refl)
+loop-holds c = let e : c .before .before .args .g .axes - 0 ≡ c .before .before .args .g .axes = omega arith in (omega arith, refl, rw e (c .before .before .pre .2), rw e, refl, refl)
 
 -- src/axes.rt:29:20
 mul-held : tie.Need-mul-held Inv-loop μ-loop
@@ -102,22 +104,29 @@ add-place c = let n = next (c .before .before .before .before .before .before .b
 add-place-2 : tie.Need-add-place-2 Inv-loop μ-loop
 add-place-2 c = let n = next (c .before .before .before .before .before .before .before .before .before .before .before .before .before .args .g .most) (c .before .before .before .before .before .before .before .before .before .before .before .before .before .args .reals .now) (c .before .before .before .before .before .before .before .before .before .before .before .before .before .args .counts .now) (c .before .before .before .before .before .before .before .before .before .before .before .before .before .args .g .axes) (c .before .before .before .before .before .before .before .before .before .before .loop .done) (c .before .before .before .before .before .before .before .before .before .before .loop .at) (c .before .before .before .before .before .before .before .before .before .before .loop .place) (c .before .before .before .before .before .before .before .before .if1 .taken) (c .before .before .before .before .before .before .before .before .before .before .loop .inv .2) in omega (arith, c .before .before .before .before .before .before .before .before .before .before .before .before .before .pre .1)
 
--- src/axes.rt:38:9
+drawn-bin-requires : tie.Need-drawn-bin-requires Inv-loop μ-loop
+drawn-bin-requires c κs = search needs
+
+mul-near : tie.Need-mul-near Inv-loop μ-loop
+mul-near c = omega (arith, c .before .before .before .before .before .before .before .before .before .before .before .before .before .before .pre .0, c .before .before .before .before .before .before .before .before .before .if1 .taken)
+
+array-write-near : tie.Need-array-write-near Inv-loop μ-loop
+array-write-near c = omega (arith, c .before .before .before .before .before .before .before .before .before .before .before .before .before .before .pre .0, c .before .before .before .before .before .before .before .before .before .if1 .taken)
+
 add-done : tie.Need-add-done Inv-loop μ-loop
-add-done c = omega (arith, c .before .before .before .before .before .before .before .before .before .before .before .before .before .pre .0, c .before .before .before .before .before .before .before .before .if1 .taken)
+add-done c = omega (arith, c .before .before .before .before .before .before .before .before .before .before .before .before .before .before .pre .0, c .before .before .before .before .before .before .before .before .before .if1 .taken)
 
--- src/axes.rt:28:5
 loop-less : tie.Need-loop-less Inv-loop μ-loop
-loop-less c = omega (arith, c .before .before .before .before .before .before .before .before .if1 .taken)
+loop-less c = omega (arith, c .before .before .before .before .before .before .before .before .before .if1 .taken)
 
--- src/axes.rt:28:5
 loop-again : tie.Need-loop-again Inv-loop μ-loop
-loop-again c = let n = next (c .before .before .before .before .before .before .before .before .before .before .before .before .before .args .g .most) (c .before .before .before .before .before .before .before .before .before .before .before .before .before .args .reals .now) (c .before .before .before .before .before .before .before .before .before .before .before .before .before .args .counts .now) (c .before .before .before .before .before .before .before .before .before .before .before .before .before .args .g .axes) (c .before .before .before .before .before .before .before .before .before .before .loop .done) (c .before .before .before .before .before .before .before .before .before .before .loop .at) (c .before .before .before .before .before .before .before .before .before .before .loop .place) (c .before .before .before .before .before .before .before .before .if1 .taken) (c .before .before .before .before .before .before .before .before .before .before .loop .inv .2) in (
-  omega (arith, c .before .before .before .before .before .before .before .before .if1 .taken),
-  simp length-set (c .before .before .before .before .before .before .before .before .before .before .loop .inv .1),
+loop-again c = let n = next (c .before .before .before .before .before .before .before .before .before .before .before .before .before .before .args .g .most) (c .before .before .before .before .before .before .before .before .before .before .before .before .before .before .args .reals .now) (c .before .before .before .before .before .before .before .before .before .before .before .before .before .before .args .counts .now) (c .before .before .before .before .before .before .before .before .before .before .before .before .before .before .args .g .axes) (c .before .before .before .before .before .before .before .before .before .before .before .loop .done) (c .before .before .before .before .before .before .before .before .before .before .before .loop .at) (c .before .before .before .before .before .before .before .before .before .before .before .loop .place) (c .before .before .before .before .before .before .before .before .before .if1 .taken) (c .before .before .before .before .before .before .before .before .before .before .before .loop .inv .2) in (
+  omega (arith, c .before .before .before .before .before .before .before .before .before .if1 .taken),
+  simp length-set (c .before .before .before .before .before .before .before .before .before .before .before .loop .inv .1),
   n .rest,
-  drawn-on (c .before .before .before .before .before .before .before .before .before .before .before .before .before .args .g .most) (c .before .before .before .before .before .before .before .before .before .before .before .before .before .args .reals .now) (c .before .before .before .before .before .before .before .before .before .before .before .before .before .args .counts .now) (c .before .before .before .before .before .before .before .before .before .before .before .before .before .args .evenly) (c .before .before .before .before .before .before .before .before .before .before .before .before .before .args .g .axes) (c .before .before .before .before .before .before .before .before .before .before .loop .done) (c .before .before .before .before .before .before .before .before .before .before .loop .at) (c .before .before .before .before .before .before .before .before .before .before .loop .place) (c .before .before .before .before .before .before .before .before .before .before .loop .coordinates) (c .before .before .before .before .before .before .before .before .before .before .loop .weight) (c .before .before .before .before .before .before .before .before .before .before .loop .stream) (c .before .before .before .before .before .before .unit .result) (c .before .before .before .before .place-on .result) (c .before .before .before .before .before .before .before .before .if1 .taken) (omega (arith, c .before .before .before .before .before .before .before .before .before .before .before .before .before .pre .0, c .before .before .before .before .before .before .before .before .before .before .loop .inv .1, c .before .before .before .before .before .before .before .before .if1 .taken)) (c .before .before .before .before .before .before .unit .ensures) (c .before .before .before .before .place-on .ensures) ∙ c .before .before .before .before .before .before .before .before .before .before .loop .inv .3,
-  zeros-on (c .before .before .before .before .before .before .before .before .before .before .loop .coordinates) (c .before .before .before .before .before .before .before .before .before .before .loop .done) (c .before .before .before .before .place-on .result .at) (omega (arith, c .before .before .before .before .before .before .before .before .if1 .taken, c .before .before .before .before .before .before .before .before .before .before .before .before .before .pre .0)) (c .before .before .before .before .before .before .before .before .before .before .loop .inv .4),
+  drawn-on (c .before .before .before .before .before .before .before .before .before .before .before .before .before .before .args .g .most) (c .before .before .before .before .before .before .before .before .before .before .before .before .before .before .args .reals .now) (c .before .before .before .before .before .before .before .before .before .before .before .before .before .before .args .counts .now) (c .before .before .before .before .before .before .before .before .before .before .before .before .before .before .args .evenly) (c .before .before .before .before .before .before .before .before .before .before .before .before .before .before .args .g .axes) (c .before .before .before .before .before .before .before .before .before .before .before .loop .done) (c .before .before .before .before .before .before .before .before .before .before .before .loop .at) (c .before .before .before .before .before .before .before .before .before .before .before .loop .place) (c .before .before .before .before .before .before .before .before .before .before .before .loop .coordinates) (c .before .before .before .before .before .before .before .before .before .before .before .loop .weight) (c .before .before .before .before .before .before .before .before .before .before .before .loop .stream) (c .before .before .before .before .before .before .before .unit .result) (c .before .before .before .before .before .place-on .result) (c .before .before .before .before .before .before .before .before .before .if1 .taken) (omega (arith, c .before .before .before .before .before .before .before .before .before .before .before .before .before .before .pre .0, c .before .before .before .before .before .before .before .before .before .before .before .loop .inv .1, c .before .before .before .before .before .before .before .before .before .if1 .taken)) (c .before .before .before .before .before .before .before .unit .ensures) (c .before .before .before .before .before .place-on .ensures) ∙ c .before .before .before .before .before .before .before .before .before .before .before .loop .inv .3,
+  zeros-on (c .before .before .before .before .before .before .before .before .before .before .before .loop .coordinates) (c .before .before .before .before .before .before .before .before .before .before .before .loop .done) (c .before .before .before .before .before .place-on .result .at) (omega (arith, c .before .before .before .before .before .before .before .before .before .if1 .taken, c .before .before .before .before .before .before .before .before .before .before .before .before .before .before .pre .0)) (c .before .before .before .before .before .before .before .before .before .before .before .loop .inv .4),
+  simp length-set (c .before .before .before .before .before .before .before .before .before .before .before .loop .inv .5),
 )
 
 -- src/axes.rt:18:1
@@ -152,6 +161,9 @@ walk-axes-spec =
     mul-place
     add-place
     add-place-2
+    drawn-bin-requires
+    mul-near
+    array-write-near
     add-done
     loop-less
     loop-again

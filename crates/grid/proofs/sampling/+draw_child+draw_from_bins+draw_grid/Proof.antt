@@ -108,7 +108,7 @@ draw-child-returns-2 : (t : ℕ) → draw-child-lts.Need-returns-2 (
   draw-grid-below t,
   draw-grid.Post,
 ) (draw-child-at t) draw-child.Post
-draw-child-returns-2 t c = subst (λ (d : Drawing). DrawsAs (c .before .before .before .before .before .args .level) d (c .draw-grid .result)) (sym (child-is (gridAt (c .before .before .before .before .before .args .level) (c .before .before .before .before .before .args .table .now) (c .before .before .before .before .before .args .reals .now) (c .before .before .before .before .before .args .counts .now)) (c .before .before .before .before .before .args .link) (c .before .before .before .before .before .args .start) (c .before .if1 .left))) (c .draw-grid .ensures)
+draw-child-returns-2 t c = subst (λ (d : Drawing). DrawsAs (c .before .before .before .before .before .args .level) d (c .draw-grid .result .drawing)) (sym (child-is (gridAt (c .before .before .before .before .before .args .level) (c .before .before .before .before .before .args .table .now) (c .before .before .before .before .before .args .reals .now) (c .before .before .before .before .before .args .counts .now)) (c .before .before .before .before .before .args .link) (c .before .before .before .before .before .args .start) (c .before .if1 .left))) (c .draw-grid .ensures)
 
 -- src/sampling.rt:119:9
 draw-from-bins-unit-requires : (t : ℕ) → draw-from-bins-lts.Need-unit-requires (
@@ -535,7 +535,7 @@ draw-from-bins-push-requires : (t : ℕ) → draw-from-bins-lts.Need-push-requir
   push-reads.Asked,
   push-reads.Learnt,
 ) (draw-from-bins-at t) draw-from-bins.Post
-draw-from-bins-push-requires t c κs = let q = laid-levels (c .before .before .before .before .before .before .before .before .before .before .before .before .before .before .before .before .args .level) (drawChild (childIn (gridAt (c .before .before .before .before .before .before .before .before .before .before .before .before .before .before .before .before .args .level) (c .before .before .before .before .before .before .before .before .before .before .before .before .before .before .before .before .args .table .now) (c .before .before .before .before .before .before .before .before .before .before .before .before .before .before .before .before .args .reals .now) (c .before .before .before .before .before .before .before .before .before .before .before .before .before .before .before .before .args .counts .now)) (getD (c .before .before .before .before .before .before .before .before .before .before .before .before .before .before .before .before .args .table .now) ((c .before .before .before .before .before .before .before .before .before .before .before .before .before .before .before .before .args .w) + 7 + (c .before .before .before .before .before .before .before .reach .result)) 0)) (c .before .before .before .before .before .before .before .before .before .before .before .before .unit .result .stream)) (c .before .before .before .before .draw-child .result) (c .before .before .before .before .draw-child .ensures) in (omega (arith, q .0, (c .before .before .before .before .before .before .before .before .before .before .before .before .before .before .before .before .pre .1) .1), omega (arith, q .1, (c .before .before .before .before .before .before .before .before .before .before .before .before .before .before .before .before .pre .1) .1))
+draw-from-bins-push-requires t c κs = let q = laid-levels (c .before .before .before .before .before .before .before .before .before .before .before .before .before .before .before .before .before .before .args .level) (drawChild (childIn (gridAt (c .before .before .before .before .before .before .before .before .before .before .before .before .before .before .before .before .before .before .args .level) (c .before .before .before .before .before .before .before .before .before .before .before .before .before .before .before .before .before .before .args .table .now) (c .before .before .before .before .before .before .before .before .before .before .before .before .before .before .before .before .before .before .args .reals .now) (c .before .before .before .before .before .before .before .before .before .before .before .before .before .before .before .before .before .before .args .counts .now)) (getD (c .before .before .before .before .before .before .before .before .before .before .before .before .before .before .before .before .before .before .args .table .now) ((c .before .before .before .before .before .before .before .before .before .before .before .before .before .before .before .before .before .before .args .w) + 7 + (c .before .before .before .before .before .before .before .before .before .reach .result)) 0)) (c .before .before .before .before .before .before .before .before .before .before .before .before .before .before .unit .result .stream)) (c .before .before .before .before .before .before .draw-child .result .drawing) (c .before .before .before .before .before .before .draw-child .ensures) in (omega (arith, q .0, (c .before .before .before .before .before .before .before .before .before .before .before .before .before .before .before .before .before .before .pre .1) .1), omega (arith, q .1, (c .before .before .before .before .before .before .before .before .before .before .before .before .before .before .before .before .before .before .pre .1) .1))
 
 -- src/sampling.rt:113:1
 draw-from-bins-returns : (t : ℕ) → draw-from-bins-lts.Need-returns (
@@ -552,7 +552,7 @@ draw-from-bins-returns : (t : ℕ) → draw-from-bins-lts.Need-returns (
   push-reads.Asked,
   push-reads.Learnt,
 ) (draw-from-bins-at t) draw-from-bins.Post
-draw-from-bins-returns t c = bins-made (gridAt (c .before .before .before .before .before .before .before .before .before .before .before .before .before .before .before .before .before .args .level) (c .before .before .before .before .before .before .before .before .before .before .before .before .before .before .before .before .before .args .table .now) (c .before .before .before .before .before .before .before .before .before .before .before .before .before .before .before .before .before .args .reals .now) (c .before .before .before .before .before .before .before .before .before .before .before .before .before .before .before .before .before .args .counts .now)) (c .before .before .before .before .before .before .before .before .before .before .before .before .before .before .before .before .before .args .table .now) (c .before .before .before .before .before .before .before .before .before .before .before .before .before .before .before .before .before .args .reals .now) (c .before .before .before .before .before .before .before .before .before .before .before .before .before .before .before .before .before .args .counts .now) (c .before .before .before .before .before .before .before .before .before .before .before .before .before .before .before .before .before .args .w) (headAt (c .before .before .before .before .before .before .before .before .before .before .before .before .before .before .before .before .before .args .table .now) (c .before .before .before .before .before .before .before .before .before .before .before .before .before .before .before .before .before .args .reals .now) (c .before .before .before .before .before .before .before .before .before .before .before .before .before .before .before .before .before .args .counts .now) (c .before .before .before .before .before .before .before .before .before .before .before .before .before .before .before .before .before .args .w)) (c .before .before .before .before .before .before .before .before .before .before .before .before .before .before .before .before .before .args .level) (c .before .before .before .before .before .before .before .before .before .before .before .before .before .before .before .before .before .args .start) (c .before .before .before .before .before .before .before .before .before .before .before .before .before .unit .result) (c .before .before .before .before .before .before .before .before .reach .result) (drawChild (childIn (gridAt (c .before .before .before .before .before .before .before .before .before .before .before .before .before .before .before .before .before .args .level) (c .before .before .before .before .before .before .before .before .before .before .before .before .before .before .before .before .before .args .table .now) (c .before .before .before .before .before .before .before .before .before .before .before .before .before .before .before .before .before .args .reals .now) (c .before .before .before .before .before .before .before .before .before .before .before .before .before .before .before .before .before .args .counts .now)) (getD (c .before .before .before .before .before .before .before .before .before .before .before .before .before .before .before .before .before .args .table .now) ((c .before .before .before .before .before .before .before .before .before .before .before .before .before .before .before .before .before .args .w) + 7 + (c .before .before .before .before .before .before .before .before .reach .result)) 0)) (c .before .before .before .before .before .before .before .before .before .before .before .before .before .unit .result .stream)) (c .before .before .before .before .before .draw-child .result) (c .before .weight-of .result) (c .before .before .inv .result) (c .push .result) (omega (arith, (c .before .before .before .before .before .before .before .before .before .before .before .before .before .before .before .before .before .pre .1) .0)) ((c .before .before .before .before .before .before .before .before .before .before .before .before .before .before .before .before .before .pre .1) .1) (c .before .before .before .before .before .before .before .before .before .before .before .before .before .unit .ensures) (c .before .before .before .before .before .before .before .before .reach .ensures .0) (omega (arith, c .before .before .before .before .before .before .before .before .reach .ensures .1, (length-chances (getD (c .before .before .before .before .before .before .before .before .before .before .before .before .before .before .before .before .before .args .table .now) ((c .before .before .before .before .before .before .before .before .before .before .before .before .before .before .before .before .before .args .w) + 5) 0 + 14) (getD (c .before .before .before .before .before .before .before .before .before .before .before .before .before .before .before .before .before .args .table .now) ((c .before .before .before .before .before .before .before .before .before .before .before .before .before .before .before .before .before .args .w) + 2) 0) (c .before .before .before .before .before .before .before .before .before .before .before .before .before .before .before .before .before .args .reals .now) (omega (arith, (c .before .before .before .before .before .before .before .before .before .before .before .before .before .before .before .before .before .pre .1) .0))))) refl (c .before .before .before .before .before .draw-child .ensures) (c .before .before .inv .ensures) (c .before .weight-of .ensures) (c .push .ensures)
+draw-from-bins-returns t c = bins-made (gridAt (c .before .before .before .before .before .before .before .before .before .before .before .before .before .before .before .before .before .before .before .args .level) (c .before .before .before .before .before .before .before .before .before .before .before .before .before .before .before .before .before .before .before .args .table .now) (c .before .before .before .before .before .before .before .before .before .before .before .before .before .before .before .before .before .before .before .args .reals .now) (c .before .before .before .before .before .before .before .before .before .before .before .before .before .before .before .before .before .before .before .args .counts .now)) (c .before .before .before .before .before .before .before .before .before .before .before .before .before .before .before .before .before .before .before .args .table .now) (c .before .before .before .before .before .before .before .before .before .before .before .before .before .before .before .before .before .before .before .args .reals .now) (c .before .before .before .before .before .before .before .before .before .before .before .before .before .before .before .before .before .before .before .args .counts .now) (c .before .before .before .before .before .before .before .before .before .before .before .before .before .before .before .before .before .before .before .args .w) (headAt (c .before .before .before .before .before .before .before .before .before .before .before .before .before .before .before .before .before .before .before .args .table .now) (c .before .before .before .before .before .before .before .before .before .before .before .before .before .before .before .before .before .before .before .args .reals .now) (c .before .before .before .before .before .before .before .before .before .before .before .before .before .before .before .before .before .before .before .args .counts .now) (c .before .before .before .before .before .before .before .before .before .before .before .before .before .before .before .before .before .before .before .args .w)) (c .before .before .before .before .before .before .before .before .before .before .before .before .before .before .before .before .before .before .before .args .level) (c .before .before .before .before .before .before .before .before .before .before .before .before .before .before .before .before .before .before .before .args .start) (c .before .before .before .before .before .before .before .before .before .before .before .before .before .before .before .unit .result) (c .before .before .before .before .before .before .before .before .before .before .reach .result) (drawChild (childIn (gridAt (c .before .before .before .before .before .before .before .before .before .before .before .before .before .before .before .before .before .before .before .args .level) (c .before .before .before .before .before .before .before .before .before .before .before .before .before .before .before .before .before .before .before .args .table .now) (c .before .before .before .before .before .before .before .before .before .before .before .before .before .before .before .before .before .before .before .args .reals .now) (c .before .before .before .before .before .before .before .before .before .before .before .before .before .before .before .before .before .before .before .args .counts .now)) (getD (c .before .before .before .before .before .before .before .before .before .before .before .before .before .before .before .before .before .before .before .args .table .now) ((c .before .before .before .before .before .before .before .before .before .before .before .before .before .before .before .before .before .before .before .args .w) + 7 + (c .before .before .before .before .before .before .before .before .before .before .reach .result)) 0)) (c .before .before .before .before .before .before .before .before .before .before .before .before .before .before .before .unit .result .stream)) (c .before .before .before .before .before .before .before .draw-child .result .drawing) (c .before .weight-of .result) (c .before .before .inv .result) (c .push .result) (omega (arith, (c .before .before .before .before .before .before .before .before .before .before .before .before .before .before .before .before .before .before .before .pre .1) .0)) ((c .before .before .before .before .before .before .before .before .before .before .before .before .before .before .before .before .before .before .before .pre .1) .1) (c .before .before .before .before .before .before .before .before .before .before .before .before .before .before .before .unit .ensures) (c .before .before .before .before .before .before .before .before .before .before .reach .ensures .0) (omega (arith, c .before .before .before .before .before .before .before .before .before .before .reach .ensures .1, (length-chances (getD (c .before .before .before .before .before .before .before .before .before .before .before .before .before .before .before .before .before .before .before .args .table .now) ((c .before .before .before .before .before .before .before .before .before .before .before .before .before .before .before .before .before .before .before .args .w) + 5) 0 + 14) (getD (c .before .before .before .before .before .before .before .before .before .before .before .before .before .before .before .before .before .before .before .args .table .now) ((c .before .before .before .before .before .before .before .before .before .before .before .before .before .before .before .before .before .before .before .args .w) + 2) 0) (c .before .before .before .before .before .before .before .before .before .before .before .before .before .before .before .before .before .before .before .args .reals .now) (omega (arith, (c .before .before .before .before .before .before .before .before .before .before .before .before .before .before .before .before .before .before .before .pre .1) .0))))) refl (c .before .before .before .before .before .before .before .draw-child .ensures) (c .before .before .inv .ensures) (c .before .weight-of .ensures) (c .push .ensures)
 
 -- src/sampling.rt:142:8
 draw-grid-mul-if1 : (t : ℕ) → draw-grid-lts.Need-mul-if1 (
@@ -589,7 +589,7 @@ draw-grid-returns : (t : ℕ) → draw-grid-lts.Need-returns (
   draw-from-bins.Post,
 ) (draw-grid-at t) draw-grid.Post
 unfolding drawGrid
-draw-grid-returns t c = subst (λ (g : Grid). DrawsAs (c .before .before .before .before .before .before .args .level) (drawGrid g (c .before .before .before .before .before .before .args .start)) (c .draw-from-axes .result)) (sym (node-axes (c .before .before .before .before .before .before .args .level) (c .before .before .before .before .before .before .args .table .now) (c .before .before .before .before .before .before .args .reals .now) (c .before .before .before .before .before .before .args .counts .now) (c .before .before .before .before .before .before .args .w) (c .before .if1 .taken))) (c .draw-from-axes .ensures .0, shorter 0 (c .before .before .before .before .before .before .args .level) _ (omega arith) (c .draw-from-axes .ensures .1))
+draw-grid-returns t c = subst (λ (g : Grid). DrawsAs (c .before .before .before .before .before .before .args .level) (drawGrid g (c .before .before .before .before .before .before .args .start)) (c .draw-from-axes .result .drawing)) (sym (node-axes (c .before .before .before .before .before .before .args .level) (c .before .before .before .before .before .before .args .table .now) (c .before .before .before .before .before .before .args .reals .now) (c .before .before .before .before .before .before .args .counts .now) (c .before .before .before .before .before .before .args .w) (c .before .if1 .taken))) (c .draw-from-axes .ensures .0, shorter 0 (c .before .before .before .before .before .before .args .level) _ (omega arith) (c .draw-from-axes .ensures .1))
 
 -- src/sampling.rt:145:42
 draw-grid-sub-draw-from-bins : (t : ℕ) → draw-grid-lts.Need-sub-draw-from-bins (
@@ -616,7 +616,7 @@ draw-grid-returns-2 : (t : ℕ) → draw-grid-lts.Need-returns-2 (
   draw-from-bins-below t,
   draw-from-bins.Post,
 ) (draw-grid-at t) draw-grid.Post
-draw-grid-returns-2 t c = let d = laid-bins (c .before .before .before .before .before .before .args .level) (c .before .before .before .before .before .before .args .table .now) (length (c .before .before .before .before .before .before .args .reals .now)) (length (c .before .before .before .before .before .before .args .counts .now)) (c .before .before .before .before .before .before .args .w) ((c .before .before .before .before .before .before .pre .1) .0) (c .before .if1 .left) in let e : (c .before .before .before .before .before .before .args .level) - 1 + 1 ≡ (c .before .before .before .before .before .before .args .level) = omega (arith, d .level) in let m = drawGrid (bins (headAt (c .before .before .before .before .before .before .args .table .now) (c .before .before .before .before .before .before .args .reals .now) (c .before .before .before .before .before .before .args .counts .now) (c .before .before .before .before .before .before .args .w)) (binsIn (gridAt ((c .before .before .before .before .before .before .args .level) - 1) (c .before .before .before .before .before .before .args .table .now) (c .before .before .before .before .before .before .args .reals .now) (c .before .before .before .before .before .before .args .counts .now)) (c .before .before .before .before .before .before .args .table .now) (c .before .before .before .before .before .before .args .reals .now) (c .before .before .before .before .before .before .args .counts .now) (c .before .before .before .before .before .before .args .w) 0 (getD (c .before .before .before .before .before .before .args .table .now) ((c .before .before .before .before .before .before .args .w) + 2) 0))) (c .before .before .before .before .before .before .args .start) in subst (λ (g : Grid). DrawsAs (c .before .before .before .before .before .before .args .level) (drawGrid g (c .before .before .before .before .before .before .args .start)) (c .draw-from-bins .result)) (sym (node-bins (c .before .before .before .before .before .before .args .level) (c .before .before .before .before .before .before .args .table .now) (c .before .before .before .before .before .before .args .reals .now) (c .before .before .before .before .before .before .args .counts .now) (c .before .before .before .before .before .before .args .w) (c .before .if1 .left) (d .level))) (c .draw-from-bins .ensures .0, subst (λ (k : ℕ). Short k (m .sample)) e (c .draw-from-bins .ensures .1))
+draw-grid-returns-2 t c = let d = laid-bins (c .before .before .before .before .before .before .args .level) (c .before .before .before .before .before .before .args .table .now) (length (c .before .before .before .before .before .before .args .reals .now)) (length (c .before .before .before .before .before .before .args .counts .now)) (c .before .before .before .before .before .before .args .w) ((c .before .before .before .before .before .before .pre .1) .0) (c .before .if1 .left) in let e : (c .before .before .before .before .before .before .args .level) - 1 + 1 ≡ (c .before .before .before .before .before .before .args .level) = omega (arith, d .level) in let m = drawGrid (bins (headAt (c .before .before .before .before .before .before .args .table .now) (c .before .before .before .before .before .before .args .reals .now) (c .before .before .before .before .before .before .args .counts .now) (c .before .before .before .before .before .before .args .w)) (binsIn (gridAt ((c .before .before .before .before .before .before .args .level) - 1) (c .before .before .before .before .before .before .args .table .now) (c .before .before .before .before .before .before .args .reals .now) (c .before .before .before .before .before .before .args .counts .now)) (c .before .before .before .before .before .before .args .table .now) (c .before .before .before .before .before .before .args .reals .now) (c .before .before .before .before .before .before .args .counts .now) (c .before .before .before .before .before .before .args .w) 0 (getD (c .before .before .before .before .before .before .args .table .now) ((c .before .before .before .before .before .before .args .w) + 2) 0))) (c .before .before .before .before .before .before .args .start) in subst (λ (g : Grid). DrawsAs (c .before .before .before .before .before .before .args .level) (drawGrid g (c .before .before .before .before .before .before .args .start)) (c .draw-from-bins .result .drawing)) (sym (node-bins (c .before .before .before .before .before .before .args .level) (c .before .before .before .before .before .before .args .table .now) (c .before .before .before .before .before .before .args .reals .now) (c .before .before .before .before .before .before .args .counts .now) (c .before .before .before .before .before .before .args .w) (c .before .if1 .left) (d .level))) (c .draw-from-bins .ensures .0, subst (λ (k : ℕ). Short k (m .sample)) e (c .draw-from-bins .ensures .1))
 
 pub +draw-child+draw-from-bins+draw-grid-spec : {M : Type 1} → statement M
 +draw-child+draw-from-bins+draw-grid-spec =

@@ -21,8 +21,8 @@ draw-axes-requires c κs = subst (λ (g : AxesAt). Stands (c .before .before .be
 -- src/sampling.rt:78:1
 returns : tie.Need-returns
 unfolding structOf
-returns c = let s = subst (λ (g : AxesAt). Stands (c .before .before .before .before .before .before .before .args .reals .now) (c .before .before .before .before .before .before .before .args .counts .now) g) (sym (c .before .before .before .axes-place .ensures)) (sound-stands (c .before .before .before .before .before .before .before .args .table .now) (c .before .before .before .before .before .before .before .args .reals .now) (c .before .before .before .before .before .before .before .args .counts .now) (c .before .before .before .before .before .before .before .args .w) (c .before .before .before .before .before .before .before .pre .0) (c .before .before .before .before .before .before .before .pre .1)) in
-    axes-made (c .before .before .before .before .before .before .before .args .table .now) (c .before .before .before .before .before .before .before .args .reals .now) (c .before .before .before .before .before .before .before .args .counts .now) (c .before .before .before .before .before .before .before .args .w) (c .before .before .before .before .before .before .before .args .start) (c .before .before .draw-axes .result) (c .before .before .before .axes-place .result) (c .before .before .before .axes-place .ensures) (s .0) (c .before .before .draw-axes .ensures .0) (c .before .before .draw-axes .ensures .1)
+returns c = let s = subst (λ (g : AxesAt). Stands (c .before .before .before .before .before .before .before .before .args .reals .now) (c .before .before .before .before .before .before .before .before .args .counts .now) g) (sym (c .before .before .before .before .axes-place .ensures)) (sound-stands (c .before .before .before .before .before .before .before .before .args .table .now) (c .before .before .before .before .before .before .before .before .args .reals .now) (c .before .before .before .before .before .before .before .before .args .counts .now) (c .before .before .before .before .before .before .before .before .args .w) (c .before .before .before .before .before .before .before .before .pre .0) (c .before .before .before .before .before .before .before .before .pre .1)) in
+    axes-made (c .before .before .before .before .before .before .before .before .args .table .now) (c .before .before .before .before .before .before .before .before .args .reals .now) (c .before .before .before .before .before .before .before .before .args .counts .now) (c .before .before .before .before .before .before .before .before .args .w) (c .before .before .before .before .before .before .before .before .args .start) (c .before .before .before .draw-axes .result) (c .before .before .before .before .axes-place .result) (c .before .before .before .before .axes-place .ensures) (s .0) (c .before .before .before .draw-axes .ensures .0) (c .before .before .before .draw-axes .ensures .1)
 
 pub draw-from-axes-spec : {M : Type 1} → statement M
 draw-from-axes-spec = tie.close (tie.spec axes-place-requires draw-axes-requires returns)

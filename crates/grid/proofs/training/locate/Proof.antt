@@ -6,26 +6,24 @@ use native.Mathlib.Omega.{arith}
 use lib.ListN.{length, take, drop, getD, length-set}
 use lib.Seq.{getD-take, length-take-le}
 use lib.Ieee.{nan}
-use Rattle.axis.proofs.Searches.{search-is}
 use Rattle.grid.specs.Layout.{axesFrom}
 use Rattle.grid.specs.Drawn.{Standing}
 use Rattle.grid.specs.Trained.{allInUnit, binsOn}
 use Rattle.grid.proofs.Standing.{next}
 use Rattle.grid.proofs.Draws.{asked-part}
-use Rattle.axis.specs.Search.{searchOf}
-use lib.Ieee.{Float}
+use Rattle.axis.specs.Edges.{inUnit, binOf}
 use Rattle.grid.proofs.training.locate.Statement.{statement}
 use Rattle.grid.proofs.training.locate.Tie as tie
 use Rattle.grid.proofs.training.locate.Reads as reads
 use Rattle.grid.proofs.training.locate.Lts as lts
-use Rattle.axis.proofs.edges.bin_of.Reads as bin-of-reads
+use Rattle.grid.proofs.training.bin_near.Reads as bin-near-reads
 
 abbrev Inv-loop : tie.InvT-loop
-Inv-loop reals counts g xs bins₀ at₀ place₀ done₀ bins at place done = (done ≤ g .axes) × (length bins ≡ 8) × Standing (g .most) reals counts (g .axes - done) at place
+Inv-loop reals counts g xs near bins₀ at₀ place₀ done₀ bins at place done = (done ≤ g .axes) × (length bins ≡ 8) × Standing (g .most) reals counts (g .axes - done) at place
     × (take done bins ++ binsOn (axesFrom (g .most) reals counts (g .axes - done) at place) (drop done (take (g .axes) xs)) ≡ binsOn (axesFrom (g .most) reals counts (g .axes) (g .reals) (g .counts)) (take (g .axes) xs))
 
 abbrev μ-loop : tie.MeasureT-loop
-μ-loop reals counts g xs bins₀ at₀ place₀ done₀ bins at place done = g .axes - done
+μ-loop reals counts g xs near bins₀ at₀ place₀ done₀ bins at place done = g .axes - done
 
 -- src/training.rt:35:5
 loop-holds : tie.Need-loop-holds Inv-loop μ-loop
@@ -48,32 +46,37 @@ add-end-2 : tie.Need-add-end-2 Inv-loop μ-loop
 add-end-2 c = let n = next (c .before .before .before .before .before .before .args .g .most) (c .before .before .before .before .before .before .args .reals .now) (c .before .before .before .before .before .before .args .counts .now) (c .before .before .before .before .before .before .args .g .axes) (c .before .before .before .loop .done) (c .before .before .before .loop .at) (c .before .before .before .loop .place) (c .before .if1 .taken) ((c .before .before .before .loop .inv) .2) in omega arith
 
 -- src/training.rt:38:42
-mul-bin-of : tie.Need-mul-bin-of Inv-loop μ-loop
-mul-bin-of c = let n = next (c .before .before .before .before .before .before .args .g .most) (c .before .before .before .before .before .before .args .reals .now) (c .before .before .before .before .before .before .args .counts .now) (c .before .before .before .before .before .before .args .g .axes) (c .before .before .before .loop .done) (c .before .before .before .loop .at) (c .before .before .before .loop .place) (c .before .if1 .taken) ((c .before .before .before .loop .inv) .2) in omega arith
+mul-bin-near : tie.Need-mul-bin-near Inv-loop μ-loop
+mul-bin-near c = let n = next (c .before .before .before .before .before .before .args .g .most) (c .before .before .before .before .before .before .args .reals .now) (c .before .before .before .before .before .before .args .counts .now) (c .before .before .before .before .before .before .args .g .axes) (c .before .before .before .loop .done) (c .before .before .before .loop .at) (c .before .before .before .loop .place) (c .before .if1 .taken) ((c .before .before .before .loop .inv) .2) in omega arith
 
 -- src/training.rt:38:42
-sub-bin-of : tie.Need-sub-bin-of Inv-loop μ-loop
-sub-bin-of c = let n = next (c .before .before .before .before .before .before .args .g .most) (c .before .before .before .before .before .before .args .reals .now) (c .before .before .before .before .before .before .args .counts .now) (c .before .before .before .before .before .before .args .g .axes) (c .before .before .before .loop .done) (c .before .before .before .loop .at) (c .before .before .before .loop .place) (c .before .if1 .taken) ((c .before .before .before .loop .inv) .2) in omega arith
+sub-bin-near : tie.Need-sub-bin-near Inv-loop μ-loop
+sub-bin-near c = let n = next (c .before .before .before .before .before .before .args .g .most) (c .before .before .before .before .before .before .args .reals .now) (c .before .before .before .before .before .before .args .counts .now) (c .before .before .before .before .before .before .args .g .axes) (c .before .before .before .loop .done) (c .before .before .before .loop .at) (c .before .before .before .loop .place) (c .before .if1 .taken) ((c .before .before .before .loop .inv) .2) in omega arith
 
 -- src/training.rt:38:42
-part-bin-of-start : tie.Need-part-bin-of-start Inv-loop μ-loop
-part-bin-of-start c = let n = next (c .before .before .before .before .before .before .args .g .most) (c .before .before .before .before .before .before .args .reals .now) (c .before .before .before .before .before .before .args .counts .now) (c .before .before .before .before .before .before .args .g .axes) (c .before .before .before .loop .done) (c .before .before .before .loop .at) (c .before .before .before .loop .place) (c .before .if1 .taken) ((c .before .before .before .loop .inv) .2) in omega arith
+part-bin-near-start : tie.Need-part-bin-near-start Inv-loop μ-loop
+part-bin-near-start c = let n = next (c .before .before .before .before .before .before .args .g .most) (c .before .before .before .before .before .before .args .reals .now) (c .before .before .before .before .before .before .args .counts .now) (c .before .before .before .before .before .before .args .g .axes) (c .before .before .before .loop .done) (c .before .before .before .loop .at) (c .before .before .before .loop .place) (c .before .if1 .taken) ((c .before .before .before .loop .inv) .2) in omega arith
 
 -- src/training.rt:38:42
-part-bin-of-end : tie.Need-part-bin-of-end Inv-loop μ-loop
-part-bin-of-end c = let n = next (c .before .before .before .before .before .before .args .g .most) (c .before .before .before .before .before .before .args .reals .now) (c .before .before .before .before .before .before .args .counts .now) (c .before .before .before .before .before .before .args .g .axes) (c .before .before .before .loop .done) (c .before .before .before .loop .at) (c .before .before .before .loop .place) (c .before .if1 .taken) ((c .before .before .before .loop .inv) .2) in omega arith
+part-bin-near-end : tie.Need-part-bin-near-end Inv-loop μ-loop
+part-bin-near-end c = let n = next (c .before .before .before .before .before .before .args .g .most) (c .before .before .before .before .before .before .args .reals .now) (c .before .before .before .before .before .before .args .counts .now) (c .before .before .before .before .before .before .args .g .axes) (c .before .before .before .loop .done) (c .before .before .before .loop .at) (c .before .before .before .loop .place) (c .before .if1 .taken) ((c .before .before .before .loop .inv) .2) in omega arith
 
 -- src/training.rt:38:59
-mul-bin-of-2 : tie.Need-mul-bin-of-2 Inv-loop μ-loop
-mul-bin-of-2 c = omega (arith, c .before .before .if1 .taken, c .before .before .before .before .before .before .before .pre .0 .0)
+mul-bin-near-2 : tie.Need-mul-bin-near-2 Inv-loop μ-loop
+mul-bin-near-2 c = omega (arith, c .before .before .if1 .taken, c .before .before .before .before .before .before .before .pre .0 .0)
 
 -- src/training.rt:38:59
-array-read-bin-of : tie.Need-array-read-bin-of Inv-loop μ-loop
-array-read-bin-of c = omega (arith, c .before .before .if1 .taken, c .before .before .before .before .before .before .before .pre .0 .0)
+array-read-bin-near : tie.Need-array-read-bin-near Inv-loop μ-loop
+array-read-bin-near c = omega (arith, c .before .before .if1 .taken, c .before .before .before .before .before .before .before .pre .0 .0)
 
--- src/training.rt:38:22
-bin-of-requires : tie.Need-bin-of-requires Inv-loop μ-loop
-bin-of-requires c κs = tt
+mul-bin-near-3 : tie.Need-mul-bin-near-3 Inv-loop μ-loop
+mul-bin-near-3 c = omega (arith, c .before .before .if1 .taken, c .before .before .before .before .before .before .before .pre .0 .0)
+
+array-read-bin-near-2 : tie.Need-array-read-bin-near-2 Inv-loop μ-loop
+array-read-bin-near-2 c = omega (arith, c .before .before .if1 .taken, c .before .before .before .before .before .before .before .pre .0 .0)
+
+bin-near-requires : tie.Need-bin-near-requires Inv-loop μ-loop
+bin-near-requires c κs = let n = next (c .before .before .before .before .before .before .before .args .g .most) (c .before .before .before .before .before .before .before .args .reals .now) (c .before .before .before .before .before .before .before .args .counts .now) (c .before .before .before .before .before .before .before .args .g .axes) (c .before .before .before .before .loop .done) (c .before .before .before .before .loop .at) (c .before .before .before .before .loop .place) (c .before .before .if1 .taken) ((c .before .before .before .before .loop .inv) .2) in (asked-part (c .before .before .before .before .loop .at) (getD (c .before .before .before .before .before .before .before .args .counts .now) (c .before .before .before .before .loop .place) 0) (c .before .before .before .before .before .before .before .args .reals .now) (n .edges), ap inUnit (sym (getD-take (c .before .before .before .before .before .before .before .args .g .axes) (c .before .before .before .before .before .before .before .args .t4) (c .before .before .before .before .loop .done) nan (c .before .before .if1 .taken))) ∙ unit-at (take (c .before .before .before .before .before .before .before .args .g .axes) (c .before .before .before .before .before .before .before .args .t4)) (c .before .before .before .before .loop .done) (omega (arith, (length-take-le (c .before .before .before .before .before .before .before .args .g .axes) (c .before .before .before .before .before .before .before .args .t4) (omega (arith, c .before .before .before .before .before .before .before .good .1 .1 .1 .0 .1 .0 .1, c .before .before .before .before .before .before .before .pre .0 .0))), c .before .before .if1 .taken)) (sym (ap allInUnit (entries-take nan (c .before .before .before .before .before .before .before .args .t4) (c .before .before .before .before .before .before .before .args .g .axes) (omega (arith, c .before .before .before .before .before .before .before .good .1 .1 .1 .0 .1 .0 .1, c .before .before .before .before .before .before .before .pre .0 .0)))) ∙ c .before .before .before .before .before .before .before .pre .1))
 
 -- src/training.rt:38:9
 mul-bins : tie.Need-mul-bins Inv-loop μ-loop
@@ -121,8 +124,8 @@ loop-again c = let n = next (c .before .before .before .before .before .before .
   omega (arith, c .before .before .before .before .before .if1 .taken),
   simp length-set ((c .before .before .before .before .before .before .before .loop .inv) .1),
   n .rest,
-  located-on (c .before .before .before .before .before .before .before .before .before .before .args .g .most) (c .before .before .before .before .before .before .before .before .before .before .args .reals .now) (c .before .before .before .before .before .before .before .before .before .before .args .counts .now) (c .before .before .before .before .before .before .before .before .before .before .args .g .axes) (c .before .before .before .before .before .before .before .loop .done) (c .before .before .before .before .before .before .before .loop .at) (c .before .before .before .before .before .before .before .loop .place) (take (c .before .before .before .before .before .before .before .before .before .before .args .g .axes) (c .before .before .before .before .before .before .before .before .before .before .args .t4)) (c .before .before .before .before .before .before .before .loop .bins) (c .before .before .bin-of .result) (c .before .before .before .before .before .if1 .taken) (omega (arith, (length-take-le (c .before .before .before .before .before .before .before .before .before .before .args .g .axes) (c .before .before .before .before .before .before .before .before .before .before .args .t4) (omega (arith, c .before .before .before .before .before .before .before .before .before .before .good .1 .1 .1 .0 .1 .0 .1, c .before .before .before .before .before .before .before .before .before .before .pre .0 .0))), c .before .before .before .before .before .if1 .taken)) (omega (arith, (c .before .before .before .before .before .before .before .loop .inv) .1, c .before .before .before .before .before .if1 .taken, c .before .before .before .before .before .before .before .before .before .before .pre .0 .0))
-      (c .before .before .bin-of .ensures ∙ ap (λ (x : Float). searchOf (take ((c .before .before .before .before .before .before .before .loop .at) + (getD (c .before .before .before .before .before .before .before .before .before .before .args .counts .now) (c .before .before .before .before .before .before .before .loop .place) 0) + 1 - (c .before .before .before .before .before .before .before .loop .at)) (drop (c .before .before .before .before .before .before .before .loop .at) (c .before .before .before .before .before .before .before .before .before .before .args .reals .now))) x) (sym (getD-take (c .before .before .before .before .before .before .before .before .before .before .args .g .axes) (c .before .before .before .before .before .before .before .before .before .before .args .t4) (c .before .before .before .before .before .before .before .loop .done) nan (c .before .before .before .before .before .if1 .taken))) ∙ search-is (take ((c .before .before .before .before .before .before .before .loop .at) + (getD (c .before .before .before .before .before .before .before .before .before .before .args .counts .now) (c .before .before .before .before .before .before .before .loop .place) 0) + 1 - (c .before .before .before .before .before .before .before .loop .at)) (drop (c .before .before .before .before .before .before .before .loop .at) (c .before .before .before .before .before .before .before .before .before .before .args .reals .now))) (getD (take (c .before .before .before .before .before .before .before .before .before .before .args .g .axes) (c .before .before .before .before .before .before .before .before .before .before .args .t4)) (c .before .before .before .before .before .before .before .loop .done) nan) (asked-part (c .before .before .before .before .before .before .before .loop .at) (getD (c .before .before .before .before .before .before .before .before .before .before .args .counts .now) (c .before .before .before .before .before .before .before .loop .place) 0) (c .before .before .before .before .before .before .before .before .before .before .args .reals .now) (n .edges)) (unit-at (take (c .before .before .before .before .before .before .before .before .before .before .args .g .axes) (c .before .before .before .before .before .before .before .before .before .before .args .t4)) (c .before .before .before .before .before .before .before .loop .done) (omega (arith, (length-take-le (c .before .before .before .before .before .before .before .before .before .before .args .g .axes) (c .before .before .before .before .before .before .before .before .before .before .args .t4) (omega (arith, c .before .before .before .before .before .before .before .before .before .before .good .1 .1 .1 .0 .1 .0 .1, c .before .before .before .before .before .before .before .before .before .before .pre .0 .0))), c .before .before .before .before .before .if1 .taken)) (sym (ap allInUnit (entries-take nan (c .before .before .before .before .before .before .before .before .before .before .args .t4) (c .before .before .before .before .before .before .before .before .before .before .args .g .axes) (omega (arith, c .before .before .before .before .before .before .before .before .before .before .good .1 .1 .1 .0 .1 .0 .1, c .before .before .before .before .before .before .before .before .before .before .pre .0 .0)))) ∙ c .before .before .before .before .before .before .before .before .before .before .pre .1))) ∙ (c .before .before .before .before .before .before .before .loop .inv) .3,
+  located-on (c .before .before .before .before .before .before .before .before .before .before .args .g .most) (c .before .before .before .before .before .before .before .before .before .before .args .reals .now) (c .before .before .before .before .before .before .before .before .before .before .args .counts .now) (c .before .before .before .before .before .before .before .before .before .before .args .g .axes) (c .before .before .before .before .before .before .before .loop .done) (c .before .before .before .before .before .before .before .loop .at) (c .before .before .before .before .before .before .before .loop .place) (take (c .before .before .before .before .before .before .before .before .before .before .args .g .axes) (c .before .before .before .before .before .before .before .before .before .before .args .t4)) (c .before .before .before .before .before .before .before .loop .bins) (c .before .before .bin-near .result) (c .before .before .before .before .before .if1 .taken) (omega (arith, (length-take-le (c .before .before .before .before .before .before .before .before .before .before .args .g .axes) (c .before .before .before .before .before .before .before .before .before .before .args .t4) (omega (arith, c .before .before .before .before .before .before .before .before .before .before .good .1 .1 .1 .0 .1 .0 .1, c .before .before .before .before .before .before .before .before .before .before .pre .0 .0))), c .before .before .before .before .before .if1 .taken)) (omega (arith, (c .before .before .before .before .before .before .before .loop .inv) .1, c .before .before .before .before .before .if1 .taken, c .before .before .before .before .before .before .before .before .before .before .pre .0 .0))
+      (c .before .before .bin-near .ensures ∙ ap (binOf (take ((c .before .before .before .before .before .before .before .loop .at) + (getD (c .before .before .before .before .before .before .before .before .before .before .args .counts .now) (c .before .before .before .before .before .before .before .loop .place) 0) + 1 - (c .before .before .before .before .before .before .before .loop .at)) (drop (c .before .before .before .before .before .before .before .loop .at) (c .before .before .before .before .before .before .before .before .before .before .args .reals .now)))) (sym (getD-take (c .before .before .before .before .before .before .before .before .before .before .args .g .axes) (c .before .before .before .before .before .before .before .before .before .before .args .t4) (c .before .before .before .before .before .before .before .loop .done) nan (c .before .before .before .before .before .if1 .taken)))) ∙ (c .before .before .before .before .before .before .before .loop .inv) .3,
 )
 
 -- src/training.rt:27:1
@@ -140,13 +143,15 @@ locate-spec =
     shared-slice-read-held
     add-end
     add-end-2
-    mul-bin-of
-    sub-bin-of
-    part-bin-of-start
-    part-bin-of-end
-    mul-bin-of-2
-    array-read-bin-of
-    bin-of-requires
+    mul-bin-near
+    sub-bin-near
+    part-bin-near-start
+    part-bin-near-end
+    mul-bin-near-2
+    array-read-bin-near
+    mul-bin-near-3
+    array-read-bin-near-2
+    bin-near-requires
     mul-bins
     array-write-bins
     mul-at
