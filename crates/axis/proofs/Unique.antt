@@ -21,6 +21,8 @@ use Rattle.axis.proofs.edges.bin_of.Kinds as bin-of
 use Rattle.axis.proofs.edges.bin_of.Reads as bin-of-reads
 use Rattle.axis.proofs.edges.weight_of.Kinds as weight-of
 use Rattle.axis.proofs.edges.weight_of.Reads as weight-of-reads
+use Rattle.axis.proofs.edges.drawn_bin.Kinds as drawn-bin
+use Rattle.axis.proofs.edges.drawn_bin.Reads as drawn-bin-reads
 use Rattle.axis.proofs.edges.point_of.Kinds as point-of
 use Rattle.axis.proofs.edges.point_of.Reads as point-of-reads
 use Rattle.axis.proofs.scans.is_rising.Kinds as is-rising
@@ -78,6 +80,13 @@ weight-of-total κs a = tt
 pub weight-of-unique : (κs : Lfts 1) (a : Dens κs weight-of.ps) (r r′ : Float) (s s′ : AtExit (endedOf 1 weight-of.ps weight-of.r) κs)
     → weight-of-reads.Post κs a r s → weight-of-reads.Post κs a r′ s′ → r ≡ r′
 weight-of-unique κs a r r′ s s′ p q = p ∙ sym q
+
+pub drawn-bin-total : (κs : Lfts 1) (a : Dens κs drawn-bin.ps) → drawn-bin-reads.Pre κs a
+drawn-bin-total κs a = tt
+
+pub drawn-bin-unique : (κs : Lfts 1) (a : Dens κs drawn-bin.ps) (r r′ : ℕ) (s s′ : AtExit (endedOf 1 drawn-bin.ps drawn-bin.r) κs)
+    → drawn-bin-reads.Post κs a r s → drawn-bin-reads.Post κs a r′ s′ → r ≡ r′
+drawn-bin-unique κs a r r′ s s′ p q = p ∙ sym q
 
 pub point-of-total : (κs : Lfts 1) (a : Dens κs point-of.ps) → point-of-reads.Pre κs a
 point-of-total κs a = tt

@@ -29,6 +29,10 @@ probeOf es x =
     (cond (not (inUnit x)) (refuses 5)
     (gives (weightOf es (binOf es x))))
 
+-- the bin that the unit draw r falls to
+unfoldable pub drawnBin : List Float → Float → ℕ
+drawnBin es r = wholeOf (mul binary64 (countOf (binsOf es)) r)
+
 -- the draw of r: with n·r rounded once, its whole part is the bin, and the rest the way into it
 unfoldable pub pointOf : List Float → Float → Point
 pointOf es r =

@@ -5,7 +5,7 @@ ghost use lib.ListN.{length, getD};
 ghost use lib.Ieee.{nan};
 ghost use Rattle.axis.specs.Edges.{binsOf, widthOf, weightOf, evenFrom};
 ghost use Rattle.axis.specs.Search.{searchOf};
-ghost use Rattle.axis.specs.Calls.{pointOf};
+ghost use Rattle.axis.specs.Calls.{drawnBin, pointOf};
 use crate::Point;
 
 // `half` where the test passed, else 0.
@@ -67,6 +67,13 @@ pub fn weight_of(edges: &[f64], i: usize) -> f64
     ensures { λ r. ⌜ r ≡ weightOf (now (edges .entry)) i ⌝ }
 {
     real::count(bins(edges) as u64) * width(edges, i)
+}
+
+// The bin that the unit draw r falls to.
+pub fn drawn_bin(edges: &[f64], r: f64) -> usize
+    ensures { λ i. ⌜ i ≡ drawnBin (now (edges .entry)) r ⌝ }
+{
+    real::whole(real::count(bins(edges) as u64) * r) as usize
 }
 
 // The point that the unit draw r gives, with its weight.

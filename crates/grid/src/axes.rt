@@ -1,10 +1,7 @@
 // The axes of a grid: each works on its own stretch of the lent edges, wherever that begins.
 ghost use mathlib.Core.Path.{_≡_};
 ghost use mathlib.Core.Bool.{true};
-ghost use lib.Ieee.{binary64, mul};
 ghost use Rattle.real.specs.Numbers.{one64};
-ghost use Rattle.real.specs.Count.{countOf};
-ghost use Rattle.real.specs.Whole.{wholeOf};
 ghost use Rattle.axis.specs.Edges.{wellFormed, inUnit};
 ghost use Rattle.model.specs.Draw.{placeOn, walked, placedFrom, flooredOf};
 ghost use Rattle.grid.specs.Drawn.{axesAt, placedBy, Filled, underFloor, Stands};
@@ -43,13 +40,6 @@ fn place_on(edges: &[f64], unit: f64, evenly: bool) -> Point
     axis::edges::point_of(edges, unit)
 }
 
-// The bin that a unit draw falls to, of so many.
-fn drawn_bin(many: usize, unit: f64) -> usize
-    ensures { λ r. ⌜ r ≡ wholeOf (mul binary64 (countOf many) unit) ⌝ }
-{
-    real::whole(real::count(many as u64) * unit) as usize
-}
-
 // Draws a coordinate on each axis.
 fn walk_axes(reals: &[f64], counts: &[u64], g: AxesAt, evenly: bool, start: MonteCarloRng) -> Walked
     requires { ⌜ Stands (now reals) (now counts) g ⌝ }
@@ -66,13 +56,14 @@ fn walk_axes(reals: &[f64], counts: &[u64], g: AxesAt, evenly: bool, start: Mont
         let held = counts[place] as usize;
         let unit = stream.unit();
         let end = at + held + 1;
-        let point = place_on(&reals[at..end], unit.value, evenly);
+        let edges = &reals[at..end];
+        let point = place_on(edges, unit.value, evenly);
         coordinates[done] = point.at;
         weight = weight * point.weight;
         stream = unit.stream;
         at = at + (6 * g.most + 1);
         place = place + (3 * g.most + 2);
-        near[done] = drawn_bin(held, unit.value);
+        near[done] = axis::edges::drawn_bin(edges, unit.value);
         done += 1;
     }
     Walked {

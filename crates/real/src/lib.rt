@@ -52,10 +52,13 @@ pub fn whole(x: f64) -> u64
     0
 }
 
-// The double nearest n, n itself up to 2^53.
+// The double nearest n, n itself up to 2^53; there one instruction makes it.
 pub fn count(n: u64) -> f64
     ensures { λ r. ⌜ r ≡ countOf n ⌝ }
 {
+    if n <= 9007199254740992 {
+        return n as f64;
+    }
     std::num::nearest_u64_to_f64(n)
 }
 
