@@ -82,7 +82,7 @@ pub fn locate(
 }
 
 // 1 for a zero.
-fn zero_count(v: f64) -> u64
+pub fn zero_count(v: f64) -> u64
     ensures { λ r. ⌜ r ≡ zeroCount v ⌝ }
 {
     if v == 0.0 { 1 } else { 0 }

@@ -1,41 +1,102 @@
--- A well-formed record refuses a value exactly where the record after it would not be well formed.
-use mathlib.Core.Path.{sym, ap, _∙_}
-use Rattle.accumulator.specs.declared.StatisticsAccumulator.{StatisticsAccumulator}
-use Rattle.accumulator.specs.Calls.{addSampleOf}
+-- A well-formed record with a value added is well formed exactly where what changes may be kept.
+use mathlib.Core.Path.{sym}
+use native.Mathlib.Omega.{arith}
+use Rattle.accumulator.proofs.Counts.{within, counts-of}
 use Rattle.grid.specs.Memory.{recordAt}
-use Rattle.grid.proofs.Adds.{kept-told, lost-told, told-record, told-refused}
+use Rattle.grid.proofs.Trains.{zero-count-small}
+use Rattle.grid.proofs.Adds.{added-fits}
 use borrow.Author.Needs.{needs}
 use Rattle.grid.proofs.adding.fits_with.Statement.{statement}
 use Rattle.grid.proofs.adding.fits_with.Tie as tie
 use Rattle.grid.proofs.adding.fits_with.Reads as reads
 use Rattle.grid.proofs.adding.fits_with.Lts as lts
-use Rattle.accumulator.proofs.StatisticsAccumulator.add_sample.Reads as add-sample-reads
-use Rattle.grid.proofs.accounts.load.Reads as load-reads
+use Rattle.grid.proofs.training.zero_count.Reads as zero-count-reads
+use Rattle.real.proofs.finite.Reads as finite-reads
 
--- src/adding.rt:20:11
-load-requires : tie.Need-load-requires
-load-requires c κs = search needs
+-- src/adding.rt:21:15
+mul-sum : tie.Need-mul-sum
+mul-sum c = search needs
 
--- src/adding.rt:20:11
-add-sample-requires : tie.Need-add-sample-requires
-add-sample-requires c κs = search needs
+-- src/adding.rt:21:15
+shared-slice-read-sum : tie.Need-shared-slice-read-sum
+shared-slice-read-sum c = search needs
 
--- src/adding.rt:21:31
-enum-told : tie.Need-enum-told
-enum-told c = search needs
+-- src/adding.rt:22:25
+add-squares : tie.Need-add-squares
+add-squares c = search needs
 
--- src/adding.rt:22:32
-enum-told-2 : tie.Need-enum-told-2
-enum-told-2 c = search needs
+-- src/adding.rt:22:19
+mul-squares : tie.Need-mul-squares
+mul-squares c = search needs
 
--- src/adding.rt:16:1
+-- src/adding.rt:22:19
+shared-slice-read-squares : tie.Need-shared-slice-read-squares
+shared-slice-read-squares c = search needs
+
+-- src/adding.rt:23:19
+mul-waiting : tie.Need-mul-waiting
+mul-waiting c = search needs
+
+-- src/adding.rt:23:19
+shared-slice-read-waiting : tie.Need-shared-slice-read-waiting
+shared-slice-read-waiting c = search needs
+
+-- src/adding.rt:23:19
+add-waiting : tie.Need-add-waiting
+unfolding recordAt
+add-waiting c = omega (arith, within _ (counts-of _ (c .before .before .before .before .before .pre .2)) .waiting)
+
+-- src/adding.rt:24:24
+add-zeros : tie.Need-add-zeros
+add-zeros c = search needs
+
+-- src/adding.rt:24:17
+mul-zeros : tie.Need-mul-zeros
+mul-zeros c = search needs
+
+-- src/adding.rt:24:17
+shared-slice-read-zeros : tie.Need-shared-slice-read-zeros
+shared-slice-read-zeros c = search needs
+
+-- src/adding.rt:24:33
+zero-count-requires : tie.Need-zero-count-requires
+zero-count-requires c κs = search needs
+
+-- src/adding.rt:24:17
+add-zeros-2 : tie.Need-add-zeros-2
+unfolding recordAt
+add-zeros-2 c = omega (arith, within _ (counts-of _ (c .before .before .before .before .before .before .before .pre .2)) .waitingZeros, c .zero-count .ensures, zero-count-small (c .before .before .before .before .before .before .before .args .v))
+
+-- src/adding.rt:25:7
+finite-requires : tie.Need-finite-requires
+finite-requires c κs = search needs
+
+-- src/adding.rt:25:27
+finite-requires-2 : tie.Need-finite-requires-2
+finite-requires-2 c κs = search needs
+
+-- src/adding.rt:17:1
 returns : tie.Need-returns
-returns c = kept-told (recordAt (c .before .before .before .before .before .before .args .reals .now) (c .before .before .before .before .before .before .args .counts .now) (c .before .before .before .before .before .before .args .r) (c .before .before .before .before .before .before .args .c)) (c .before .before .before .before .before .before .args .v) (c .before .before .before .before .before .before .args .number) (c .before .before .before .before .before .before .pre .2) (c .before .before .before .before .before .before .pre .3) (c .enum-told .given .0 .0) (told-record (c .before .before .add-sample .result) (c .enum-told .given .0 .0) (addSampleOf (recordAt (c .before .before .before .before .before .before .args .reals .now) (c .before .before .before .before .before .before .args .counts .now) (c .before .before .before .before .before .before .args .r) (c .before .before .before .before .before .before .args .c)) (c .before .before .before .before .before .before .args .v) (c .before .before .before .before .before .before .args .number)) (c .before .before .add-sample .ensures ∙ ap (λ (a : StatisticsAccumulator). addSampleOf a (c .before .before .before .before .before .before .args .v) (c .before .before .before .before .before .before .args .number)) (c .before .before .before .load .ensures)) (sym (c .enum-told .given .1)))
-
--- src/adding.rt:16:1
-returns-2 : tie.Need-returns-2
-returns-2 c = lost-told (recordAt (c .before .before .before .before .before .before .args .reals .now) (c .before .before .before .before .before .before .args .counts .now) (c .before .before .before .before .before .before .args .r) (c .before .before .before .before .before .before .args .c)) (c .before .before .before .before .before .before .args .v) (c .before .before .before .before .before .before .args .number) (c .before .before .before .before .before .before .pre .2) (c .before .before .before .before .before .before .pre .3) (c .enum-told2 .given .0 .0) (told-refused (c .before .before .add-sample .result) (c .enum-told2 .given .0 .0) (addSampleOf (recordAt (c .before .before .before .before .before .before .args .reals .now) (c .before .before .before .before .before .before .args .counts .now) (c .before .before .before .before .before .before .args .r) (c .before .before .before .before .before .before .args .c)) (c .before .before .before .before .before .before .args .v) (c .before .before .before .before .before .before .args .number)) (c .before .before .add-sample .ensures ∙ ap (λ (a : StatisticsAccumulator). addSampleOf a (c .before .before .before .before .before .before .args .v) (c .before .before .before .before .before .before .args .number)) (c .before .before .before .load .ensures)) (sym (c .enum-told2 .given .1)))
+unfolding recordAt
+returns c = rw (c .before .finite .ensures, c .finite2 .ensures, c .before .before .zero-count .ensures) (sym (added-fits (recordAt (c .before .before .before .before .before .before .before .before .before .args .reals .now) (c .before .before .before .before .before .before .before .before .before .args .counts .now) (c .before .before .before .before .before .before .before .before .before .args .r) (c .before .before .before .before .before .before .before .before .before .args .c)) (c .before .before .before .before .before .before .before .before .before .args .v) (c .before .before .before .before .before .before .before .before .before .args .number) (c .before .before .before .before .before .before .before .before .before .pre .2)))
 
 pub fits-with-spec : {M : Type 1} → statement M
 fits-with-spec =
-    tie.close (tie.spec load-requires add-sample-requires enum-told enum-told-2 returns returns-2)
+    tie.close
+    (tie.spec
+    mul-sum
+    shared-slice-read-sum
+    add-squares
+    mul-squares
+    shared-slice-read-squares
+    mul-waiting
+    shared-slice-read-waiting
+    add-waiting
+    add-zeros
+    mul-zeros
+    shared-slice-read-zeros
+    zero-count-requires
+    add-zeros-2
+    finite-requires
+    finite-requires-2
+    returns)

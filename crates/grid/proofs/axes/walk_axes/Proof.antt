@@ -15,7 +15,7 @@ use Rattle.grid.proofs.axes.walk_axes.Reads as reads
 use Rattle.grid.proofs.axes.walk_axes.Lts as lts
 use Rattle.grid.proofs.axes.place_on.Reads as place-on-reads
 use Rattle.stream.proofs.MonteCarloRng.unit.Reads as unit-reads
-use Rattle.grid.proofs.axes.drawn_bin.Reads as drawn-bin-reads
+use Rattle.axis.proofs.edges.drawn_bin.Reads as drawn-bin-reads
 
 abbrev Inv-loop : tie.InvT-loop
 Inv-loop reals counts g evenly coordinates₀ near₀ weight₀ stream₀ at₀ place₀ done₀ coordinates near weight stream at place done =
@@ -52,20 +52,20 @@ add-end-2 : tie.Need-add-end-2 Inv-loop μ-loop
 add-end-2 c = let n = next (c .before .before .before .before .before .before .before .args .g .most) (c .before .before .before .before .before .before .before .args .reals .now) (c .before .before .before .before .before .before .before .args .counts .now) (c .before .before .before .before .before .before .before .args .g .axes) (c .before .before .before .before .loop .done) (c .before .before .before .before .loop .at) (c .before .before .before .before .loop .place) (c .before .before .if1 .taken) (c .before .before .before .before .loop .inv .2) in omega arith
 
 -- src/axes.rt:32:43
-mul-place-on : tie.Need-mul-place-on Inv-loop μ-loop
-mul-place-on c = let n = next (c .before .before .before .before .before .before .before .args .g .most) (c .before .before .before .before .before .before .before .args .reals .now) (c .before .before .before .before .before .before .before .args .counts .now) (c .before .before .before .before .before .before .before .args .g .axes) (c .before .before .before .before .loop .done) (c .before .before .before .before .loop .at) (c .before .before .before .before .loop .place) (c .before .before .if1 .taken) (c .before .before .before .before .loop .inv .2) in omega arith
+mul-edges : tie.Need-mul-edges Inv-loop μ-loop
+mul-edges c = let n = next (c .before .before .before .before .before .before .before .args .g .most) (c .before .before .before .before .before .before .before .args .reals .now) (c .before .before .before .before .before .before .before .args .counts .now) (c .before .before .before .before .before .before .before .args .g .axes) (c .before .before .before .before .loop .done) (c .before .before .before .before .loop .at) (c .before .before .before .before .loop .place) (c .before .before .if1 .taken) (c .before .before .before .before .loop .inv .2) in omega arith
 
 -- src/axes.rt:32:43
-sub-place-on : tie.Need-sub-place-on Inv-loop μ-loop
-sub-place-on c = let n = next (c .before .before .before .before .before .before .before .args .g .most) (c .before .before .before .before .before .before .before .args .reals .now) (c .before .before .before .before .before .before .before .args .counts .now) (c .before .before .before .before .before .before .before .args .g .axes) (c .before .before .before .before .loop .done) (c .before .before .before .before .loop .at) (c .before .before .before .before .loop .place) (c .before .before .if1 .taken) (c .before .before .before .before .loop .inv .2) in omega arith
+sub-edges : tie.Need-sub-edges Inv-loop μ-loop
+sub-edges c = let n = next (c .before .before .before .before .before .before .before .args .g .most) (c .before .before .before .before .before .before .before .args .reals .now) (c .before .before .before .before .before .before .before .args .counts .now) (c .before .before .before .before .before .before .before .args .g .axes) (c .before .before .before .before .loop .done) (c .before .before .before .before .loop .at) (c .before .before .before .before .loop .place) (c .before .before .if1 .taken) (c .before .before .before .before .loop .inv .2) in omega arith
 
 -- src/axes.rt:32:43
-part-place-on-start : tie.Need-part-place-on-start Inv-loop μ-loop
-part-place-on-start c = let n = next (c .before .before .before .before .before .before .before .args .g .most) (c .before .before .before .before .before .before .before .args .reals .now) (c .before .before .before .before .before .before .before .args .counts .now) (c .before .before .before .before .before .before .before .args .g .axes) (c .before .before .before .before .loop .done) (c .before .before .before .before .loop .at) (c .before .before .before .before .loop .place) (c .before .before .if1 .taken) (c .before .before .before .before .loop .inv .2) in omega arith
+part-edges-start : tie.Need-part-edges-start Inv-loop μ-loop
+part-edges-start c = let n = next (c .before .before .before .before .before .before .before .args .g .most) (c .before .before .before .before .before .before .before .args .reals .now) (c .before .before .before .before .before .before .before .args .counts .now) (c .before .before .before .before .before .before .before .args .g .axes) (c .before .before .before .before .loop .done) (c .before .before .before .before .loop .at) (c .before .before .before .before .loop .place) (c .before .before .if1 .taken) (c .before .before .before .before .loop .inv .2) in omega arith
 
 -- src/axes.rt:32:43
-part-place-on-end : tie.Need-part-place-on-end Inv-loop μ-loop
-part-place-on-end c = let n = next (c .before .before .before .before .before .before .before .args .g .most) (c .before .before .before .before .before .before .before .args .reals .now) (c .before .before .before .before .before .before .before .args .counts .now) (c .before .before .before .before .before .before .before .args .g .axes) (c .before .before .before .before .loop .done) (c .before .before .before .before .loop .at) (c .before .before .before .before .loop .place) (c .before .before .if1 .taken) (c .before .before .before .before .loop .inv .2) in omega arith
+part-edges-end : tie.Need-part-edges-end Inv-loop μ-loop
+part-edges-end c = let n = next (c .before .before .before .before .before .before .before .args .g .most) (c .before .before .before .before .before .before .before .args .reals .now) (c .before .before .before .before .before .before .before .args .counts .now) (c .before .before .before .before .before .before .before .args .g .axes) (c .before .before .before .before .loop .done) (c .before .before .before .before .loop .at) (c .before .before .before .before .loop .place) (c .before .before .if1 .taken) (c .before .before .before .before .loop .inv .2) in omega arith
 
 -- src/axes.rt:32:13
 place-on-requires : tie.Need-place-on-requires Inv-loop μ-loop
@@ -148,10 +148,10 @@ walk-axes-spec =
     unit-requires
     add-end
     add-end-2
-    mul-place-on
-    sub-place-on
-    part-place-on-start
-    part-place-on-end
+    mul-edges
+    sub-edges
+    part-edges-start
+    part-edges-end
     place-on-requires
     mul-coordinates
     array-write-coordinates
