@@ -20,11 +20,6 @@ use Rattle.accumulator.proofs.Counts.{within, counts-of}
 use Rattle.model.specs.Train.{numbered}
 use Rattle.grid.specs.Absorbed.{answered, withSample}
 
--- whether an answer is one that gives
-abbrev given : Paper StatisticsAccumulator → Bool
-given (gives a) = true
-given (refuses n) = false
-
 -- a training sample's number is one that an accumulator takes
 number-taken : (k : ℕ) → numbered k ≡ true → account.numbered k ≡ true
 unfolding numbered account.numbered
@@ -52,32 +47,6 @@ module _ (a : StatisticsAccumulator) (v : Float) (k : ℕ) (well : wellFormed a 
   unfolding wellFormed
   takes-it e = accepted a v k (both (finiteSums a) (boundedCounts a) well .1) (rw (number-taken k n) e)
 
-  refuses-it : wellFormed (addedOf a v k) ≡ false → (b : StatisticsAccumulator) → addSampleOf a v k ≡ gives b → ⊥
-  unfolding addSampleOf keptOf
-  refuses-it e b h = last (finiteOf v) (rw (well, number-taken k n, e) at h)
-    where
-      last : (f : Bool) → cond (not f) (refuses 7) (refuses 8) ≡ gives b → ⊥
-      last true q = false≢true (ap given q)
-      last false q = false≢true (ap given q)
-
-  pub kept-told : (b : StatisticsAccumulator) → addSampleOf a v k ≡ gives b → true ≡ wellFormed (addedOf a v k)
-  kept-told b h = told (wellFormed (addedOf a v k)) refl
-    where
-      told : (t : Bool) → wellFormed (addedOf a v k) ≡ t → true ≡ t
-      told true e = refl
-      told false e = absurd (refuses-it e b h)
-
-  pub lost-told : (m : ℕ) → addSampleOf a v k ≡ refuses m → false ≡ wellFormed (addedOf a v k)
-  lost-told m h = told (wellFormed (addedOf a v k)) refl
-    where
-      apart : gives (addedOf a v k) ≡ refuses m → ⊥
-      apart q = false≢true (sym (ap given q))
-
-      told : (t : Bool) → wellFormed (addedOf a v k) ≡ t → false ≡ t
-      told true e = absurd (apart (sym (takes-it e) ∙ h))
-      told false e = refl
-
--- the answer as the code has it
 pub told-record : (p : Changed) (b : StatisticsAccumulator) (o : Paper StatisticsAccumulator) → paperChanged p ≡ o → changed.Record b ≡ p → o ≡ gives b
 unfolding paperChanged
 told-record p b o e q = sym e ∙ sym (ap paperChanged q)
