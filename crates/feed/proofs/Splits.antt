@@ -23,9 +23,6 @@ use Rattle.feed.specs.declared.Run.{Run}
 use Rattle.feed.specs.Said.{Said, isOverIn, isOverOf, overOf, going, refusingAt, refusing}
 use Rattle.feed.specs.Turns.{TurnEnd, turnEnd, trainedOf, batchEnds, trainOf}
 
-never : {P : Type 0} → true ≡ false → P
-never e = let z : _≡_ {A = ℕ} 0 1 = cc in absurd (omega arith)
-
 -- ---- the trainings of two rows
 
 -- so many more were trained before
@@ -105,3 +102,139 @@ going-on run p q s s′ a c =
     let at : (run .at + 11 * (a + c)) % 2 ^ 64 ≡ ((run .at + 11 * a) % 2 ^ 64 + 11 * c) % 2 ^ 64 = omega arith in
     let taken : 11 * (a + c) ≡ 11 * a + 11 * c = omega arith in
     rw (number, at, taken)
+
+further-either : (n : ℕ) (b : Bool) (x y x′ y′ : Said) → x′ ≡ further n x → y′ ≡ further n y → cond b x′ y′ ≡ further n (cond b x y)
+further-either n true x y x′ y′ p q = p
+further-either n false x y x′ y′ p q = q
+
+refusing-further : (n k : ℕ) (o : Said) → refusing (further n o) k ≡ further n (refusing o k)
+unfolding refusing refusingAt
+refusing-further n k o = refl
+
+trained-on : (run : Run) (s : MonteCarloRng) (a : ℕ) (b : Batched) → trainedOf run (batched (b .refused) (a + b .done) (b .stream)) ≡ further (11 * a) (trainedOf (going run phase.Samples s a (11 * a) .run) b)
+unfolding trainedOf
+trained-on run s a b =
+    let o = going (going run phase.Samples s a (11 * a) .run) phase.Samples (b .stream) (b .done) (11 * b .done) in
+    let o′ = going run phase.Samples (b .stream) (a + b .done) (11 * (a + b .done)) in
+    let g = going-on run phase.Samples phase.Samples (b .stream) s a (b .done) in
+    further-either (11 * a) (not (eqb (b .refused) 0)) (refusing o (b .refused)) o (refusing o′ (b .refused)) o′ (ap (λ (x : Said). refusing x (b .refused)) g ∙ refusing-further (11 * a) (b .refused) o) g
+
+-- behind a turn that did not end the run, the turn of a further row
+abbrev pub followed : TurnEnd → TurnEnd → TurnEnd
+followed o e = turnEnd (further (o .answer .taken) (e .answer)) (e .table) (e .state)
+
+abbrev pub behind : List ℕ → TurnEnd → List Float → TurnEnd
+behind table o fs = cond (isOverOf (o .answer .run)) o (followed o (trainOf (o .answer .run) table fs (o .state)))
+
+if-true : {A : Type 0} (b : Bool) (x y : A) → b ≡ true → cond b x y ≡ x
+if-true b x y e = rw e
+
+if-false : {A : Type 0} (b : Bool) (x y : A) → b ≡ false → cond b x y ≡ y
+if-false b x y e = rw e
+
+over-stays : (run : Run) (table : List ℕ) (fs : List Float) (x : BatchEnd) → not (eqb (x .answer .refused) 0) ≡ true → batchEnds run table x ≡ behind table (batchEnds run table x) fs
+unfolding batchEnds trainedOf refusing refusingAt overOf isOverOf isOverIn
+over-stays run table fs x e =
+    let o = going run phase.Samples (x .answer .stream) (x .answer .done) (11 * x .answer .done) in
+    let r = if-true (not (eqb (x .answer .refused) 0)) (refusing o (x .answer .refused)) o e in
+    let over : isOverOf (trainedOf run (x .answer) .run) ≡ true = ap (λ (s : Said). isOverOf (s .run)) r in
+    let b = batchEnds run table x in
+    sym (if-true (isOverOf (b .answer .run)) b (followed b (trainOf (b .answer .run) table fs (b .state))) over)
+
+number-fits : (n k : ℕ) → k < 2 ^ 64 → (0 < n → k + n ≤ 2 ^ 53 + 1) → k + n < 2 ^ 64
+number-fits zero k h i = omega arith
+number-fits (suc n) k h i = omega (arith, i (omega arith))
+
+plus-fits : (k d n : ℕ) → d ≡ n → k + n < 2 ^ 64 → plus k d ≡ k + n
+unfolding plus
+plus-fits k d n e h = rw e (omega arith)
+
+module _ (table : List ℕ) (m : Memory) (s : MonteCarloRng) (k : ℕ) (xs : List Float) where
+  batch-faulty : not (eqb (stateFault table (m .reals) (m .counts)) 0) ≡ true → batchOf table m s xs k ≡ batchEnd (batched (stateFault table (m .reals) (m .counts)) 0 s) m
+  unfolding batchOf
+  batch-faulty e = rw e
+
+  batch-clear : not (eqb (stateFault table (m .reals) (m .counts)) 0) ≡ false → batchOf table m s xs k ≡ stepsOf table xs m s k 0
+  unfolding batchOf
+  batch-clear e = rw e
+
+module _ (table : List ℕ) (large : Words table) (run : Run) (word : run .number < 2 ^ 64) (es fs : List Float) (m : Memory) where
+  abbrev s : MonteCarloRng
+  s = run .stream
+
+  abbrev k : ℕ
+  k = run .number
+
+  -- the first row's end, where the state is clear, and the second's from there on
+  abbrev first : BatchEnd
+  first = stepsOf table es m s k 0
+
+  abbrev second : BatchEnd
+  second = stepsOf table fs (first .state) (first .answer .stream) (k + length es) 0
+
+  -- both rows alike end as x does
+  both-end : (x : BatchEnd) → not (eqb (x .answer .refused) 0) ≡ true → batchOf table m s (es ++ fs) k ≡ x → batchOf table m s es k ≡ x → trainOf run table (es ++ fs) m ≡ behind table (trainOf run table es m) fs
+  unfolding trainOf
+  both-end x e p q = ap (batchEnds run table) p ∙ over-stays run table fs x e ∙ ap (λ (b : BatchEnd). behind table (batchEnds run table b) fs) (sym q)
+
+  module _ (judged : not (eqb (stateFault table (m .reals) (m .counts)) 0) ≡ false) where
+    all : batchOf table m s (es ++ fs) k ≡ carried table fs (k + length es) first
+    all = batch-clear table m s k (es ++ fs) judged ∙ steps-append table es fs m s k 0
+
+    rest-refused : not (eqb (first .answer .refused) 0) ≡ true → trainOf run table (es ++ fs) m ≡ behind table (trainOf run table es m) fs
+    rest-refused e =
+        both-end first e (all ∙ if-true (not (eqb (first .answer .refused) 0)) first (stepsOf table fs (first .state) (first .answer .stream) (k + length es) (first .answer .done)) e) (batch-clear table m s k es judged)
+
+    module _ (e : not (eqb (first .answer .refused) 0) ≡ false) where
+      through : Through table (length es) k 0 first
+      through =
+          steps-through table large es m s k 0 (eqb-true (stateFault table (m .reals) (m .counts)) 0 (not-false (eqb (stateFault table (m .reals) (m .counts)) 0) judged))
+          (eqb-true (first .answer .refused) 0 (not-false (eqb (first .answer .refused) 0) e))
+
+      abbrev gone : Said
+      gone = going run phase.Samples (first .answer .stream) (first .answer .done) (11 * first .answer .done)
+
+      -- both rows as one
+      whole : trainOf run table (es ++ fs) m ≡ turnEnd (further (11 * first .answer .done) (trainedOf (gone .run) (second .answer))) table (second .state)
+      unfolding trainOf batchEnds
+      whole =
+          ap (batchEnds run table)
+          (all
+            ∙ if-false (not (eqb (first .answer .refused) 0)) first (stepsOf table fs (first .state) (first .answer .stream) (k + length es) (first .answer .done)) e
+            ∙ ap (stepsOf table fs (first .state) (first .answer .stream) (k + length es)) (sym (add-zero (first .answer .done)))
+            ∙ steps-moved table fs (first .state) (first .answer .stream) (k + length es) (first .answer .done) 0)
+          ∙ ap (λ (o : Said). turnEnd o table (second .state)) (trained-on run (first .answer .stream) (first .answer .done) (second .answer))
+
+      -- the second row's turn
+      next : batchOf table (first .state) (first .answer .stream) fs (plus k (first .answer .done)) ≡ second
+      next =
+          let f = stateFault table (first .state .reals) (first .state .counts) in
+          let t = through in
+          let number = plus-fits k (first .answer .done) (length es) (omega (arith, t .done)) (number-fits (length es) k word (t .number)) in
+          let clear : not (eqb f 0) ≡ false = rw (t .clear) in
+          ap (batchOf table (first .state) (first .answer .stream) fs) number ∙ batch-clear table (first .state) (first .answer .stream) (k + length es) fs clear
+
+      parts : behind table (turnEnd gone table (first .state)) fs ≡ turnEnd (further (11 * first .answer .done) (trainedOf (gone .run) (second .answer))) table (second .state)
+      unfolding trainOf batchEnds going isOverOf isOverIn
+      parts = ap (λ (b : BatchEnd). turnEnd (further (11 * first .answer .done) (trainedOf (gone .run) (b .answer))) table (b .state)) next
+
+      started : trainOf run table es m ≡ turnEnd gone table (first .state)
+      unfolding trainOf batchEnds trainedOf
+      started =
+          ap (batchEnds run table) (batch-clear table m s k es judged)
+          ∙ ap (λ (o : Said). turnEnd o table (first .state)) (if-false (not (eqb (first .answer .refused) 0)) (refusing gone (first .answer .refused)) gone e)
+
+      rest-goes : trainOf run table (es ++ fs) m ≡ behind table (trainOf run table es m) fs
+      rest-goes = whole ∙ sym parts ∙ ap (λ (o : TurnEnd). behind table o fs) (sym started)
+
+    by-first : (b : Bool) → not (eqb (first .answer .refused) 0) ≡ b → trainOf run table (es ++ fs) m ≡ behind table (trainOf run table es m) fs
+    by-first true e = rest-refused e
+    by-first false e = rest-goes e
+
+  by-state : (b : Bool) → not (eqb (stateFault table (m .reals) (m .counts)) 0) ≡ b → trainOf run table (es ++ fs) m ≡ behind table (trainOf run table es m) fs
+  by-state true e = both-end (batchEnd (batched (stateFault table (m .reals) (m .counts)) 0 s) m) e (batch-faulty table m s k (es ++ fs) e) (batch-faulty table m s k es e)
+  by-state false e = by-first e (not (eqb (first .answer .refused) 0)) refl
+
+  -- the law
+  pub row-split : trainOf run table (es ++ fs) m ≡ behind table (trainOf run table es m) fs
+  row-split = by-state (not (eqb (stateFault table (m .reals) (m .counts)) 0)) refl

@@ -1,11 +1,9 @@
+-- The fields one by one.
 use mathlib.Core.Path.{refl}
 use Rattle.feed.specs.Said.{beginningOf}
 use Rattle.feed.proofs.beginning.Statement.{statement}
 use Rattle.feed.proofs.beginning.Tie as tie
-use Rattle.feed.proofs.beginning.Reads as reads
-use Rattle.feed.proofs.beginning.Lts as lts
 
--- src/lib.rt:52:1
 returns : tie.Need-returns
 unfolding beginningOf
 returns c = refl

@@ -1,3 +1,4 @@
+-- What is due decides, and no turn takes more bytes than there are.
 use mathlib.Core.Path.{ap}
 use native.Mathlib.Omega.{arith}
 use Rattle.feed.specs.Said.{Said}
@@ -8,96 +9,70 @@ use Rattle.feed.proofs.Within.{turned-within}
 use borrow.Author.Needs.{needs}
 use Rattle.feed.proofs.turn.Statement.{statement}
 use Rattle.feed.proofs.turn.Tie as tie
-use Rattle.feed.proofs.turn.Reads as reads
-use Rattle.feed.proofs.turn.Lts as lts
-use Rattle.feed.proofs.planning.read_plan.Reads as read-plan-reads
-use Rattle.feed.proofs.saying.waits.Reads as waits-reads
-use Rattle.feed.proofs.turns.read_samples.Reads as read-samples-reads
-use Rattle.feed.proofs.turns.read_stream.Reads as read-stream-reads
 
--- src/lib.rt:99:62
 enum-told : tie.Need-enum-told
 enum-told c = search needs
 
--- src/lib.rt:99:24
 read-plan-requires : tie.Need-read-plan-requires
 read-plan-requires c κs = search needs
 
--- src/lib.rt:100:26
 enum-told-2 : tie.Need-enum-told-2
 enum-told-2 c = search needs
 
--- src/lib.rt:100:26
 read-stream-requires : tie.Need-read-stream-requires
 read-stream-requires c κs = search needs
 
--- src/lib.rt:105:13
 enum-told-3 : tie.Need-enum-told-3
 enum-told-3 c = search needs
 
--- src/lib.rt:101:27
 read-samples-requires : tie.Need-read-samples-requires
 read-samples-requires c κs = search needs
 
--- src/lib.rt:111:24
 enum-told-4 : tie.Need-enum-told-4
 enum-told-4 c = search needs
 
--- src/lib.rt:111:24
 waits-requires : tie.Need-waits-requires
 waits-requires c κs = search needs
 
--- src/lib.rt:83:1
 same-length : tie.Need-same-length
 same-length c = search needs
 
--- src/lib.rt:83:1
 same-length-2 : tie.Need-same-length-2
 same-length-2 c = search needs
 
--- src/lib.rt:83:1
 same-length-3 : tie.Need-same-length-3
 same-length-3 c = search needs
 
--- src/lib.rt:83:1
 returns : tie.Need-returns
 unfolding turnBy
 returns c = let e = turn-due _ _ _ _ _ _ _ _ _ (c .before .before .before .before .before .before .before .before .before .before .enum-told .given .1) (c .before .before .before .before .before .before .read-plan .ensures) in
     (e, turned-within _ _ _ _ _ _ _ _ (λ i. omega (arith, c .before .before .before .before .before .before .before .before .before .before .before .before .before .before .before .before .before .shared-slice-known .given i)) e)
 
--- src/lib.rt:83:1
 returns-2 : tie.Need-returns-2
 unfolding turnBy
 returns-2 c = let e = turn-due _ _ _ _ _ _ _ _ _ (c .before .enum-told2 .given .1) (let a = c .before .before .before .before .before .before .before .before .before .args in ap (λ (o : Said). turnEnd o (a .table .now) (memory (a .reals .now) (a .counts .now))) (c .read-stream .ensures)) in
     (e, turned-within _ _ _ _ _ _ _ _ (λ i. omega (arith, c .before .before .before .before .before .before .before .before .shared-slice-known .given i)) e)
 
--- src/lib.rt:83:1
 same-length-4 : tie.Need-same-length-4
 same-length-4 c = search needs
 
--- src/lib.rt:83:1
 same-length-5 : tie.Need-same-length-5
 same-length-5 c = search needs
 
--- src/lib.rt:83:1
 same-length-6 : tie.Need-same-length-6
 same-length-6 c = search needs
 
--- src/lib.rt:83:1
 same-length-7 : tie.Need-same-length-7
 same-length-7 c = search needs
 
--- src/lib.rt:83:1
 same-length-8 : tie.Need-same-length-8
 same-length-8 c = search needs
 
--- src/lib.rt:83:1
 returns-3 : tie.Need-returns-3
 unfolding turnBy
 returns-3 c = let e = turn-due _ _ _ _ _ _ _ _ _ (c .before .before .before .before .before .before .before .before .before .before .before .before .before .before .enum-told3 .given .1) (c .before .before .before .before .before .before .before .before .read-samples .ensures) in
     (e, turned-within _ _ _ _ _ _ _ _ (λ i. omega (arith, c .before .before .before .before .before .before .before .before .before .before .before .before .before .before .before .before .before .before .before .before .before .shared-slice-known .given i)) e)
 
--- src/lib.rt:83:1
 returns-4 : tie.Need-returns-4
 unfolding turnBy
 returns-4 c = let e = turn-due _ _ _ _ _ _ _ _ _ (c .before .enum-told4 .given .1) (let a = c .before .before .before .before .before .before .before .before .before .args in ap (λ (o : Said). turnEnd o (a .table .now) (memory (a .reals .now) (a .counts .now))) (c .waits .ensures)) in

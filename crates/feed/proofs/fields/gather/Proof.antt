@@ -9,10 +9,6 @@ use Rattle.feed.specs.Fields.{rowFrom}
 use Rattle.feed.proofs.Rows.{sample-whole, row-stop, row-full, row-next}
 use Rattle.feed.proofs.fields.gather.Statement.{statement}
 use Rattle.feed.proofs.fields.gather.Tie as tie
-use Rattle.feed.proofs.fields.gather.Reads as reads
-use Rattle.feed.proofs.fields.gather.Lts as lts
-use Rattle.feed.proofs.fields.is_sample.Reads as is-sample-reads
-use Rattle.feed.proofs.numbers.double_at.Reads as double-at-reads
 
 abbrev Inv-loop : tie.InvT-loop
 Inv-loop bytes evaluations₀ many₀ at₀ evaluations many at =
@@ -22,51 +18,39 @@ Inv-loop bytes evaluations₀ many₀ at₀ evaluations many at =
 abbrev μ-loop : tie.MeasureT-loop
 μ-loop bytes evaluations₀ many₀ at₀ evaluations many at = length evaluations - many
 
--- src/fields.rt:66:5
 loop-holds : tie.Need-loop-holds Inv-loop μ-loop
 loop-holds c = let z : length (c .before .before .args .evaluations .now) - 0 ≡ length (c .before .before .args .evaluations .now) = omega arith in (omega arith, refl, omega arith, ap (rowFrom (c .before .before .args .bytes .now) 0) z)
 
--- src/fields.rt:67:13
 is-sample-requires : tie.Need-is-sample-requires Inv-loop μ-loop
 is-sample-requires c κs = c .before .loop .inv .2
 
--- src/fields.rt:68:13
 same-length : tie.Need-same-length Inv-loop μ-loop
 same-length c = c .before .before .before .loop .inv .1
 
--- src/fields.rt:68:13
 returns : tie.Need-returns Inv-loop μ-loop
 returns c = (row-stop _ _ _ _ _ (failed (c .before .is-sample .ensures) (c .if1 .taken)) (c .before .before .before .loop .inv .3), omega (arith, c .before .before .before .loop .inv .0, c .before .before .before .loop .inv .1))
 
--- src/fields.rt:70:46
 add-double-at : tie.Need-add-double-at Inv-loop μ-loop
 add-double-at c = omega (arith, sample-whole _ _ (passed (c .before .is-sample .ensures) (c .if1 .left)))
 
--- src/fields.rt:70:29
 double-at-requires : tie.Need-double-at-requires Inv-loop μ-loop
 double-at-requires c κs = omega (arith, sample-whole _ _ (passed (c .before .is-sample .ensures) (c .if1 .left)))
 
--- src/fields.rt:70:9
 mul-evaluations : tie.Need-mul-evaluations Inv-loop μ-loop
 mul-evaluations c = omega (arith, c .before .before .before .loop-test .taken)
 
--- src/fields.rt:70:9
 slice-write-evaluations : tie.Need-slice-write-evaluations Inv-loop μ-loop
 slice-write-evaluations c = c .before .before .before .loop-test .taken
 
--- src/fields.rt:71:9
 add-many : tie.Need-add-many Inv-loop μ-loop
 add-many c = omega (arith, c .before .before .before .loop-test .taken)
 
--- src/fields.rt:72:9
 add-at : tie.Need-add-at Inv-loop μ-loop
 add-at c = omega (arith, sample-whole _ _ (passed (c .before .before .is-sample .ensures) (c .before .if1 .left)))
 
--- src/fields.rt:66:5
 loop-less : tie.Need-loop-less Inv-loop μ-loop
 loop-less c = simp length-set (omega (arith, c .before .before .before .loop-test .taken))
 
--- src/fields.rt:66:5
 loop-again : tie.Need-loop-again Inv-loop μ-loop
 loop-again c = let sample = passed (c .before .before .is-sample .ensures) (c .before .if1 .left) in
     let l = c .before .before .before .before .loop in (
@@ -76,11 +60,9 @@ loop-again c = let sample = passed (c .before .before .is-sample .ensures) (c .b
       row-next _ _ _ _ _ _ (c .before .before .before .loop-test .taken) (omega (arith, c .before .before .before .loop-test .taken, l .inv .1)) sample (c .double-at .ensures) ∙ l .inv .3,
     )
 
--- src/fields.rt:61:1
 same-length-2 : tie.Need-same-length-2 Inv-loop μ-loop
 same-length-2 c = c .before .loop .inv .1
 
--- src/fields.rt:61:1
 returns-2 : tie.Need-returns-2 Inv-loop μ-loop
 returns-2 c = (row-full _ _ _ _ _ _ (omega (arith, c .loop-test .left, c .before .loop .inv .1)) (c .before .loop .inv .3), omega (arith, c .before .loop .inv .0, c .before .loop .inv .1))
 

@@ -1,15 +1,12 @@
+-- The two cases.
 use Rattle.feed.specs.Fields.{missingOf}
 use Rattle.feed.proofs.fields.missing.Statement.{statement}
 use Rattle.feed.proofs.fields.missing.Tie as tie
-use Rattle.feed.proofs.fields.missing.Reads as reads
-use Rattle.feed.proofs.fields.missing.Lts as lts
 
--- src/fields.rt:21:9
 returns : tie.Need-returns
 unfolding missingOf
 returns c = rw (c .if1 .taken)
 
--- src/fields.rt:17:1
 returns-2 : tie.Need-returns-2
 unfolding missingOf
 returns-2 c = rw (c .if1 .left)

@@ -1,11 +1,9 @@
+-- The two tests as they are.
 use mathlib.Core.Path.{refl}
 use Rattle.feed.specs.Turns.{allIn}
 use Rattle.feed.proofs.planning.is_all_in.Statement.{statement}
 use Rattle.feed.proofs.planning.is_all_in.Tie as tie
-use Rattle.feed.proofs.planning.is_all_in.Reads as reads
-use Rattle.feed.proofs.planning.is_all_in.Lts as lts
 
--- src/planning.rt:19:1
 returns : tie.Need-returns
 unfolding allIn
 returns c = refl

@@ -1,32 +1,24 @@
+-- The test, then the refusal.
 use Rattle.feed.specs.Said.{Said, refusingAt}
 use Rattle.feed.specs.Turns.{unreadOf}
 use mathlib.Core.Path.{ap, _∙_}
 use borrow.Author.Needs.{needs}
 use Rattle.feed.proofs.planning.unread.Statement.{statement}
 use Rattle.feed.proofs.planning.unread.Tie as tie
-use Rattle.feed.proofs.planning.unread.Reads as reads
-use Rattle.feed.proofs.planning.unread.Lts as lts
-use Rattle.feed.proofs.saying.refuses.Reads as refuses-reads
-use Rattle.feed.proofs.saying.waits.Reads as waits-reads
 
--- src/planning.rt:30:9
 waits-requires : tie.Need-waits-requires
 waits-requires c κs = search needs
 
--- src/planning.rt:30:9
 returns : tie.Need-returns
 unfolding unreadOf
 returns c = rw (c .before .if1 .taken) (c .waits .ensures)
 
--- src/planning.rt:32:13
 waits-requires-2 : tie.Need-waits-requires-2
 waits-requires-2 c κs = search needs
 
--- src/planning.rt:32:5
 refuses-requires : tie.Need-refuses-requires
 refuses-requires c κs = search needs
 
--- src/planning.rt:26:1
 returns-2 : tie.Need-returns-2
 unfolding unreadOf
 returns-2 c = let a = c .before .before .before .args in rw (c .before .before .if1 .left) (c .refuses .ensures ∙ ap (λ (o : Said). refusingAt o (a .number) (a .offset)) (c .before .waits2 .ensures))

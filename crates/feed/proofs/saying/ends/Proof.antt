@@ -1,22 +1,16 @@
+-- Waiting, with nothing due any more.
 use mathlib.Core.Path.{ap, _∙_}
 use Rattle.feed.specs.Said.{waiting, ending}
 use borrow.Author.Needs.{needs}
 use Rattle.feed.proofs.saying.ends.Statement.{statement}
 use Rattle.feed.proofs.saying.ends.Tie as tie
-use Rattle.feed.proofs.saying.ends.Reads as reads
-use Rattle.feed.proofs.saying.ends.Lts as lts
-use Rattle.feed.proofs.saying.over.Reads as over-reads
-use Rattle.feed.proofs.saying.waits.Reads as waits-reads
 
--- src/saying.rt:40:11
 over-requires : tie.Need-over-requires
 over-requires c κs = search needs
 
--- src/saying.rt:40:5
 waits-requires : tie.Need-waits-requires
 waits-requires c κs = search needs
 
--- src/saying.rt:37:1
 returns : tie.Need-returns
 unfolding ending
 returns c = c .waits .ensures ∙ ap waiting (c .before .over .ensures)

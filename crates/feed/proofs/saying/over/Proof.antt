@@ -1,11 +1,9 @@
+-- The fields one by one.
 use mathlib.Core.Path.{refl}
 use Rattle.feed.specs.Said.{overOf}
 use Rattle.feed.proofs.saying.over.Statement.{statement}
 use Rattle.feed.proofs.saying.over.Tie as tie
-use Rattle.feed.proofs.saying.over.Reads as reads
-use Rattle.feed.proofs.saying.over.Lts as lts
 
--- src/saying.rt:13:1
 returns : tie.Need-returns
 unfolding overOf
 returns c = refl

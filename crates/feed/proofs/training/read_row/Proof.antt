@@ -1,3 +1,4 @@
+-- How the field stands decides.
 use mathlib.Core.Path.{sym, ap, _∙_}
 use Rattle.feed.specs.Said.{Said}
 use Rattle.feed.proofs.Rungs.{refused-here}
@@ -6,64 +7,45 @@ use Rattle.feed.specs.Turns.{turnEnd, rowBy, rowTurn}
 use borrow.Author.Needs.{needs}
 use Rattle.feed.proofs.training.read_row.Statement.{statement}
 use Rattle.feed.proofs.training.read_row.Tie as tie
-use Rattle.feed.proofs.training.read_row.Reads as reads
-use Rattle.feed.proofs.training.read_row.Lts as lts
-use Rattle.feed.proofs.fields.stands.Reads as stands-reads
-use Rattle.feed.proofs.saying.refuses.Reads as refuses-reads
-use Rattle.feed.proofs.saying.waits.Reads as waits-reads
-use Rattle.feed.proofs.training.train_in.Reads as train-in-reads
 
--- src/training.rt:95:11
 stands-requires : tie.Need-stands-requires
 stands-requires c κs = search needs
 
--- src/training.rt:96:30
 enum-told : tie.Need-enum-told
 enum-told c = search needs
 
--- src/training.rt:96:30
 waits-requires : tie.Need-waits-requires
 waits-requires c κs = search needs
 
--- src/training.rt:97:36
 enum-told-2 : tie.Need-enum-told-2
 enum-told-2 c = search needs
 
--- src/training.rt:97:36
 waits-requires-2 : tie.Need-waits-requires-2
 waits-requires-2 c κs = search needs
 
--- src/training.rt:97:28
 refuses-requires : tie.Need-refuses-requires
 refuses-requires c κs = search needs
 
--- src/training.rt:99:17
 enum-told-3 : tie.Need-enum-told-3
 enum-told-3 c = search needs
 
--- src/training.rt:100:13
 train-in-requires : tie.Need-train-in-requires
 train-in-requires c κs = search needs
 
--- src/training.rt:84:1
 returns : tie.Need-returns
 unfolding rowTurn rowBy
 returns c = let a = c .before .before .before .before .before .before .before .before .args in rw (sym (c .before .before .before .stands .ensures) ∙ c .before .enum-told .given .1) (ap (λ (o : Said). turnEnd o (a .table .now) (memory (a .reals .now) (a .counts .now))) (c .waits .ensures))
 
--- src/training.rt:84:1
 returns-2 : tie.Need-returns-2
 unfolding rowTurn rowBy
 returns-2 c = let a = c .before .before .before .before .before .before .before .before .before .args in rw (sym (c .before .before .before .before .stands .ensures) ∙ c .before .before .enum-told2 .given .1) (ap (λ (o : Said). turnEnd o (a .table .now) (memory (a .reals .now) (a .counts .now))) (refused-here _ _ _ _ (c .before .waits2 .ensures) (c .refuses .ensures)))
 
--- src/training.rt:84:1
 same-length : tie.Need-same-length
 same-length c = search needs
 
--- src/training.rt:84:1
 same-length-2 : tie.Need-same-length-2
 same-length-2 c = search needs
 
--- src/training.rt:84:1
 returns-3 : tie.Need-returns-3
 unfolding rowTurn rowBy
 returns-3 c = rw (sym (c .before .before .before .before .before .before .before .before .before .before .stands .ensures) ∙ c .before .before .before .before .before .before .before .before .enum-told3 .given .1) (c .before .before .before .before .train-in .ensures)

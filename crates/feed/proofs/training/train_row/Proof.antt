@@ -1,3 +1,4 @@
+-- What was gathered is the row.
 use mathlib.Core.Path.{sym, ap, _∙_}
 use mathlib.Core.List.{List}
 use native.Mathlib.Omega.{arith}
@@ -9,40 +10,28 @@ use Rattle.feed.specs.Turns.{trainOf}
 use borrow.Author.Needs.{needs}
 use Rattle.feed.proofs.training.train_row.Statement.{statement}
 use Rattle.feed.proofs.training.train_row.Tie as tie
-use Rattle.feed.proofs.training.train_row.Reads as reads
-use Rattle.feed.proofs.training.train_row.Lts as lts
-use Rattle.feed.proofs.fields.gather.Reads as gather-reads
-use Rattle.feed.proofs.training.train.Reads as train-reads
 
--- src/training.rt:64:9
 gather-requires : tie.Need-gather-requires
 gather-requires c κs = search needs
 
--- src/training.rt:65:38
 slice-reshare-prefix-train : tie.Need-slice-reshare-prefix-train
 slice-reshare-prefix-train c = search needs
 
--- src/training.rt:65:38
 slice-aggregate-train : tie.Need-slice-aggregate-train
 slice-aggregate-train c = let g = c .before .before .before .before .before .gather in sym (length-take-le (g .result) (g .last .1 .0) (omega (arith, g .ensures .1, g .kept .1 .0)))
 
--- src/training.rt:65:5
 train-requires : tie.Need-train-requires
 train-requires c κs = let g = c .before .before .before .before .before .gather in omega (arith, length-take-le (g .result) (g .last .1 .0) (omega (arith, g .ensures .1, g .kept .1 .0)), g .ensures .1, c .before .before .before .before .before .before .before .before .before .before .before .before .pre)
 
--- src/training.rt:52:1
 same-length : tie.Need-same-length
 same-length c = search needs
 
--- src/training.rt:52:1
 same-length-2 : tie.Need-same-length-2
 same-length-2 c = search needs
 
--- src/training.rt:52:1
 same-length-3 : tie.Need-same-length-3
 same-length-3 c = search needs
 
--- src/training.rt:52:1
 returns : tie.Need-returns
 returns c = let a = c .before .before .before .before .before .before .before .before .before .before .before .before .before .before .before .before .before .args in
     c .before .before .before .before .train .ensures ∙ ap (λ (row : List Float). trainOf (a .run) (a .table .now) row (memory (a .reals .now) (a .counts .now))) (c .before .before .before .before .before .before .before .before .before .before .gather .ensures .0 ∙ ap (rowFrom (a .bytes .now) 0) (c .before .before .before .before .before .before .before .before .before .before .before .before .before .before .before .before .before .pre))

@@ -1,29 +1,21 @@
+-- A refusal, or all trained.
 use Rattle.feed.proofs.Rungs.{trained-refused, trained-done}
 use borrow.Author.Needs.{needs}
 use Rattle.feed.proofs.training.trained.Statement.{statement}
 use Rattle.feed.proofs.training.trained.Tie as tie
-use Rattle.feed.proofs.training.trained.Reads as reads
-use Rattle.feed.proofs.training.trained.Lts as lts
-use Rattle.feed.proofs.saying.goes_on.Reads as goes-on-reads
-use Rattle.feed.proofs.saying.refuses.Reads as refuses-reads
 
--- src/training.rt:26:69
 mul-goes-on : tie.Need-mul-goes-on
 mul-goes-on c = search needs
 
--- src/training.rt:26:9
 goes-on-requires : tie.Need-goes-on-requires
 goes-on-requires c κs = search needs
 
--- src/training.rt:29:9
 refuses-requires : tie.Need-refuses-requires
 refuses-requires c κs = search needs
 
--- src/training.rt:29:9
 returns : tie.Need-returns
 returns c = trained-refused _ _ _ (c .before .before .before .before .goes-on .ensures) _ (c .before .before .if1 .taken) (c .refuses .ensures)
 
--- src/training.rt:21:1
 returns-2 : tie.Need-returns-2
 returns-2 c = trained-done _ _ _ (c .before .before .goes-on .ensures) (c .if1 .left)
 

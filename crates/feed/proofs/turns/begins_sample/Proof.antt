@@ -1,21 +1,17 @@
+-- A list reads as 0 past its end.
 use native.Mathlib.Omega.{arith}
 use lib.ListN.{List·getD-eq-default}
 use denote.Ref.{now}
 use borrow.Author.Needs.{needs}
 use Rattle.feed.proofs.turns.begins_sample.Statement.{statement}
 use Rattle.feed.proofs.turns.begins_sample.Tie as tie
-use Rattle.feed.proofs.turns.begins_sample.Reads as reads
-use Rattle.feed.proofs.turns.begins_sample.Lts as lts
 
--- src/turns.rt:62:9
 returns : tie.Need-returns
 returns c = rw (List·getD-eq-default (now (c .before .args .bytes)) 0 {n = 0} (omega arith))
 
--- src/turns.rt:64:5
 shared-slice-read-result : tie.Need-shared-slice-read-result
 shared-slice-read-result c = search needs
 
--- src/turns.rt:58:1
 returns-2 : tie.Need-returns-2
 returns-2 c = search needs
 

@@ -1,53 +1,37 @@
+-- What `new` answers, by its two numbers.
 use mathlib.Core.Path.{sym, _∙_}
 use Rattle.feed.proofs.Rungs.{refused-here, made-refused, made-stream}
 use borrow.Author.Needs.{needs}
 use Rattle.feed.proofs.turns.make_stream.Statement.{statement}
 use Rattle.feed.proofs.turns.make_stream.Tie as tie
-use Rattle.feed.proofs.turns.make_stream.Reads as reads
-use Rattle.feed.proofs.turns.make_stream.Lts as lts
-use Rattle.feed.proofs.numbers.number_at.Reads as number-at-reads
-use Rattle.feed.proofs.saying.goes_on.Reads as goes-on-reads
-use Rattle.feed.proofs.saying.refuses.Reads as refuses-reads
-use Rattle.feed.proofs.saying.waits.Reads as waits-reads
-use Rattle.stream.proofs.MonteCarloRng.new.Reads as new-reads
 
--- src/turns.rt:31:9
 number-at-requires : tie.Need-number-at-requires
 number-at-requires c κs = search needs
 
--- src/turns.rt:32:9
 number-at-requires-2 : tie.Need-number-at-requires-2
 number-at-requires-2 c κs = search needs
 
--- src/turns.rt:33:11
 new-requires : tie.Need-new-requires
 new-requires c κs = search needs
 
--- src/turns.rt:34:23
 enum-known-refused : tie.Need-enum-known-refused
 enum-known-refused c = search needs
 
--- src/turns.rt:34:43
 waits-requires : tie.Need-waits-requires
 waits-requires c κs = search needs
 
--- src/turns.rt:34:35
 refuses-requires : tie.Need-refuses-requires
 refuses-requires c κs = search needs
 
--- src/turns.rt:35:22
 enum-known-made : tie.Need-enum-known-made
 enum-known-made c = search needs
 
--- src/turns.rt:35:31
 goes-on-requires : tie.Need-goes-on-requires
 goes-on-requires c κs = search needs
 
--- src/turns.rt:27:1
 returns : tie.Need-returns
 returns c = rw (sym (c .before .before .before .before .before .before .before .number-at .ensures), sym (c .before .before .before .before .before .before .number-at2 .ensures)) (made-refused _ _ _ _ _ _ (c .before .before .before .before .before .new .ensures) (c .before .before .before .refused .given .1) (refused-here _ _ _ _ (c .before .waits .ensures) (c .refuses .ensures)))
 
--- src/turns.rt:27:1
 returns-2 : tie.Need-returns-2
 returns-2 c = rw (sym (c .before .before .before .before .before .before .number-at .ensures), sym (c .before .before .before .before .before .number-at2 .ensures)) (made-stream _ _ _ _ _ _ (c .before .before .before .before .new .ensures) (c .before .before .made .given .1) (c .goes-on .ensures))
 

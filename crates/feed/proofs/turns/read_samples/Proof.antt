@@ -1,69 +1,49 @@
+-- The ladder, rung by rung.
 use mathlib.Core.Path.{sym, _∙_}
 use Rattle.feed.proofs.Rungs.{samples-end, samples-row, samples-update}
 use borrow.Author.Needs.{needs}
 use Rattle.feed.proofs.turns.read_samples.Statement.{statement}
 use Rattle.feed.proofs.turns.read_samples.Tie as tie
-use Rattle.feed.proofs.turns.read_samples.Reads as reads
-use Rattle.feed.proofs.turns.read_samples.Lts as lts
-use Rattle.feed.proofs.saying.ends.Reads as ends-reads
-use Rattle.feed.proofs.training.read_row.Reads as read-row-reads
-use Rattle.feed.proofs.turns.begins_sample.Reads as begins-sample-reads
-use Rattle.feed.proofs.turns.is_end.Reads as is-end-reads
-use Rattle.feed.proofs.updating.read_update.Reads as read-update-reads
 
--- src/turns.rt:81:8
 is-end-requires : tie.Need-is-end-requires
 is-end-requires c κs = search needs
 
--- src/turns.rt:82:9
 ends-requires : tie.Need-ends-requires
 ends-requires c κs = search needs
 
--- src/turns.rt:82:9
 returns : tie.Need-returns
 returns c = samples-end _ _ _ _ _ _ _ _ (sym (c .before .before .is-end .ensures) ∙ c .before .if1 .taken) (c .ends .ensures)
 
--- src/turns.rt:84:8
 begins-sample-requires : tie.Need-begins-sample-requires
 begins-sample-requires c κs = search needs
 
--- src/turns.rt:85:9
 read-row-requires : tie.Need-read-row-requires
 read-row-requires c κs = search needs
 
--- src/turns.rt:85:9
 same-length : tie.Need-same-length
 same-length c = search needs
 
--- src/turns.rt:85:9
 same-length-2 : tie.Need-same-length-2
 same-length-2 c = search needs
 
--- src/turns.rt:85:9
 returns-2 : tie.Need-returns-2
 returns-2 c = samples-row _ _ _ _ _ _ _ (sym (c .before .before .before .before .before .before .before .before .before .before .is-end .ensures) ∙ c .before .before .before .before .before .before .before .before .before .if1 .left) _ (sym (c .before .before .before .before .before .before .before .before .begins-sample .ensures) ∙ c .before .before .before .before .before .before .before .if2 .taken) (c .before .before .before .before .read-row .ensures)
 
--- src/turns.rt:87:5
 read-update-requires : tie.Need-read-update-requires
 read-update-requires c κs = search needs
 
--- src/turns.rt:68:1
 same-length-3 : tie.Need-same-length-3
 same-length-3 c = search needs
 
--- src/turns.rt:68:1
 same-length-4 : tie.Need-same-length-4
 same-length-4 c = search needs
 
--- src/turns.rt:68:1
 same-length-5 : tie.Need-same-length-5
 same-length-5 c = search needs
 
--- src/turns.rt:68:1
 same-length-6 : tie.Need-same-length-6
 same-length-6 c = search needs
 
--- src/turns.rt:68:1
 returns-3 : tie.Need-returns-3
 returns-3 c = samples-update _ _ _ _ _ _ _ (sym (c .before .before .before .before .before .before .before .before .before .before .before .before .before .before .before .before .is-end .ensures) ∙ c .before .before .before .before .before .before .before .before .before .before .before .before .before .before .before .if1 .left) _ (sym (c .before .before .before .before .before .before .before .before .before .before .before .before .before .before .begins-sample .ensures) ∙ c .before .before .before .before .before .before .before .before .before .before .before .before .before .if2 .left) (c .before .before .before .before .before .before .before .before .read-update .ensures)
 

@@ -1,3 +1,4 @@
+-- How the field stands decides, and a whole one has its bytes.
 use mathlib.Core.Path.{sym, ap, _∙_}
 use Rattle.feed.specs.Said.{Said}
 use Rattle.feed.proofs.Rungs.{refused-here}
@@ -7,72 +8,51 @@ use Rattle.feed.specs.Turns.{turnEnd, updateBy, updateTurn}
 use borrow.Author.Needs.{needs}
 use Rattle.feed.proofs.updating.read_update.Statement.{statement}
 use Rattle.feed.proofs.updating.read_update.Tie as tie
-use Rattle.feed.proofs.updating.read_update.Reads as reads
-use Rattle.feed.proofs.updating.read_update.Lts as lts
-use Rattle.feed.proofs.fields.stands.Reads as stands-reads
-use Rattle.feed.proofs.saying.refuses.Reads as refuses-reads
-use Rattle.feed.proofs.saying.waits.Reads as waits-reads
-use Rattle.feed.proofs.updating.update.Reads as update-reads
 
--- src/updating.rt:77:11
 stands-requires : tie.Need-stands-requires
 stands-requires c κs = search needs
 
--- src/updating.rt:78:30
 enum-told : tie.Need-enum-told
 enum-told c = search needs
 
--- src/updating.rt:78:30
 waits-requires : tie.Need-waits-requires
 waits-requires c κs = search needs
 
--- src/updating.rt:79:36
 enum-told-2 : tie.Need-enum-told-2
 enum-told-2 c = search needs
 
--- src/updating.rt:79:36
 waits-requires-2 : tie.Need-waits-requires-2
 waits-requires-2 c κs = search needs
 
--- src/updating.rt:79:28
 refuses-requires : tie.Need-refuses-requires
 refuses-requires c κs = search needs
 
--- src/updating.rt:84:13
 enum-told-3 : tie.Need-enum-told-3
 enum-told-3 c = search needs
 
--- src/updating.rt:80:28
 update-requires : tie.Need-update-requires
 update-requires c κs = whole-there _ 0x12 16 _ (sym (c .before .before .before .before .before .before .stands .ensures) ∙ c .before .before .before .before .enum-told3 .given .1)
 
--- src/updating.rt:64:1
 returns : tie.Need-returns
 unfolding updateTurn updateBy
 returns c = let a = c .before .before .before .before .before .before .before .before .before .before .args in rw (sym (c .before .before .before .stands .ensures) ∙ c .before .enum-told .given .1) (ap (λ (o : Said). turnEnd o (a .table .now) (memory (a .reals .now) (a .counts .now))) (c .waits .ensures))
 
--- src/updating.rt:64:1
 returns-2 : tie.Need-returns-2
 unfolding updateTurn updateBy
 returns-2 c = let a = c .before .before .before .before .before .before .before .before .before .before .before .args in rw (sym (c .before .before .before .before .stands .ensures) ∙ c .before .before .enum-told2 .given .1) (ap (λ (o : Said). turnEnd o (a .table .now) (memory (a .reals .now) (a .counts .now))) (refused-here _ _ _ _ (c .before .waits2 .ensures) (c .refuses .ensures)))
 
--- src/updating.rt:64:1
 same-length : tie.Need-same-length
 same-length c = search needs
 
--- src/updating.rt:64:1
 same-length-2 : tie.Need-same-length-2
 same-length-2 c = search needs
 
--- src/updating.rt:64:1
 same-length-3 : tie.Need-same-length-3
 same-length-3 c = search needs
 
--- src/updating.rt:64:1
 same-length-4 : tie.Need-same-length-4
 same-length-4 c = search needs
 
--- src/updating.rt:64:1
 returns-3 : tie.Need-returns-3
 unfolding updateTurn updateBy
 returns-3 c = rw (sym (c .before .before .before .before .before .before .before .before .before .before .before .before .before .before .before .stands .ensures) ∙ c .before .before .before .before .before .before .before .before .before .before .before .before .before .enum-told3 .given .1) (c .before .before .before .before .before .before .before .before .update .ensures)

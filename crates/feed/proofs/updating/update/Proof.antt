@@ -1,79 +1,57 @@
+-- A refusal, or the report, of what `update` left.
 use Rattle.grid.specs.Calls.{stateEnd}
 use Rattle.grid.specs.Memory.{memory}
 use Rattle.feed.proofs.Rungs.{refused-here, renew-refused, renew-reports}
 use borrow.Author.Needs.{needs}
 use Rattle.feed.proofs.updating.update.Statement.{statement}
 use Rattle.feed.proofs.updating.update.Tie as tie
-use Rattle.feed.proofs.updating.update.Reads as reads
-use Rattle.feed.proofs.updating.update.Lts as lts
-use Rattle.feed.proofs.numbers.double_at.Reads as double-at-reads
-use Rattle.feed.proofs.saying.refuses.Reads as refuses-reads
-use Rattle.feed.proofs.saying.waits.Reads as waits-reads
-use Rattle.feed.proofs.updating.report.Reads as report-reads
-use Rattle.grid.proofs.update.Reads as update-reads
 
--- src/updating.rt:46:9
 double-at-requires : tie.Need-double-at-requires
 double-at-requires c κs = search needs
 
--- src/updating.rt:47:9
 double-at-requires-2 : tie.Need-double-at-requires-2
 double-at-requires-2 c κs = search needs
 
--- src/updating.rt:48:9
 update-requires : tie.Need-update-requires
 update-requires c κs = search needs
 
--- src/updating.rt:58:24
 waits-requires : tie.Need-waits-requires
 waits-requires c κs = search needs
 
--- src/updating.rt:58:9
 refuses-requires : tie.Need-refuses-requires
 refuses-requires c κs = search needs
 
--- src/updating.rt:58:9
 same-length : tie.Need-same-length
 same-length c = search needs
 
--- src/updating.rt:58:9
 same-length-2 : tie.Need-same-length-2
 same-length-2 c = search needs
 
--- src/updating.rt:58:9
 same-length-3 : tie.Need-same-length-3
 same-length-3 c = search needs
 
--- src/updating.rt:58:9
 same-length-4 : tie.Need-same-length-4
 same-length-4 c = search needs
 
--- src/updating.rt:58:9
 returns : tie.Need-returns
 returns c = let u = c .before .before .before .before .before .before .before .before .before .before .before .update in
     renew-refused _ _ _ _ _ _ _ _ (stateEnd (u .result) (memory (u .last .1 .0) (u .last .1 .1 .0))) (c .before .before .before .before .before .before .before .before .before .before .before .before .before .before .before .before .before .double-at .ensures) (c .before .before .before .before .before .before .before .before .before .before .before .before .before .before .before .before .double-at2 .ensures) (u .ensures) _ (c .before .before .if1 .taken) (refused-here _ _ _ _ (c .before .waits .ensures) (c .refuses .ensures))
 
--- src/updating.rt:60:5
 report-requires : tie.Need-report-requires
 report-requires c κs = search needs
 
--- src/updating.rt:33:1
 same-length-5 : tie.Need-same-length-5
 same-length-5 c = search needs
 
--- src/updating.rt:33:1
 same-length-6 : tie.Need-same-length-6
 same-length-6 c = search needs
 
--- src/updating.rt:33:1
 same-length-7 : tie.Need-same-length-7
 same-length-7 c = search needs
 
--- src/updating.rt:33:1
 same-length-8 : tie.Need-same-length-8
 same-length-8 c = search needs
 
--- src/updating.rt:33:1
 returns-2 : tie.Need-returns-2
 returns-2 c = let u = c .before .before .before .before .before .before .before .before .before .before .before .before .update in
     renew-reports _ _ _ _ _ _ _ _ (stateEnd (u .result) (memory (u .last .1 .0) (u .last .1 .1 .0))) (c .before .before .before .before .before .before .before .before .before .before .before .before .before .before .before .before .before .before .double-at .ensures) (c .before .before .before .before .before .before .before .before .before .before .before .before .before .before .before .before .before .double-at2 .ensures) (u .ensures) _ (c .before .before .before .if1 .left) (c .report .ensures)
