@@ -1,43 +1,44 @@
--- A plan at the front of some bytes ends within them.
-use mathlib.Core.Path.{_≡_, refl, ap}
-use mathlib.Core.Bool.{Bool, true, false, cond}
-use mathlib.Core.List.{List}
-use Prim.Native.Nat.{ℕ, _≤_}
+-- A plan at the front of some bytes is not empty and ends within them; and with more bytes behind it, it is the same plan.
+use mathlib.Core.Path.{_≡_, sym, ap, _∙_}
+use mathlib.Core.List.{List, _++_, append-assoc}
+use Prim.Native.Nat.{ℕ, _≤_, _<_}
 use native.Mathlib.Omega.{arith}
-use lib.Dec.{ltb}
-use lib.ListN.{length}
-use lib.Seq.{sets}
-use Rattle.plan.specs.declared.Place.{Place}
+use lib.ListN.{length, getD, drop, length-append, List·getD-append}
+use lib.Seq.{drop-append-seam}
 use Rattle.plan.specs.Bounds.{Bytes}
-use Rattle.plan.specs.Plan.{Tree}
-use Rattle.plan.specs.Needs.{untaken, needsOf}
-use Rattle.plan.specs.Reading.{Out}
-use Rattle.plan.specs.Paper.{Paper, gives, refusesAt, PlanRead, planRead}
-use Rattle.plan.specs.Table.{rows}
-use Rattle.plan.specs.Calls.{end, begin, gridOf, writtenOf, prefixEnd, readPrefixOf}
-use Rattle.plan.proofs.Calls.{grid-read}
-use Rattle.plan.proofs.Accepts.{sound}
+use Rattle.plan.specs.Bytes.{axesBytes, binsBytes, encode}
+use Rattle.plan.specs.Plan.{Tree, nothing, axes, bins}
+use Rattle.plan.specs.Paper.{Paper, gives, PlanRead}
+use Rattle.plan.specs.Calls.{end, readPrefixOf}
+use Rattle.plan.proofs.Plans.{PlanIn, prefix-was-plan, prefix-is-read}
 
-refused-gives : {P : Type 0} {n at : ℕ} {r : PlanRead} → _≡_ {A = Paper PlanRead} (refusesAt n at) (gives r) → P
-refused-gives e = let z : _≡_ {A = ℕ} 0 1 = cc in absurd (omega arith)
+encode-some : (t : Tree) → 0 < length (encode t)
+unfolding encode axesBytes binsBytes
+encode-some nothing = omega arith
+encode-some (axes a es) = omega arith
+encode-some (bins b ts) = omega arith
 
-end-given : (x r : PlanRead) → _≡_ {A = Paper PlanRead} (gives x) (gives r) → x .end ≡ r .end
-end-given x r e = let s : x ≡ r = cc in ap (λ (p : PlanRead). p .end) s
+module _ (bs xs : List ℕ) (r : PlanRead) (small : Bytes bs) (e : readPrefixOf bs xs .answer ≡ gives r) where
+  prefix-plan : PlanIn bs xs r (readPrefixOf bs xs .table)
+  prefix-plan = prefix-was-plan bs xs (readPrefixOf bs xs .table) r small (ap (λ (p : Paper PlanRead). end p (readPrefixOf bs xs .table)) e)
 
-written-case : (xs ys : List ℕ) (q : Place) (r : PlanRead) (b : Bool) → cond b (end (refusesAt 10 0) xs) (end (gives (planRead (q .at) (needsOf (q .tally)))) ys) .answer ≡ gives r → q .at ≡ r .end
-written-case xs ys q r true e = refused-gives e
-written-case xs ys q r false e = end-given (planRead (q .at) (needsOf (q .tally))) r e
+  pub prefix-some : 0 < r .end
+  prefix-some = let k = prefix-plan in omega (arith, k .is .end, encode-some (k .tree))
 
-written-end : (xs : List ℕ) (t : Tree) (q : Place) (r : PlanRead) → writtenOf xs t q .answer ≡ gives r → q .at ≡ r .end
-unfolding writtenOf
-written-end xs t q r e = written-case xs (sets xs 0 (rows 4 t untaken)) q r (ltb (length xs) (q .tally .words)) e
+  pub prefix-reach : r .end ≤ length bs
+  prefix-reach = let k = prefix-plan in omega (arith, k .is .end, ap length (k .is .bytes), length-append (encode (k .tree)) (k .rest))
 
-grid-reach : (bs xs : List ℕ) (r : PlanRead) (o : Out) → Bytes bs → gridOf bs ≡ o → prefixEnd xs o .answer ≡ gives r → r .end ≤ length bs
-grid-reach bs xs r (Out.stops n at) small g e = refused-gives e
-grid-reach bs xs r (Out.reads t q) small g e =
-    let reach = sound bs small 4 begin t q (grid-read bs t q g .read) .reach (omega arith) in
-    omega (arith, written-end xs t q r e)
-
-pub prefix-reach : (bs xs : List ℕ) (r : PlanRead) → Bytes bs → readPrefixOf bs xs .answer ≡ gives r → r .end ≤ length bs
-unfolding readPrefixOf
-prefix-reach bs xs r small e = grid-reach bs xs r (gridOf bs) small refl e
+  -- something stands behind the plan, and it is no 02
+  pub prefix-stays : (ys : List ℕ) → r .end < length bs → (getD (drop (r .end) bs) 0 0 ≡ 2 → ⊥) → readPrefixOf (bs ++ ys) xs ≡ readPrefixOf bs xs
+  prefix-stays ys h c =
+      let k = prefix-plan in
+      let enc = encode (k .tree) in
+      let behind : drop (r .end) bs ≡ k .rest = ap (λ (n : ℕ). drop n bs) (k .is .end) ∙ ap (drop (length enc)) (k .is .bytes) ∙ drop-append-seam enc (k .rest) in
+      let some : 0 < length (k .rest) = omega (arith, k .is .end, ap length (k .is .bytes), length-append enc (k .rest)) in
+      let here : getD (k .rest) 0 0 ≡ 2 → ⊥ = λ z. c (ap (λ (l : List ℕ). getD l 0 0) behind ∙ z) in
+      let there : getD (k .rest ++ ys) 0 0 ≡ 2 → ⊥ = λ z. here (sym (List·getD-append (k .rest) ys 0 0 some) ∙ z) in
+      ap (λ (l : List ℕ). readPrefixOf (l ++ ys) xs) (k .is .bytes)
+      ∙ ap (λ (l : List ℕ). readPrefixOf l xs) (append-assoc enc (k .rest) ys)
+      ∙ prefix-is-read (k .tree) (k .rest ++ ys) xs (k .is .plan) there (k .is .room)
+      ∙ sym (prefix-is-read (k .tree) (k .rest) xs (k .is .plan) here (k .is .room))
+      ∙ ap (λ (l : List ℕ). readPrefixOf l xs) (sym (k .is .bytes))

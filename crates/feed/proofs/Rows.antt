@@ -5,14 +5,16 @@ use mathlib.Core.List.{List, [], _∷_, _++_, append-nil}
 use Prim.Native.Nat.{ℕ, zero, suc, _+_, _-_, _*_, _≤_, _<_}
 use native.Mathlib.Numerals.{add-one}
 use native.Mathlib.Omega.{arith}
-use borrow.Author.Tests.{leb-true}
+use borrow.Author.Tests.{leb-true, le-leb}
 use lib.Dec.{eqb, leb}
 use lib.ListN.{length, getD, take, set}
 use lib.Seq.{take-suc-set, append-snoc}
 use lib.Ieee.{Float}
 use Rattle.real.proofs.Truth.{both}
 use Rattle.plan.specs.Numbers.{numberAt}
-use Rattle.feed.specs.Fields.{doubleAt, isSample, rowFrom}
+use Rattle.feed.specs.declared.fields.Standing.the-variants as standing
+use Rattle.feed.specs.Fields.{doubleAt, standingOf, isSample, rowFrom}
+use Rattle.feed.proofs.Standings.{Whole, whole-is}
 
 pub sample-whole : (bs : List ℕ) (at : ℕ) → isSample bs at ≡ true → at + 11 ≤ length bs
 unfolding isSample
@@ -58,3 +60,19 @@ pub row-fits : (bs : List ℕ) (n at : ℕ) → at ≤ length bs → at + 11 * l
 unfolding rowFrom
 row-fits bs zero at h = omega arith
 row-fits bs (suc n) at h = fits-here (length bs) at (doubleAt bs (at + 3)) (rowFrom bs (at + 11) n) (isSample bs at) h (λ e. row-fits bs n (at + 11) (sample-whole bs at e))
+
+-- ---- a whole 11 at the front
+
+pub sample-is : (bs : List ℕ) → isSample bs 0 ≡ true → Whole bs 0x11 8
+unfolding isSample
+sample-is bs e =
+    let p = both (leb 11 (length bs)) (eqb (getD bs 0 0) 0x11 && eqb (numberAt bs 1 2) 8) e in
+    let q = both (eqb (getD bs 0 0) 0x11) (eqb (numberAt bs 1 2) 8) (p .1) in
+    record { tagged = q .0; sized = q .1; there = leb-true 11 (length bs) (p .0) }
+
+pub is-sample : (bs : List ℕ) → Whole bs 0x11 8 → isSample bs 0 ≡ true
+unfolding isSample
+is-sample bs w = rw (le-leb 11 (length bs) (w .there), w .tagged, w .sized)
+
+pub row-some : (bs : List ℕ) (last : Bool) (n : ℕ) → standingOf bs 0x11 8 last ≡ standing.Whole → 0 < length (rowFrom bs 0 (suc n))
+row-some bs last n e = rw (row-one bs 0 n (is-sample bs (whole-is bs 0x11 8 last e))) (omega arith)

@@ -200,9 +200,9 @@ module _ (table : List ℕ) (large : Words table) (run : Run) (word : run .numbe
       whole =
           ap (batchEnds run table)
           (all
-            ∙ if-false (not (eqb (first .answer .refused) 0)) first (stepsOf table fs (first .state) (first .answer .stream) (k + length es) (first .answer .done)) e
-            ∙ ap (stepsOf table fs (first .state) (first .answer .stream) (k + length es)) (sym (add-zero (first .answer .done)))
-            ∙ steps-moved table fs (first .state) (first .answer .stream) (k + length es) (first .answer .done) 0)
+          ∙ if-false (not (eqb (first .answer .refused) 0)) first (stepsOf table fs (first .state) (first .answer .stream) (k + length es) (first .answer .done)) e
+          ∙ ap (stepsOf table fs (first .state) (first .answer .stream) (k + length es)) (sym (add-zero (first .answer .done)))
+          ∙ steps-moved table fs (first .state) (first .answer .stream) (k + length es) (first .answer .done) 0)
           ∙ ap (λ (o : Said). turnEnd o table (second .state)) (trained-on run (first .answer .stream) (first .answer .done) (second .answer))
 
       -- the second row's turn

@@ -1,6 +1,6 @@
 -- A turn takes no more bytes than there are.
 use mathlib.Core.Path.{_≡_, refl, ap}
-use mathlib.Core.Bool.{Bool, true, false, not, _&&_, cond}
+use mathlib.Core.Bool.{Bool, not, _&&_}
 use mathlib.Core.List.{List}
 use Prim.Native.Nat.{ℕ, _*_, _≤_}
 use native.Mathlib.Omega.{arith}
@@ -12,6 +12,7 @@ use Rattle.plan.specs.Bounds.{Bytes}
 use Rattle.plan.specs.Numbers.{numberAt}
 use Rattle.plan.specs.Paper as plan
 use Rattle.plan.specs.Calls.{readPrefixOf}
+use Rattle.plan.proofs.Here.{pick}
 use Rattle.stream.specs.declared.MonteCarloRng.{MonteCarloRng}
 use Rattle.stream.specs.Calls.{newOf}
 use Rattle.accumulator.specs.declared.Summary.{Summary}
@@ -32,13 +33,11 @@ use Rattle.feed.proofs.Standings.{whole-there}
 use Rattle.feed.proofs.Batches.{batch-done}
 use Rattle.feed.proofs.Prefixes.{prefix-reach}
 
-either-said : (b : Bool) (x y : Said) (n : ℕ) → x .taken ≤ n → y .taken ≤ n → cond b x y .taken ≤ n
-either-said true x y n h k = h
-either-said false x y n h k = k
+abbrev Says : ℕ → Said → Type 0
+Says n o = o .taken ≤ n
 
-either-end : (b : Bool) (x y : TurnEnd) (n : ℕ) → x .answer .taken ≤ n → y .answer .taken ≤ n → cond b x y .answer .taken ≤ n
-either-end true x y n h k = h
-either-end false x y n h k = k
+abbrev Ends : ℕ → TurnEnd → Type 0
+Ends n o = o .answer .taken ≤ n
 
 -- ---- the plan
 
@@ -52,14 +51,14 @@ found-within : (run : Run) (bs : List ℕ) (all : Bool) (r : plan.PlanRead) (tab
 unfolding foundOf freshEnds waiting refusingAt
 found-within run bs all r table m h =
     let e = freshOf (take (r .end) bs) table m in
-    either-end (not all && eqb (r .end) (length bs)) (turnEnd (waiting run) table m) (cond (ltb 128 (r .needs .bins)) (turnEnd (refusingAt (waiting run) 10 0) table m) (freshEnds run (r .end) e)) (length bs) (omega arith)
-    (either-end (ltb 128 (r .needs .bins)) (turnEnd (refusingAt (waiting run) 10 0) table m) (freshEnds run (r .end) e) (length bs) (omega arith) (fresh-within run (r .end) (length bs) (e .answer) h))
+    pick (Ends (length bs)) (not all && eqb (r .end) (length bs)) (λ t. omega arith)
+    (λ t. pick (Ends (length bs)) (ltb 128 (r .needs .bins)) (λ u. omega arith) (λ u. fresh-within run (r .end) (length bs) (e .answer) h))
 
 plan-by-within : (run : Run) (bs xs : List ℕ) (all : Bool) (m : Memory) (p : plan.Paper plan.PlanRead) (table : List ℕ) → Bytes bs → readPrefixOf bs xs .answer ≡ p → planBy run bs all m p table .answer .taken ≤ length bs
 unfolding planBy unreadOf refusing refusingAt waiting
 plan-by-within run bs xs all m (plan.gives r) table small e = found-within run bs all r table m (prefix-reach bs xs r small e)
 plan-by-within run bs xs all m (plan.refuses n) table small e = omega arith
-plan-by-within run bs xs all m (plan.refusesAt n at) table small e = either-said (not all && eqb n 1) (waiting run) (refusingAt (waiting run) n at) (length bs) (omega arith) (omega arith)
+plan-by-within run bs xs all m (plan.refusesAt n at) table small e = pick (Says (length bs)) (not all && eqb n 1) (λ t. omega arith) (λ t. omega arith)
 
 -- ---- the stream's field
 
@@ -79,7 +78,7 @@ stream-within run bs last standing.Wrong e = omega arith
 trained-within : (run : Run) (b : Batched) (n : ℕ) → 11 * b .done ≤ n → trainedOf run b .taken ≤ n
 unfolding trainedOf refusing refusingAt going
 trained-within run b n h =
-    let o = going run phase.Samples (b .stream) (b .done) (11 * b .done) in either-said (not (eqb (b .refused) 0)) (refusing o (b .refused)) o n h h
+    pick (Says n) (not (eqb (b .refused) 0)) (λ t. h) (λ t. h)
 
 train-within : (run : Run) (table : List ℕ) (row : List Float) (m : Memory) (n : ℕ) → 11 * length row ≤ n → trainOf run table row m .answer .taken ≤ n
 unfolding trainOf batchEnds
@@ -101,8 +100,7 @@ report-within run n (real.refuses k) h = omega arith
 ends-within : (run : Run) (table : List ℕ) (e : StateEnd) (n : ℕ) → 19 ≤ n → updateEnds run table e .answer .taken ≤ n
 unfolding updateEnds refusing refusingAt waiting
 ends-within run table e n h =
-    let p = summaryOf table (e .state .reals) (e .state .counts) in
-    either-end (not (eqb (e .answer) 0)) (turnEnd (refusing (waiting run) (e .answer)) table (e .state)) (turnEnd (reportOf run p) table (e .state)) n (omega arith) (report-within run n p h)
+    pick (Ends n) (not (eqb (e .answer) 0)) (λ t. omega arith) (λ t. report-within run n (summaryOf table (e .state .reals) (e .state .counts)) h)
 
 update-within : (run : Run) (bs : List ℕ) (last : Bool) (table : List ℕ) (m : Memory) (R C : ℕ) (o : Standing) → standingOf bs 0x12 16 last ≡ o → updateBy run bs table m R C o .answer .taken ≤ length bs
 unfolding updateBy renewOf refusing refusingAt waiting
@@ -115,8 +113,10 @@ update-within run bs last table m R C standing.Wrong e = omega arith
 samples-within : (run : Run) (bs : List ℕ) (last : Bool) (table : List ℕ) (m : Memory) (R C : ℕ) → samplesTurn run bs last table m R C .answer .taken ≤ length bs
 unfolding samplesTurn rowTurn updateTurn ending waiting
 samples-within run bs last table m R C =
-    either-end (last && eqb (length bs) 0) (turnEnd (ending run) table m) (cond (eqb (getD bs 0 0) 0x11) (rowTurn run bs last table m) (updateTurn run bs last table m R C)) (length bs) (omega arith)
-    (either-end (eqb (getD bs 0 0) 0x11) (rowTurn run bs last table m) (updateTurn run bs last table m R C) (length bs) (row-within run bs table m (standingOf bs 0x11 8 last)) (update-within run bs last table m R C (standingOf bs 0x12 16 last) refl))
+    pick (Ends (length bs)) (last && eqb (length bs) 0) (λ t. omega arith)
+    (λ t.
+    pick (Ends (length bs)) (eqb (getD bs 0 0) 0x11) (λ u. row-within run bs table m (standingOf bs 0x11 8 last))
+    (λ u. update-within run bs last table m R C (standingOf bs 0x12 16 last) refl))
 
 -- ---- a turn
 
