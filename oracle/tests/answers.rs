@@ -269,6 +269,8 @@ fn grid(c: &mut Cursor) {
             6 => c.marked(22),
             7 => c.marked(2),
             8 => c.marked(1),
+            9 => c.answer(0),
+            10 => c.marked(0),
             11 => c.marked(3),
             12 => c.marked(2),
             other => panic!("opcode {other}"),
@@ -326,7 +328,7 @@ fn trees() {
 
 #[test]
 fn grids() {
-    check("grid", 300, grid, &[0, 3, 4, 5, 6, 7, 8, 9, 12]);
+    check("grid", 300, grid, &[0, 3, 4, 5, 6, 7, 8, 9, 11, 12]);
 }
 
 #[test]

@@ -9,9 +9,27 @@ mod writes;
 use libc::STDIN_FILENO;
 use libc::STDOUT_FILENO;
 
+// The name of a kind of calls.
+fn print_name(kind: u64) -> bool {
+    match kind {
+        0 => io::write_all(STDOUT_FILENO, b"fresh: "),
+        1 => io::write_all(STDOUT_FILENO, b"draw: "),
+        2 => io::write_all(STDOUT_FILENO, b"probe: "),
+        3 => io::write_all(STDOUT_FILENO, b"summary: "),
+        4 => io::write_all(STDOUT_FILENO, b"live_estimate: "),
+        5 => io::write_all(STDOUT_FILENO, b"live_estimate_of_bin: "),
+        6 => io::write_all(STDOUT_FILENO, b"train: "),
+        7 => io::write_all(STDOUT_FILENO, b"update: "),
+        8 => io::write_all(STDOUT_FILENO, b"clone_without_samples: "),
+        9 => io::write_all(STDOUT_FILENO, b"is_mergeable: "),
+        10 => io::write_all(STDOUT_FILENO, b"merge: "),
+        11 => io::write_all(STDOUT_FILENO, b"cells set: "),
+        _ => io::write_all(STDOUT_FILENO, b"draw and train: "),
+    }
+}
+
 // How many calls of a kind agree; of kind 0, how many plans are laid.
 fn line(
-    name: &[u8],
     list: &[u8],
     room: &mut [u8; 2048],
     table: &mut [u64; 8192],
@@ -35,7 +53,7 @@ fn line(
         spare_counts,
         kind,
     );
-    io::write_all(STDOUT_FILENO, name);
+    print_name(kind);
     io::print_decimal(STDOUT_FILENO, replayed.agreed);
     io::write_all(STDOUT_FILENO, b" of ");
     io::print_decimal(STDOUT_FILENO, replayed.all);
@@ -54,149 +72,22 @@ fn lines(
     spare_reals: &mut [f64; 16384],
     spare_counts: &mut [u64; 8192],
 ) {
-    line(
-        b"fresh: ",
-        list,
-        room,
-        table,
-        reals,
-        counts,
-        other_reals,
-        other_counts,
-        spare_reals,
-        spare_counts,
-        0,
-    );
-    line(
-        b"draw: ",
-        list,
-        room,
-        table,
-        reals,
-        counts,
-        other_reals,
-        other_counts,
-        spare_reals,
-        spare_counts,
-        1,
-    );
-    line(
-        b"probe: ",
-        list,
-        room,
-        table,
-        reals,
-        counts,
-        other_reals,
-        other_counts,
-        spare_reals,
-        spare_counts,
-        2,
-    );
-    line(
-        b"summary: ",
-        list,
-        room,
-        table,
-        reals,
-        counts,
-        other_reals,
-        other_counts,
-        spare_reals,
-        spare_counts,
-        3,
-    );
-    line(
-        b"live_estimate: ",
-        list,
-        room,
-        table,
-        reals,
-        counts,
-        other_reals,
-        other_counts,
-        spare_reals,
-        spare_counts,
-        4,
-    );
-    line(
-        b"live_estimate_of_bin: ",
-        list,
-        room,
-        table,
-        reals,
-        counts,
-        other_reals,
-        other_counts,
-        spare_reals,
-        spare_counts,
-        5,
-    );
-    line(
-        b"train: ",
-        list,
-        room,
-        table,
-        reals,
-        counts,
-        other_reals,
-        other_counts,
-        spare_reals,
-        spare_counts,
-        6,
-    );
-    line(
-        b"draw and train: ",
-        list,
-        room,
-        table,
-        reals,
-        counts,
-        other_reals,
-        other_counts,
-        spare_reals,
-        spare_counts,
-        12,
-    );
-    line(
-        b"update: ",
-        list,
-        room,
-        table,
-        reals,
-        counts,
-        other_reals,
-        other_counts,
-        spare_reals,
-        spare_counts,
-        7,
-    );
-    line(
-        b"clone_without_samples: ",
-        list,
-        room,
-        table,
-        reals,
-        counts,
-        other_reals,
-        other_counts,
-        spare_reals,
-        spare_counts,
-        8,
-    );
-    line(
-        b"cells set: ",
-        list,
-        room,
-        table,
-        reals,
-        counts,
-        other_reals,
-        other_counts,
-        spare_reals,
-        spare_counts,
-        11,
-    );
+    let mut kind = 0;
+    while kind < 13 {
+        line(
+            list,
+            room,
+            table,
+            reals,
+            counts,
+            other_reals,
+            other_counts,
+            spare_reals,
+            spare_counts,
+            kind,
+        );
+        kind += 1;
+    }
 }
 
 // The list read into `text`, and its lines.

@@ -111,6 +111,38 @@ fn copy(
     holds_end(list, at + 1, answer, table, reals, counts)
 }
 
+// is_mergeable
+fn is_mergeable(
+    list: &[u8],
+    at: usize,
+    table: &[u64],
+    reals: &[f64],
+    counts: &[u64],
+    other_reals: &[f64],
+    other_counts: &[u64],
+) -> bool
+    requires { ⌜ at < 1047000 ⌝ }
+{
+    let answer = grid::is_mergeable(table, reals, counts, table, other_reals, other_counts);
+    list::holds(list, at, &[answer])
+}
+
+// merge of the other memory's grid; the plan's table serves both
+fn merge(
+    list: &[u8],
+    at: usize,
+    table: &[u64],
+    reals: &mut [f64],
+    counts: &mut [u64],
+    other_reals: &[f64],
+    other_counts: &[u64],
+) -> bool
+    requires { ⌜ at < 1047000 ⌝ }
+{
+    let answer = grid::merge(table, reals, counts, table, other_reals, other_counts);
+    holds_end(list, at, answer, table, reals, counts)
+}
+
 // A cell set as the list says.
 fn put(list: &[u8], at: usize, table: &[u64], reals: &mut [f64], counts: &mut [u64]) -> bool
     requires { ⌜ at < 1047000 ⌝ }
@@ -138,6 +170,8 @@ pub fn replay_writing(
         6 => train(list, at, table, reals, counts),
         7 => update(list, at, table, reals, counts, spare_reals, spare_counts),
         8 => copy(list, at, table, reals, counts, other_reals, other_counts),
+        9 => is_mergeable(list, at, table, reals, counts, other_reals, other_counts),
+        10 => merge(list, at, table, reals, counts, other_reals, other_counts),
         11 => put(list, at, table, reals, counts),
         _ => false,
     }

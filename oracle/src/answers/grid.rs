@@ -22,6 +22,8 @@ const LIVE_ESTIMATE_OF_BIN: u64 = 5;
 const TRAIN: u64 = 6;
 const UPDATE: u64 = 7;
 const COPY: u64 = 8;
+const IS_MERGEABLE: u64 = 9;
+const MERGE: u64 = 10;
 const PUT: u64 = 11;
 const SAMPLE: u64 = 12;
 
@@ -154,6 +156,16 @@ impl Tape {
             self.lent = self.other_lent.clone();
         }
         self.writing(COPY, &[1], answer.map(|_| ()));
+    }
+
+    pub fn merge(&mut self) {
+        let Some(other) = self.other.clone() else {
+            return;
+        };
+        let mergeable = self.model.is_mergeable(&other);
+        self.call(IS_MERGEABLE, &[], mergeable.map(|_| Vec::new()));
+        let answer = self.model.merge(&other);
+        self.writing(MERGE, &[], answer);
     }
 
     pub fn draw(&mut self) -> Point {

@@ -1,4 +1,4 @@
-//! Histories of a grid: training, updates and copies, by chance and by
+//! Histories of a grid: training, updates, copies and merges, by chance and by
 //! construction.
 
 use super::double;
@@ -44,6 +44,7 @@ fn round(dice: &mut Dice, tape: &mut Tape) {
             tape.copy();
             tape.copy_back();
         }
+        2 => tape.merge(),
         _ => {}
     }
     let bad = dice.chance(1, 12);
@@ -52,6 +53,7 @@ fn round(dice: &mut Dice, tape: &mut Tape) {
     if dice.chance(1, 4) {
         tape.copy();
         tape.sample(1.0);
+        tape.merge();
     }
 }
 
@@ -205,9 +207,11 @@ fn minus_zeros() -> Tape {
     tape.train(&at(-0.0), -0.0, 1);
     tape.train(&at(0.7), 1.0, 2);
     tape.copy();
+    tape.merge();
     tape.update(0.0, -0.0);
     put(&mut tape, ROOT_EDGES, &[-0.0]);
     tape.probe_at(&at(-0.0));
+    tape.merge();
     tape
 }
 
@@ -250,7 +254,7 @@ fn infinite_weight() -> Tape {
     tape
 }
 
-/// A count past its end, and a last iteration.
+/// A merge of sums and of counts past their ends, and a last iteration.
 fn overflows() -> Tape {
     let mut tape = begun(&one_axis(1, &[], 0.0));
     tape.train(&at(0.5), 1.2e154, 1);
@@ -276,6 +280,7 @@ fn shrinking() -> Tape {
     }
     tape.copy();
     tape.sample(1.0);
+    tape.merge();
     tape.copy_back();
     tape
 }

@@ -13,7 +13,9 @@ fn main() -> ExitCode {
         eprintln!("usage: compare PROGRAM N SEED");
         return ExitCode::from(2);
     };
-    let differing = compare(program, *count, *seed);
+    let mut refused = [0; 13];
+    let differing = compare(program, *count, *seed, &mut refused);
+    println!("{}", shares(&refused));
     println!("{} of {count} agree", count - differing);
     if differing == 0 {
         ExitCode::SUCCESS
@@ -22,11 +24,13 @@ fn main() -> ExitCode {
     }
 }
 
-fn compare(program: &str, count: u64, seed: u64) -> u64 {
+/// How many inputs differ; and how many the oracle refuses, by number.
+fn compare(program: &str, count: u64, seed: u64, refused: &mut [u64; 13]) -> u64 {
     let mut differing = 0;
     for index in 0..count {
         let input = oracle::generate::input(seed, index);
         let expected = oracle::program::run(&input);
+        refused[refusal(&expected)] += 1;
         let got = answer(program, &input);
         if got.as_deref() == Ok(expected.as_bytes()) {
             continue;
@@ -37,6 +41,22 @@ fn compare(program: &str, count: u64, seed: u64) -> u64 {
         }
     }
     differing
+}
+
+/// The number of the refusal that an output ends in, or 0.
+fn refusal(output: &str) -> usize {
+    let last = output.lines().last().unwrap_or("");
+    let number = last
+        .strip_prefix("refused ")
+        .and_then(|rest| rest.split(' ').next());
+    number.map_or(0, |n| n.parse().expect("a number is printed"))
+}
+
+/// The numbers of refusals that were met, with how often.
+fn shares(refused: &[u64; 13]) -> String {
+    let met = (1..13).filter(|&n| refused[n] > 0);
+    let told: Vec<String> = met.map(|n| format!("{n} ({})", refused[n])).collect();
+    format!("refused: {}", told.join(", "))
 }
 
 /// All that the program writes, which may end before it has read everything.

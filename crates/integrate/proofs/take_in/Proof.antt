@@ -1,0 +1,62 @@
+-- `take_in`: what the turns leave lies within the text.
+use mathlib.Core.Path.{sym}
+use native.Mathlib.Omega.{arith}
+use lib.ListN.{length-take}
+use lib.Seq.{length-take-le}
+use borrow.Author.Needs.{needs}
+use Rattle.integrate.proofs.take_in.Statement.{statement}
+use Rattle.integrate.proofs.take_in.Tie as tie
+
+slice-reshare-prefix-pour : tie.Need-slice-reshare-prefix-pour
+slice-reshare-prefix-pour c = search needs
+
+slice-aggregate-pour : tie.Need-slice-aggregate-pour
+slice-aggregate-pour c = sym (length-take-le _ _ (c .before .before .before .before .before .before .before .pre))
+
+pour-requires : tie.Need-pour-requires
+pour-requires c κs = search needs
+
+keep-requires : tie.Need-keep-requires
+keep-requires c κs =
+    (omega (arith, simp length-take at (c .before .before .before .before .before .before .before .before .before .before .before .before .pour .ensures)), c .before .before .before .before .before .before .before .before .before .before .before .before .before .before .before .before .before .before .before .before .before .before .before .before .before .pre)
+
+is-over-requires : tie.Need-is-over-requires
+is-over-requires c κs = search needs
+
+same-length : tie.Need-same-length
+same-length c = search needs
+
+same-length-2 : tie.Need-same-length-2
+same-length-2 c = search needs
+
+same-length-3 : tie.Need-same-length-3
+same-length-3 c = search needs
+
+same-length-4 : tie.Need-same-length-4
+same-length-4 c = search needs
+
+same-length-5 : tie.Need-same-length-5
+same-length-5 c = search needs
+
+same-length-6 : tie.Need-same-length-6
+same-length-6 c = search needs
+
+returns : tie.Need-returns
+returns c = omega (arith, c .before .before .before .before .keep .ensures .0, c .before .before .before .before .before .before .before .before .before .before .before .before .before .before .before .before .before .before .before .before .before .before .before .before .before .before .before .before .before .before .pre)
+
+pub take-in-spec : {M : Type 1} → statement M
+take-in-spec =
+    tie.close
+    (tie.spec
+    slice-reshare-prefix-pour
+    slice-aggregate-pour
+    pour-requires
+    keep-requires
+    is-over-requires
+    same-length
+    same-length-2
+    same-length-3
+    same-length-4
+    same-length-5
+    same-length-6
+    returns)

@@ -1,0 +1,271 @@
+// The integration program: a plan, a stream, then samples and updates from standard input; a line for each update, or the first refusal.
+//
+// The work is `feed::turn`; this program reads, writes, and keeps the bytes that a turn has not taken.
+mod lines;
+
+ghost use mathlib.Core.Path.{_≡_};
+ghost use mathlib.Core.Bool.{true};
+ghost use Prim.Native.Nat.{_-_, _≤_, _<_};
+ghost use lib.ListN.{length, take, drop};
+use feed::Run;
+use feed::Turned;
+use feed::beginning;
+use feed::is_over;
+use feed::turn;
+use libc::STDIN_FILENO;
+use libc::STDOUT_FILENO;
+
+// A run after turns on some bytes: how many they took, whether what they told could be written, and whether another turn follows.
+struct Poured {
+    run: Run,
+    taken: usize,
+    open: bool,
+    goes: bool,
+}
+
+// A run after a read: how many bytes at the front of the text are still to be taken, and whether there is more to read.
+struct Fed {
+    run: Run,
+    held: usize,
+    goes: bool,
+}
+
+// The bytes from a place up to another, moved to the front; and how many they are.
+fn keep(text: &mut [u8], from: usize, to: usize) -> usize
+    requires { ⌜ (from ≤ to) × (to ≤ length (now text)) ⌝ }
+    ensures { λ r. ⌜ (r ≡ to - from) × (take r (now (text .exit)) ≡ take r (drop from (now (text .entry)))) ⌝ }
+{
+    let many = to - from;
+    let mut done = 0;
+    while done < many {
+        text[done] = text[from + done];
+        done += 1;
+    }
+    many
+}
+
+// Writes what a turn tells; and whether that could be written.
+fn tell(told: feed::Told) -> bool {
+    let mut out = [0u8; 128];
+    let put = lines::put_told(told, &mut out);
+    io::write_all(STDOUT_FILENO, &out[..put])
+}
+
+// Whether another turn follows on the bytes that are left: one that took nothing waits for more of them.
+fn goes_on(turned: Turned, open: bool) -> bool
+    ensures { λ r. ⌜ (r ≡ true → 0 < turned .taken) ⌝ }
+{
+    if turned.taken == 0 {
+        return false;
+    }
+    let run = turned.run;
+    open & !is_over(run)
+}
+
+// One turn on the bytes from a place on, and its line.
+fn step(
+    run: Run,
+    bytes: &[u8],
+    from: usize,
+    last: bool,
+    table: &mut [u64],
+    reals: &mut [f64],
+    counts: &mut [u64],
+    spare_reals: &mut [f64],
+    spare_counts: &mut [u64],
+) -> Poured
+    requires { ⌜ from ≤ length (now bytes) ⌝ }
+    ensures { λ r. ⌜ (r .taken ≤ length (now (bytes .entry))) × (r .goes ≡ true → from < r .taken) ⌝ }
+{
+    let turned = turn(
+        run,
+        &bytes[from..],
+        last,
+        table,
+        reals,
+        counts,
+        spare_reals,
+        spare_counts,
+    );
+    let told = turned.told;
+    let open = tell(told);
+    let goes = goes_on(turned, open);
+    let after = turned.run;
+    Poured {
+        run: after,
+        taken: from + turned.taken,
+        open,
+        goes,
+    }
+}
+
+// Turn by turn, as far as these bytes go.
+fn pour(
+    run: Run,
+    bytes: &[u8],
+    last: bool,
+    table: &mut [u64],
+    reals: &mut [f64],
+    counts: &mut [u64],
+    spare_reals: &mut [f64],
+    spare_counts: &mut [u64],
+) -> Poured
+    ensures { λ r. ⌜ r .taken ≤ length (now (bytes .entry)) ⌝ }
+{
+    let mut now = run;
+    let mut taken = 0;
+    loop {
+        let poured = step(
+            now,
+            bytes,
+            taken,
+            last,
+            table,
+            reals,
+            counts,
+            spare_reals,
+            spare_counts,
+        );
+        if !poured.goes {
+            return poured;
+        }
+        let after = poured.run;
+        now = after;
+        taken = poured.taken;
+    }
+}
+
+// The turns on the first `full` bytes of the text, of which `held` were there before; what they leave is kept.
+fn take_in(
+    run: Run,
+    text: &mut [u8],
+    held: usize,
+    full: usize,
+    table: &mut [u64],
+    reals: &mut [f64],
+    counts: &mut [u64],
+    spare_reals: &mut [f64],
+    spare_counts: &mut [u64],
+) -> Fed
+    requires { ⌜ full ≤ length (now text) ⌝ }
+    ensures { λ r. ⌜ r .held ≤ length (now (text .entry)) ⌝ }
+{
+    let poured = pour(
+        run,
+        &text[..full],
+        full == held,
+        table,
+        reals,
+        counts,
+        spare_reals,
+        spare_counts,
+    );
+    let after = poured.run;
+    let rest = keep(text, poured.taken, full);
+    Fed {
+        run: after,
+        held: rest,
+        goes: poured.open & (held < full) & !is_over(after),
+    }
+}
+
+// One read behind the bytes that are held, and the turns on all of them. A read that fails ends it.
+fn feed_once(
+    run: Run,
+    text: &mut [u8],
+    held: usize,
+    table: &mut [u64],
+    reals: &mut [f64],
+    counts: &mut [u64],
+    spare_reals: &mut [f64],
+    spare_counts: &mut [u64],
+) -> Fed
+    requires { ⌜ held ≤ length (now text) ⌝ }
+    ensures { λ r. ⌜ r .held ≤ length (now (text .entry)) ⌝ }
+{
+    let got = libc::read(STDIN_FILENO, &mut text[held..]);
+    if got < 0 {
+        return Fed {
+            run,
+            held,
+            goes: false,
+        };
+    }
+    let full = held + io::count(got, &text[held..]);
+    take_in(
+        run,
+        text,
+        held,
+        full,
+        table,
+        reals,
+        counts,
+        spare_reals,
+        spare_counts,
+    )
+}
+
+// Read by read, to the input's end, a refusal, or a read or a write that fails. The reads are counted down from a number that no run uses
+// up, since a proved loop has to end and nothing says that an input does.
+fn integrate(
+    text: &mut [u8],
+    table: &mut [u64],
+    reals: &mut [f64],
+    counts: &mut [u64],
+    spare_reals: &mut [f64],
+    spare_counts: &mut [u64],
+) {
+    let mut run = beginning();
+    let mut held = 0;
+    let mut left = u64::MAX;
+    while 0 < left {
+        let fed = feed_once(
+            run,
+            text,
+            held,
+            table,
+            reals,
+            counts,
+            spare_reals,
+            spare_counts,
+        );
+        if !fed.goes {
+            return;
+        }
+        let after = fed.run;
+        run = after;
+        held = fed.held;
+        left -= 1;
+    }
+}
+
+// The rooms come as references to arrays, so that the proof sees their lengths and not their zeros.
+fn run(
+    text: &mut [u8; 131072],
+    table: &mut [u64; 16832],
+    reals: &mut [f64; 2816],
+    counts: &mut [u64; 1344],
+    spare_reals: &mut [f64; 2816],
+    spare_counts: &mut [u64; 1344],
+) {
+    integrate(text, table, reals, counts, spare_reals, spare_counts);
+}
+
+// 131,072 bytes decide any plan, so that a text full of them is never waited on. A table of 16,832 words holds any plan; 128 bins in 64 grids
+// need at most 2,816 reals and 1,344 counts.
+fn main() {
+    let mut text = [0u8; 131072];
+    let mut table = [0u64; 16832];
+    let mut reals = [0.0f64; 2816];
+    let mut counts = [0u64; 1344];
+    let mut spare_reals = [0.0f64; 2816];
+    let mut spare_counts = [0u64; 1344];
+    run(
+        &mut text,
+        &mut table,
+        &mut reals,
+        &mut counts,
+        &mut spare_reals,
+        &mut spare_counts,
+    );
+}
