@@ -1,0 +1,6 @@
+-- The three demands as theorems.
+pub mod Places
+pub mod Kept
+pub mod Counted
+pub mod Fresh
+pub mod Third

@@ -1,0 +1,5 @@
+-- What the three demands say.
+pub mod Address
+pub mod Fresh
+pub mod History
+pub mod Demand3
