@@ -4,3 +4,7 @@ pub mod Kept
 pub mod Counted
 pub mod Fresh
 pub mod Third
+pub mod Tied
+pub mod Planned
+pub mod Second
+pub mod ThirdLent

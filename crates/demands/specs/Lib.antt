@@ -3,3 +3,4 @@ pub mod Address
 pub mod Fresh
 pub mod History
 pub mod Demand3
+pub mod Lent
