@@ -16,23 +16,23 @@ use Rattle.real.specs.Finite.{finiteOf}
 use Rattle.real.specs.Total.{allFinite}
 use Rattle.real.specs.Total as total
 use Rattle.real.specs.Paper.{Paper, gives, refuses}
-use Rattle.real.proofs.Truth.{either, both}
+use Rattle.real.proofs.Truth.{both}
 use Rattle.real.proofs.Ladder as ladder
 use Rattle.accumulator.specs.declared.StatisticsAccumulator.{StatisticsAccumulator}
 use Rattle.accumulator.specs.Record.{bounded}
 use Rattle.axis.specs.Edges.{inUnit, binOf, wellFormed}
 use Rattle.axis.specs.Scans.{allBounded}
 use Rattle.axis.proofs.Bins.{formed, found}
-use Rattle.recut.specs.Gather.{sumOf, reachesOf, gatheredOf, joinedCounts}
+use Rattle.recut.specs.Gather.{sumOf, reachesOf}
 use Rattle.recut.specs.Weights.{smoothed}
 use Rattle.recut.specs.Cut.{cutsOf}
 use Rattle.recut.specs.Renew.{lengthsFit, edgesOf, stepOf, fromDamped, fromSmoothed, fromDivided, renewOf}
 use Rattle.recut.proofs.Laws.{gathered-length, joined-length}
-use Rattle.model.specs.Axes.{Axis, AxesPlan, AxesGrid, emptyAxis, clearedAxis}
-use Rattle.model.specs.Grid.{Grid, Bins, Child, axes, bins, none, more, nothing, grid, many, copyGrid}
+use Rattle.model.specs.Axes.{Axis, AxesPlan, emptyAxis, clearedAxis}
+use Rattle.model.specs.Grid.{Grid, Bins, Child, axes, bins, none, more, nothing, grid, many}
 use Rattle.model.specs.Sound.{sound}
 use Rattle.model.specs.Draw.{Sample, weightAt}
-use Rattle.model.specs.Train.{faultOfAll, faultOfAxes, faultOf, faultOfBin, faultOfChild, trainAxis, trainOf}
+use Rattle.model.specs.Train.{faultOfAll, faultOfAxes, faultOf, faultOfBin, faultOfChild, trainAxis}
 use Rattle.model.specs.Merge.{mergeAxis, sameLengths, sameShape, sameBins, sameChild}
 use Rattle.model.specs.Update.{trained, gatheredAxis, lastOr, binsAfter, recutTo, adaptedAxis, updateAxis, outcomeOf, updateGrid}
 use Rattle.model.proofs.Edges.{Updated, gathers, resets, recuts, update-is}
@@ -41,8 +41,8 @@ use Rattle.grid.proofs.States.{passes}
 use Rattle.grid.proofs.Reformed.{all-two}
 use Rattle.demands.specs.Address.{Spot, spot, nth, axisAt, axisIn, axisUnder}
 use Rattle.demands.specs.Fresh.{binsFit}
-use Rattle.demands.specs.History.{Call, draws, probes, sums, estimates, estimatesBin, trains, updates, matches, merges, copies, lacks, Told, telling, told, onward, after, run, Entry, entry, given, log, Count, count, is, same, waiting, waits, binCounts, totalOf, counted, tally}
-use Rattle.demands.proofs.Places.{through, meet, hit, reached, axes-fit, in-range, no-weight, train-at, merge-at, cleared, copy-at, fate, renewed, update-at, clear-at, never, same-spot}
+use Rattle.demands.specs.History.{Call, draws, probes, sums, estimates, estimatesBin, trains, updates, matches, merges, copies, lacks, Told, told, onward, after, run, given, log, Count, count, is, same, waiting, waits, binCounts, totalOf, counted, tally}
+use Rattle.demands.proofs.Places.{through, meet, reached, axes-fit, in-range, no-weight, train-at, merge-at, cleared, copy-at, fate, renewed, update-at, clear-at, never, same-spot}
 use Rattle.demands.proofs.Kept as kept
 use Rattle.demands.proofs.Kept.{Parts, parts-at, reads, leaves, says, refused-none, sound-after}
 

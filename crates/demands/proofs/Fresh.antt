@@ -1,6 +1,6 @@
 -- A fresh grid is well formed, and nothing is counted on its axes.
-use mathlib.Core.Path.{_≡_, refl, sym, ap, _∙_, subst}
-use mathlib.Core.Bool.{Bool, true, _&&_}
+use mathlib.Core.Path.{_≡_, refl, ap, subst}
+use mathlib.Core.Bool.{true, _&&_}
 use mathlib.Core.List.{List, [], _∷_}
 use mathlib.Core.Option.{some}
 use Prim.Native.Nat.{ℕ, zero, suc, _+_, _≤_}
@@ -10,14 +10,13 @@ use lib.Dec.{leb}
 use lib.ListN.{length, replicate}
 use Rattle.real.proofs.Truth.{both}
 use Rattle.real.proofs.Steps.{inv-above, inv-finite}
-use Rattle.accumulator.specs.Record as account
 use Rattle.accumulator.proofs.Laws.{fresh-sound}
 use Rattle.axis.specs.Edges.{evenEdges}
 use Rattle.axis.proofs.Fresh.{length-even, fresh-formed}
 use Rattle.recut.specs.Gather.{sumOf}
 use Rattle.recut.specs.Chances.{chance}
-use Rattle.model.specs.Axes.{Axis, AxesPlan, emptyAxis, freshAxis, freshAxes}
-use Rattle.model.specs.Grid.{Grid, Bins, Child, freshBin, freshBins, freshHead, freshGrid}
+use Rattle.model.specs.Axes.{Axis, AxesPlan, freshAxis, freshAxes}
+use Rattle.model.specs.Grid.{freshBin, freshBins, freshHead, freshGrid}
 use Rattle.model.specs.Sound.{sound, formedAxisList, keptAxisList, formedGrid, formedBins, formedChild, keptGrid, keptBins, keptChild}
 use Rattle.model.proofs.Counts.{waitingIn, countsOf, empty-counts}
 use Rattle.grid.proofs.Reformed.{all-two, listed-here, none-bounded, empty-sound}

@@ -1,8 +1,8 @@
 -- What a well-formed grid has at an address, and that every accepted call leaves a well-formed grid.
 use mathlib.Core.Path.{_≡_, refl, sym, ap, _∙_, subst}
-use mathlib.Core.Bool.{Bool, true, false, not, _&&_, cond}
+use mathlib.Core.Bool.{true, false, not, _&&_}
 use mathlib.Core.List.{List, [], _∷_, map}
-use mathlib.Core.Option.{Option, some}
+use mathlib.Core.Option.{some}
 use mathlib.Core.Option as option
 use Prim.Native.Nat.{ℕ, zero, suc, _+_}
 use native.Mathlib.Omega.{arith}
@@ -21,7 +21,7 @@ use Rattle.accumulator.specs.Steps.{clearedOf}
 use Rattle.axis.specs.Edges as Edges
 use Rattle.axis.specs.Scans.{allBounded}
 use Rattle.model.specs.Axes.{Axis, AxesPlan, clearedAxis, copyAxes}
-use Rattle.model.specs.Grid.{Head, Grid, Bins, Child, axes, bins, none, more, nothing, grid, withHead, withBin, clearedBins, copyGrid}
+use Rattle.model.specs.Grid.{Grid, Bins, Child, axes, bins, none, more, nothing, grid, withHead, withBin, clearedBins, copyGrid}
 use Rattle.model.specs.Sound.{allSound, keptAxis, keptAxisList, keptGrid, keptBins, keptChild, listed, formedAxis, formedAxisList, formedGrid, formedBins, formedChild, sound, chance}
 use Rattle.model.specs.Draw.{Sample}
 use Rattle.model.specs.Train as train
@@ -31,7 +31,7 @@ use Rattle.model.specs.Update.{updateGrid, rateFits, updateOf}
 use Rattle.grid.proofs.Judges.{zero-finite}
 use Rattle.grid.proofs.Reformed.{all-two, none-bounded, sound-updated}
 use Rattle.grid.proofs.Formed.{sound-trained, sound-merged}
-use Rattle.demands.specs.Address.{Spot, spot, nth, axisAt, axisIn, axisUnder, chanceAt, chanceOf, chanceIn, chanceUnder}
+use Rattle.demands.specs.Address.{Spot, nth, axisAt, axisIn, axisUnder, chanceAt, chanceOf, chanceIn, chanceUnder}
 use Rattle.demands.specs.History.{Call, draws, probes, sums, estimates, estimatesBin, trains, updates, matches, merges, copies, lacks, Word, Told, telling, reading, leaving, numbered, matched, told, onward, after, run}
 use Rattle.demands.proofs.Places.{never, same-spot}
 

@@ -8,3 +8,6 @@ pub mod Tied
 pub mod Planned
 pub mod Second
 pub mod ThirdLent
+pub mod Orders
+pub mod Ladders
+pub mod First

@@ -1,6 +1,6 @@
 -- Each call, seen at an address: one law that speaks of a place with an axis and of a place with none.
-use mathlib.Core.Path.{_≡_, refl, sym, ap, _∙_, subst}
-use mathlib.Core.Bool.{Bool, true, false, not, _||_, cond, false≢true, true≢false}
+use mathlib.Core.Path.{_≡_, refl, _∙_, subst}
+use mathlib.Core.Bool.{Bool, true, false, not, _||_, cond, true≢false}
 use mathlib.Core.List.{List, [], _∷_, map}
 use mathlib.Core.Option.{Option, some}
 use mathlib.Core.Option as option
@@ -15,7 +15,7 @@ use Rattle.accumulator.specs.Record.{wellFormed}
 use Rattle.accumulator.specs.Update.{updatedOf}
 use Rattle.recut.specs.Chances.{adaptedTo, allChances}
 use Rattle.model.specs.Axes.{Axis, AxesPlan, AxesGrid, clearedAxis, copyAxes}
-use Rattle.model.specs.Grid.{Head, Grid, Bins, Child, axes, bins, none, more, nothing, grid, many, withHead, withBin, clearedBins, copyGrid}
+use Rattle.model.specs.Grid.{Head, Grid, Bins, Child, axes, bins, none, more, nothing, grid, many, withHead, clearedBins, copyGrid}
 use Rattle.model.specs.Draw.{weightAt}
 use Rattle.model.specs.Train.{faultOfAll, faultOfAxes, faultOf, faultOfBin, faultOfChild, trainAxis, trainAll, trainAxes, trainGrid, trainBin, trainChild}
 use Rattle.model.specs.Merge.{mergeAxis, mergeAll, mergeGrid, mergeBins, mergeChild}

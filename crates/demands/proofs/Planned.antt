@@ -1,23 +1,23 @@
 -- What `fresh` lays is the fresh grid of a plan whose sizes are within their bounds: the one that its table says.
-use mathlib.Core.Path.{_≡_, refl, sym, ap, ap₂, _∙_}
+use mathlib.Core.Path.{_≡_, refl, ap, ap₂}
 use mathlib.Core.Logic.{inl, inr}
-use mathlib.Core.Bool.{Bool, true, false, cond, _&&_}
+use mathlib.Core.Bool.{Bool, true, false, cond}
 use mathlib.Core.List.{List, [], _∷_}
 use Prim.Native.Nat.{ℕ, zero, suc, _+_, _≤_, _<_}
 use native.Mathlib.Omega.{arith}
 use borrow.Author.Tests.{ne-eqb, le-leb}
-use lib.Dec.{eqb, leb}
-use lib.ListN.{length, getD}
+use lib.Dec.{eqb}
+use lib.ListN.{getD}
 use lib.Ieee.{Float, binary64, ofBits}
 use Rattle.plan.specs.Numbers.{wordsAt}
 use Rattle.model.specs.Axes.{freshAxes}
 use Rattle.model.specs.Grid.{Grid, Child, axes, nothing, grid, freshGrid}
-use Rattle.grid.specs.Tree.{axesPlanAt, childIn, AxesLaid, BinsLaid, Laid}
+use Rattle.grid.specs.Tree.{axesPlanAt, childIn, AxesLaid, Laid}
 use Rattle.grid.specs.Judged.{AllUpto}
 use Rattle.grid.specs.Founded.{freshChildren, freshNode, freshAt}
 use Rattle.grid.proofs.Sounds.{numbers-upto}
 use Rattle.grid.proofs.Reformed.{all-two}
-use Rattle.demands.specs.Fresh.{Plan, Plans, flat, tree, stop, bare, under, many, binsFit, sized, sizedAll, fresh, children}
+use Rattle.demands.specs.Fresh.{Plan, Plans, tree, bare, under, many, binsFit, sized, sizedAll, fresh, children}
 use Rattle.demands.specs.Lent.{hung, plansAt, flatAt, planAt}
 
 -- ---- the same grid

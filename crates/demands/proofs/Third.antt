@@ -16,9 +16,9 @@ use Rattle.demands.specs.Fresh.{Plan, sized, fresh}
 use Rattle.demands.specs.History.{Call, run, log, count, totalOf, sinceReset}
 use Rattle.demands.specs.Demand3.{Demand3}
 use Rattle.demands.proofs.Places.{never}
-use Rattle.demands.proofs.Kept.{Parts, parts-at, chance-at, sound-run}
+use Rattle.demands.proofs.Kept.{parts-at, chance-at, sound-run}
 use Rattle.demands.proofs.Counted.{counted-run, none-run, holds-total}
-use Rattle.demands.proofs.Fresh.{Unused, sound-fresh, fresh-at}
+use Rattle.demands.proofs.Fresh.{sound-fresh, fresh-at}
 
 which : (o : Option Spot) → (o ≡ option.none) ⊎ ((s : Spot) × (o ≡ some s))
 which option.none = inl refl

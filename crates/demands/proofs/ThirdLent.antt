@@ -2,7 +2,7 @@
 -- has edges strictly rising from exactly 0 to exactly 1, whose every bin probability is finite and above 0, in which a coordinate has a bin
 -- exactly when it is a number in [0, 1] (p[i] < x ≤ p[i+1], zero in bin 0), and an axis's bin counts total the samples it accepted, merged
 -- ones included, since its last reset.
-use mathlib.Core.Path.{_≡_, sym, ap, ap₂, _∙_, subst}
+use mathlib.Core.Path.{_≡_, sym, ap, _∙_, subst}
 use mathlib.Core.List.{List, map}
 use Prim.Native.Nat.{ℕ}
 use lib.ListN.{length}

@@ -2,11 +2,11 @@
 -- stands against the memory that it leaves.
 use mathlib.Core.Path.{_≡_, refl, sym, ap, ap₂, _∙_, subst}
 use mathlib.Core.Bool.{Bool, true, false, not, _&&_, cond}
-use mathlib.Core.List.{List, [], _∷_}
-use Prim.Native.Nat.{ℕ, zero, suc, _+_, _*_, _≤_}
+use mathlib.Core.List.{List}
+use Prim.Native.Nat.{ℕ, zero, suc, _+_, _≤_}
 use native.Mathlib.Omega.{arith}
-use borrow.Author.Tests.{eqb-true, eqb-false, ne-eqb, le-ltb, not-false}
-use lib.Dec.{eqb, ltb}
+use borrow.Author.Tests.{eqb-true, eqb-false, ne-eqb, le-ltb}
+use lib.Dec.{eqb}
 use lib.ListN.{length, getD, set, replicate, length-replicate, length-set}
 use lib.Ieee.{Float}
 use Rattle.real.specs.Numbers.{zero64}
@@ -32,7 +32,7 @@ use Rattle.grid.specs.Probed.{coordinatesOf, pathFrom}
 use Rattle.grid.specs.Bins.{estimateAlong}
 use Rattle.grid.specs.Absorbed.{objectionOf}
 use Rattle.grid.specs.State.{rootOf, ownOf, judgedBy, judgedTo, faultBy, stateFault, bothJudged, secondBy, firstBy, pairFault}
-use Rattle.grid.specs.Tree.{axesPlace, axesGridAt, Laid}
+use Rattle.grid.specs.Tree.{axesPlace, Laid}
 use Rattle.grid.specs.Cleared.{clearedMemory, clearedAt, clearedAxes, clearedOwn, clearedRoot}
 use Rattle.grid.specs.United.{unitedGrid}
 use Rattle.grid.specs.Calls.{StateEnd, stateEnd, drawOf, summaryOf, liveOf, liveOfBin, probeOf, trainCallOf, updatedBy, updateOf, mergeableOf, unitedBy, mergeIntoOf, CloneEnd, cloneEnd, copiedTo, clonedBy, cloneBy, cloneOf}
@@ -42,14 +42,14 @@ use Rattle.grid.proofs.Laid.{root-laid, laid-axes, laid-bins}
 use Rattle.grid.proofs.Sounds.{node-axes}
 use Rattle.grid.proofs.Samples.{sound-stands}
 use Rattle.grid.proofs.Copies.{cleared-below}
-use Rattle.grid.proofs.Clones.{Ready, ready, root-axes, root-bins, front-length, copy-sound}
+use Rattle.grid.proofs.Clones.{ready, root-axes, root-bins, front-length, copy-sound}
 use Rattle.grid.proofs.Cloned.{own-within, clone-copies}
 use Rattle.grid.proofs.Objections.{grants, train-objection}
 use Rattle.grid.proofs.AbsorbedTree.{train-trains}
 use Rattle.grid.proofs.UpdatedState.{Called, update-updates}
 use Rattle.grid.proofs.UnitedTree.{merge-read}
 use Rattle.demands.specs.History as model
-use Rattle.demands.specs.History.{Call, Word, Told, telling, drawing, weight, summary, estimate, reading, leaving, numbered, matched, told, onward, after}
+use Rattle.demands.specs.History.{Call, Word, drawing, weight, summary, estimate, reading, leaving, numbered, matched, told, onward, after}
 use Rattle.demands.specs.Lent.{Deed, draws, probes, sums, estimates, estimatesBin, trains, updates, matches, merges, copies, mapped, replyOf, copyOr, stateOf, roomBy, roomFault, lent, plainly, besides, seen, worded}
 use Rattle.demands.proofs.Kept.{refused-none, sound-copied}
 
@@ -274,9 +274,8 @@ module _ (table : List ℕ) (m : Memory) where
     called-ends e (gives g) h c = gave e g (c .0) (c .1) (c .2) (c .3) (c .4)
     called-ends e (refuses n) h c = refused e n h c
 
-    update-ends : (binsRate axesRate : Float) (R C : ℕ) → roomFault table R C ≡ 0 → Ends (updateOf table binsRate axesRate R C m) (update.updateOf binsRate axesRate root)
-    update-ends binsRate axesRate R C z = subst (λ (e : StateEnd). Ends e (update.updateOf binsRate axesRate root)) same
-        (called-ends _ _ (update-above binsRate axesRate root) (update-updates table binsRate axesRate m to needs large (state .planned) there))
+    pub update-called : (binsRate axesRate : Float) (R C : ℕ) → roomFault table R C ≡ 0 → Called table m (updateOf table binsRate axesRate R C m) (update.updateOf binsRate axesRate root)
+    update-called binsRate axesRate R C z = subst (λ (e : StateEnd). Called table m e (update.updateOf binsRate axesRate root)) same (update-updates table binsRate axesRate m to needs large (state .planned) there)
       where
         to : Memory
         to = memory (replicate R zero64) (replicate C 0)
@@ -292,6 +291,9 @@ module _ (table : List ℕ) (m : Memory) where
 
         same : updateOf table binsRate axesRate (length (to .reals)) (length (to .counts)) m ≡ updateOf table binsRate axesRate R C m
         same = ap₂ (λ (i j : ℕ). updateOf table binsRate axesRate i j m) long wide
+
+    update-ends : (binsRate axesRate : Float) (R C : ℕ) → roomFault table R C ≡ 0 → Ends (updateOf table binsRate axesRate R C m) (update.updateOf binsRate axesRate root)
+    update-ends binsRate axesRate R C z = called-ends _ _ (update-above binsRate axesRate root) (update-called binsRate axesRate R C z)
 
     update-lacks : (binsRate axesRate : Float) (R C : ℕ) → (roomFault table R C ≡ 0 → ⊥) → updateOf table binsRate axesRate R C m ≡ stateEnd (roomFault table R C) m
     unfolding updateOf updatedBy

@@ -4,3 +4,5 @@ pub mod Fresh
 pub mod History
 pub mod Demand3
 pub mod Lent
+pub mod Order
+pub mod Demand1
