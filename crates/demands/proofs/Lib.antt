@@ -1,0 +1,13 @@
+-- The three demands as theorems.
+pub mod Places
+pub mod Kept
+pub mod Counted
+pub mod Fresh
+pub mod Third
+pub mod Tied
+pub mod Planned
+pub mod Second
+pub mod ThirdLent
+pub mod Orders
+pub mod Ladders
+pub mod First

@@ -1,0 +1,27 @@
+-- Demand 3: from a fresh grid, after any sequence of calls, refused ones included, every axis has edges strictly rising from exactly 0 to
+-- exactly 1, every bin probability is finite and above 0, a coordinate has a bin exactly when it is a number in [0, 1] (p[i] < x ≤ p[i+1],
+-- zero in bin 0), and an axis's bin counts total the samples it accepted, merged ones included, since its last reset.
+use mathlib.Core.Path.{_≡_}
+use mathlib.Core.Logic.{_↔_}
+use mathlib.Core.Bool.{true}
+use mathlib.Core.List.{List}
+use mathlib.Core.Option.{some}
+use Prim.Native.Nat.{ℕ}
+use lib.Ieee.{Float}
+use Rattle.axis.specs.Edges.{wellFormed, inUnit, InBin, binOf}
+use Rattle.recut.specs.Chances.{chance}
+use Rattle.model.specs.Axes.{Axis}
+use Rattle.model.specs.Grid.{Grid}
+use Rattle.demands.specs.Address.{Spot, axisAt, chanceAt}
+use Rattle.demands.specs.History.{Entry, totalOf, sinceReset}
+
+-- of one axis, for which the history has counted n samples: its edges, the bin rule with its uniqueness, its bin counts
+pub record AxisHolds (ax : Axis) (n : ℕ) : Type 0 where
+  pub edges : wellFormed (ax .edges) ≡ true
+  pub bin : (x : Float) (i : ℕ) → InBin (ax .edges) x i ↔ ((inUnit x ≡ true) × (i ≡ binOf (ax .edges) x))
+  pub counts : totalOf ax ≡ n
+
+-- of a grid after a history: each axis by its address, and each probability by its own
+pub record Demand3 (g : Grid) (es : List Entry) : Type 0 where
+  pub axis : (p : List ℕ) (k : ℕ) (s : Spot) → axisAt g p k ≡ some s → AxisHolds (s .axis) (sinceReset (s .plan .least) p k es)
+  pub probability : (p : List ℕ) (i : ℕ) (q : Float) → chanceAt g p i ≡ some q → chance q ≡ true

@@ -1,0 +1,8 @@
+-- What the three demands say.
+pub mod Address
+pub mod Fresh
+pub mod History
+pub mod Demand3
+pub mod Lent
+pub mod Order
+pub mod Demand1
