@@ -22,7 +22,7 @@ use Rattle.plan.specs.Walk.{fromTable}
 use Rattle.plan.specs.Bounds.{Bytes, Inside}
 use Rattle.plan.specs.Writing.{Writable, laid}
 use Rattle.plan.specs.Paper.{paperRead, paperSized}
-use Rattle.plan.specs.Calls.{begin, gridOf, end, writtenOf, readPrefixOf, measureOf, readPlanOf, sizesOf}
+use Rattle.plan.specs.Calls.{begin, gridOf, end, writtenOf, readPrefixOf, measureOf, measurePrefixOf, readPlanOf, sizesOf}
 use Rattle.plan.proofs.Trees.{start-roomy}
 use Rattle.plan.proofs.Readings.{stops-reads}
 use Rattle.plan.proofs.Steps.{some, stopped}
@@ -111,6 +111,14 @@ module _ (bs : List ℕ) where
     pub measure-whole : {n : Needs} → length bs ≤ q .at → n ≡ needsOf (q .tally) → paperRead (answer.Plan (q .at) n) ≡ measureOf bs
     unfolding measureOf paperRead
     measure-whole m n = rw (grid-done bs q e .reads .grid, le-ltb (q .at) (length bs) m, n)
+
+    pub prefix-measured : {n : Needs} → n ≡ needsOf (q .tally) → paperRead (answer.Plan (q .at) n) ≡ measurePrefixOf bs
+    unfolding measurePrefixOf paperRead
+    prefix-measured n = rw (grid-done bs q e .reads .grid, n)
+
+  pub prefix-unmeasured : {n at : ℕ} → step.Stopped n at ≡ stepOf (gridOf bs) → paperRead (answer.Refused n at) ≡ measurePrefixOf bs
+  unfolding measurePrefixOf paperRead
+  prefix-unmeasured {n} {at} e = rw (stopped (gridOf bs) n at e)
 
 -- 3. A table's sizes --------------------------------------------------------------------------------------
 

@@ -12,6 +12,8 @@ use Rattle.plan.specs.Paper.{PlanRead, planRead, paperRead, paperSized}
 use Rattle.plan.specs.Calls.{End}
 use Rattle.plan.proofs.measure_plan.Kinds as measure-plan
 use Rattle.plan.proofs.measure_plan.Reads as measure-plan-reads
+use Rattle.plan.proofs.measure_prefix.Kinds as measure-prefix
+use Rattle.plan.proofs.measure_prefix.Reads as measure-prefix-reads
 use Rattle.plan.proofs.read_plan.Kinds as read-plan
 use Rattle.plan.proofs.read_plan.Reads as read-plan-reads
 use Rattle.plan.proofs.read_prefix.Kinds as read-prefix
@@ -44,6 +46,13 @@ measure-plan-total κs a = tt
 pub measure-plan-unique : (κs : Lfts 1) (a : Dens κs measure-plan.ps) (r r′ : Read) (s s′ : AtExit (endedOf 1 measure-plan.ps measure-plan.r) κs)
     → measure-plan-reads.Post κs a r s → measure-plan-reads.Post κs a r′ s′ → r ≡ r′
 measure-plan-unique κs a r r′ s s′ p q = paper-read-one r r′ (p ∙ sym q)
+
+pub measure-prefix-total : (κs : Lfts 1) (a : Dens κs measure-prefix.ps) → measure-prefix-reads.Pre κs a
+measure-prefix-total κs a = tt
+
+pub measure-prefix-unique : (κs : Lfts 1) (a : Dens κs measure-prefix.ps) (r r′ : Read) (s s′ : AtExit (endedOf 1 measure-prefix.ps measure-prefix.r) κs)
+    → measure-prefix-reads.Post κs a r s → measure-prefix-reads.Post κs a r′ s′ → r ≡ r′
+measure-prefix-unique κs a r r′ s s′ p q = paper-read-one r r′ (p ∙ sym q)
 
 pub read-plan-total : (κs : Lfts 2) (a : Dens κs read-plan.ps) → read-plan-reads.Pre κs a
 read-plan-total κs a = tt

@@ -13,7 +13,7 @@ ghost use mathlib.Core.Path.{_≡_};
 ghost use Rattle.plan.specs.Reading.{stepOf};
 ghost use Rattle.plan.specs.Paper.{paperRead, paperSized};
 ghost use Rattle.plan.specs.Needs.{needsOf};
-ghost use Rattle.plan.specs.Calls.{begin, end, gridOf, measureOf, readPlanOf, readPrefixOf, sizesOf};
+ghost use Rattle.plan.specs.Calls.{begin, end, gridOf, measureOf, measurePrefixOf, readPlanOf, readPrefixOf, sizesOf};
 use bytes::byte_at;
 use measuring::measure;
 use walking::known;
@@ -171,6 +171,22 @@ pub fn measure_plan(bytes: &[u8]) -> Read
             let taken = past.tally;
             Read::Plan {
                 end: at,
+                needs: needs_of(taken),
+            }
+        }
+    }
+}
+
+// Judges the shortest prefix that is a plan and measures it; what follows is not looked at, and nothing is written.
+pub fn measure_prefix(bytes: &[u8]) -> Read
+    ensures { λ r. ⌜ paperRead r ≡ measurePrefixOf (now (bytes .entry)) ⌝ }
+{
+    match judge(bytes) {
+        Step::Stopped { number, at } => Read::Refused { number, offset: at },
+        Step::Done(past) => {
+            let taken = past.tally;
+            Read::Plan {
+                end: past.at,
                 needs: needs_of(taken),
             }
         }
