@@ -3,31 +3,29 @@
 use mathlib.Core.Path.{_≡_, refl, sym, ap, _∙_, subst}
 use mathlib.Core.Bool.{Bool, true, false, not, _&&_, cond}
 use mathlib.Core.List.{List, [], _∷_, _++_, append-nil, append-assoc}
-use Prim.Native.Nat.{ℕ, zero, suc, _+_, _-_, _*_, _^_, _≤_, _<_}
+use Prim.Native.Nat.{ℕ, zero, suc, _+_, _-_, _*_, _^_, _<_}
 use native.Mathlib.Omega.{arith}
-use borrow.Author.Tests.{ne-eqb, eqb-true}
+use borrow.Author.Tests.{ne-eqb}
 use lib.Dec.{eqb, ltb}
-use lib.ListN.{length, getD, take, drop, length-append, List·getD-append, List·getD-eq-default}
+use lib.ListN.{length, getD, take, drop, length-append, List·getD-append}
 use lib.Seq.{take-append-le}
 use lib.Ieee.{Float}
 use Rattle.plan.specs.Bounds.{Bytes}
-use Rattle.plan.specs.Numbers.{numberAt}
 use Rattle.plan.specs.Paper as plan
 use Rattle.plan.specs.Calls.{End, readPrefixOf}
 use Rattle.plan.proofs.Tables.{Words}
-use Rattle.stream.specs.Calls.{newOf}
 use Rattle.grid.specs.Memory.{Memory}
-use Rattle.grid.specs.Calls.{freshOf, updateOf}
+use Rattle.grid.specs.Calls.{freshOf}
 use Rattle.feed.specs.declared.Phase.{Phase}
 use Rattle.feed.specs.declared.Phase.the-variants as phase
 use Rattle.feed.specs.declared.Run.{Run}
 use Rattle.feed.specs.declared.fields.Standing.{Standing}
 use Rattle.feed.specs.declared.fields.Standing.the-variants as standing
-use Rattle.feed.specs.Said.{none, Said, isOverIn, isOverOf, waiting, refusingAt}
+use Rattle.feed.specs.Said.{Said, isOverIn, isOverOf, waiting, refusingAt}
 use Rattle.feed.specs.Fields.{doubleAt, missingOf, standingOf, isSample, rowFrom}
-use Rattle.feed.specs.Turns.{TurnEnd, turnEnd, allIn, freshEnds, foundOf, planBy, planTurn, madeOf, streamBy, streamTurn, trainOf, rowBy, rowTurn, updateEnds, renewOf, updateBy, updateTurn, samplesTurn, turnBy, turnOf}
-use Rattle.feed.proofs.Rows.{sample-is, is-sample, row-none, row-one}
-use Rattle.feed.proofs.Standings.{Whole, whole-is, is-whole, whole-there}
+use Rattle.feed.specs.Turns.{TurnEnd, turnEnd, allIn, freshEnds, foundOf, planBy, planTurn, streamBy, streamTurn, trainOf, rowBy, rowTurn, renewOf, updateBy, updateTurn, samplesTurn, turnBy, turnOf}
+use Rattle.feed.proofs.Rows.{sample-is, row-none, row-one}
+use Rattle.feed.proofs.Standings.{Whole, is-whole, whole-there}
 use Rattle.feed.proofs.Splits.{behind, row-split}
 use Rattle.feed.proofs.Waits.{Waits}
 use Rattle.feed.proofs.Prefixes.{prefix-stays}

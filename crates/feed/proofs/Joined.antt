@@ -1,18 +1,15 @@
--- Bytes with others behind them: what stands in front stays, and what stands behind is found there.
+-- Bytes with others behind them: what stands in front stays.
 use mathlib.Core.Path.{_≡_, refl, sym, ap, _∙_}
 use mathlib.Core.Bool.{Bool, true, false, not, _&&_, cond}
-use mathlib.Core.List.{List, [], _∷_, _++_}
-use Prim.Native.Nat.{ℕ, zero, suc, _+_, _-_, _*_, _≤_, _<_}
-use native.Mathlib.Nat.{add-zero}
+use mathlib.Core.List.{List, _∷_, _++_}
+use Prim.Native.Nat.{ℕ, zero, suc, _+_, _-_, _*_, _≤_}
 use native.Mathlib.Omega.{arith}
-use borrow.Author.Tests.{ltb-false, le-ltb, lt-ltb, ltb-true, leb-true, le-leb}
+use borrow.Author.Tests.{ltb-false, le-ltb, leb-true, le-leb}
 use lib.Dec.{eqb, leb, ltb}
 use lib.ListN.{length, getD, length-append, List·getD-append}
-use lib.Seq.{getD-append-add}
 use lib.Ieee.{Float, binary64, ofBits}
 use Rattle.real.proofs.Truth.{both}
 use Rattle.plan.specs.Numbers.{numberAt}
-use Rattle.feed.specs.declared.fields.Standing.{Standing}
 use Rattle.feed.specs.declared.fields.Standing.the-variants as standing
 use Rattle.feed.specs.Fields.{doubleAt, missingOf, standingOf, isSample, rowFrom}
 use Rattle.feed.proofs.Rows.{sample-whole, row-none, row-one}
@@ -30,13 +27,6 @@ module _ (xs ys : List ℕ) where
       let here : getD (xs ++ ys) at 0 ≡ getD xs at 0 = List·getD-append xs ys 0 at (omega arith) in
       let rest : numberAt (xs ++ ys) (at + 1) k ≡ numberAt xs (at + 1) k = number-front k (at + 1) (omega arith) in
       rw (here, rest)
-
-  pub number-behind : (k at : ℕ) → numberAt (xs ++ ys) (length xs + at) k ≡ numberAt ys at k
-  unfolding numberAt
-  number-behind zero at = refl
-  number-behind (suc k) at =
-      let i : length xs + at + 1 ≡ length xs + (at + 1) = omega arith in
-      rw (getD-append-add xs ys at 0, i, number-behind k (at + 1))
 
   pub double-front : (at : ℕ) → at + 8 ≤ length xs → doubleAt (xs ++ ys) at ≡ doubleAt xs at
   unfolding doubleAt

@@ -15,7 +15,7 @@ use Rattle.stream.specs.Words.{plus}
 use Rattle.grid.specs.declared.Batched.{Batched}
 use Rattle.grid.specs.Memory.{Memory}
 use Rattle.grid.specs.State.{stateFault}
-use Rattle.grid.specs.Batched.{StepEnd, BatchEnd, batchEnd, batched, stepOf, unlessRefused, stepsOf, batchOf}
+use Rattle.grid.specs.Batched.{BatchEnd, batchEnd, batched, stepOf, unlessRefused, stepsOf, batchOf}
 use Rattle.grid.proofs.Batches.{step-onward}
 use Rattle.feed.specs.declared.Phase.{Phase}
 use Rattle.feed.specs.declared.Phase.the-variants as phase

@@ -8,7 +8,6 @@ use borrow.Author.Tests.{ltb-false, le-ltb}
 use lib.Dec.{eqb, ltb}
 use lib.ListN.{length, getD}
 use Rattle.plan.specs.Numbers.{numberAt}
-use Rattle.feed.specs.declared.fields.Standing.{Standing}
 use Rattle.feed.specs.declared.fields.Standing.the-variants as standing
 use Rattle.feed.specs.Fields.{missingOf, standingOf}
 

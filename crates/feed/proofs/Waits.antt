@@ -1,14 +1,12 @@
 -- What waits stays: a turn that takes nothing, tells nothing and does not end the run leaves the run and the grid's memory as they were.
-use mathlib.Core.Path.{_≡_, refl, sym, ap, _∙_}
-use mathlib.Core.Bool.{Bool, true, false, not, _&&_, cond}
-use mathlib.Core.List.{List, [], _∷_}
-use Prim.Native.Nat.{ℕ, zero, suc, _+_, _*_, _≤_, _<_}
-use native.Mathlib.Nat.{add-zero}
+use mathlib.Core.Path.{_≡_, refl}
+use mathlib.Core.Bool.{Bool, true, false, not, _&&_}
+use mathlib.Core.List.{List}
+use Prim.Native.Nat.{ℕ, _*_, _<_}
 use native.Mathlib.Omega.{arith}
-use borrow.Author.Tests.{not-true, not-false, eqb-true, eqb-false}
+use borrow.Author.Tests.{not-false, eqb-true}
 use lib.Dec.{eqb, ltb}
 use lib.ListN.{length, getD, take}
-use lib.Ieee.{Float}
 use Rattle.real.specs.Paper as real
 use Rattle.plan.specs.Bounds.{Bytes}
 use Rattle.plan.specs.Numbers.{numberAt}
@@ -21,7 +19,7 @@ use Rattle.accumulator.specs.declared.Summary.{Summary}
 use Rattle.grid.specs.declared.Batched.{Batched}
 use Rattle.grid.specs.Memory.{Memory}
 use Rattle.grid.specs.Calls.{FreshEnd, StateEnd, freshOf, updateOf, summaryOf}
-use Rattle.grid.specs.Batched.{BatchEnd, batchOf}
+use Rattle.grid.specs.Batched.{batchOf}
 use Rattle.feed.specs.declared.Phase.{Phase}
 use Rattle.feed.specs.declared.Phase.the-variants as phase
 use Rattle.feed.specs.declared.Run.{Run}
@@ -29,7 +27,7 @@ use Rattle.feed.specs.declared.fields.Standing.{Standing}
 use Rattle.feed.specs.declared.fields.Standing.the-variants as standing
 use Rattle.feed.specs.Said.{Line, none, line, Said, isOverIn, isOverOf, overOf, waiting, ending, going, telling, refusingAt, refusing}
 use Rattle.feed.specs.Fields.{doubleAt, standingOf, rowFrom}
-use Rattle.feed.specs.Turns.{TurnEnd, turnEnd, allIn, unreadOf, freshSaid, freshEnds, foundOf, planBy, planTurn, madeOf, streamBy, streamTurn, trainedOf, batchEnds, trainOf, rowBy, rowTurn, reportOf, updateEnds, renewOf, updateBy, updateTurn, samplesTurn, turnBy, turnOf}
+use Rattle.feed.specs.Turns.{TurnEnd, allIn, unreadOf, freshSaid, freshEnds, foundOf, planBy, planTurn, madeOf, streamBy, streamTurn, trainedOf, batchEnds, trainOf, rowBy, rowTurn, reportOf, updateEnds, renewOf, updateBy, updateTurn, samplesTurn, turnBy, turnOf}
 use Rattle.feed.proofs.Batches.{batch-all}
 use Rattle.feed.proofs.Rows.{row-some}
 use Rattle.feed.proofs.Prefixes.{prefix-some}

@@ -27,7 +27,7 @@ use Rattle.feed.specs.declared.fields.Standing.{Standing}
 use Rattle.feed.specs.declared.fields.Standing.the-variants as standing
 use Rattle.feed.specs.Said.{Said, waiting, ending, going, telling, refusingAt, refusing}
 use Rattle.feed.specs.Fields.{doubleAt, standingOf, rowFrom}
-use Rattle.feed.specs.Turns.{TurnEnd, turnEnd, allIn, unreadOf, freshSaid, freshEnds, foundOf, planBy, planTurn, madeOf, streamBy, streamTurn, trainedOf, batchEnds, trainOf, rowBy, rowTurn, reportOf, updateEnds, renewOf, updateBy, updateTurn, samplesTurn, turnBy, turnOf}
+use Rattle.feed.specs.Turns.{TurnEnd, allIn, unreadOf, freshSaid, freshEnds, foundOf, planBy, planTurn, madeOf, streamBy, streamTurn, trainedOf, batchEnds, trainOf, rowBy, rowTurn, reportOf, updateEnds, renewOf, updateBy, updateTurn, samplesTurn, turnBy, turnOf}
 use Rattle.feed.proofs.Rows.{row-fits}
 use Rattle.feed.proofs.Standings.{whole-there}
 use Rattle.feed.proofs.Batches.{batch-done}

@@ -8,7 +8,7 @@ use lib.Ieee.{Float}
 use Rattle.real.specs.Paper as real
 use Rattle.plan.specs.Numbers.{numberAt}
 use Rattle.plan.specs.Paper as plan
-use Rattle.plan.specs.Calls.{End, readPrefixOf}
+use Rattle.plan.specs.Calls.{readPrefixOf}
 use Rattle.stream.specs.declared.MonteCarloRng.{MonteCarloRng}
 use Rattle.stream.specs.Calls.{newOf}
 use Rattle.accumulator.specs.declared.Summary.{Summary}

@@ -1,6 +1,6 @@
 // The fields behind a plan, as they stand in some bytes.
 ghost use mathlib.Core.Path.{_≡_};
-ghost use Prim.Native.Nat.{_+_, _*_, _≤_};
+ghost use Prim.Native.Nat.{_≤_};
 ghost use lib.ListN.{length, take};
 ghost use Rattle.feed.specs.Fields.{missingOf, standingOf, isSample, rowFrom};
 use crate::numbers::double_at;

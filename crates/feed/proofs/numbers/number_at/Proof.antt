@@ -3,7 +3,6 @@ use borrow.Author.Needs.{needs}
 use mathlib.Core.Path.{_≡_, ap, _∙_}
 use Prim.Native.Nat.{ℕ, _+_, _-_, _*_, _≤_}
 use native.Mathlib.Omega.{arith}
-use lib.ListN.{length}
 use Rattle.plan.specs.Numbers.{numberAt}
 use Rattle.feed.proofs.Spelling.{number-none, number-all, number-more, room-for-more}
 use Rattle.feed.proofs.numbers.number_at.Statement.{statement}

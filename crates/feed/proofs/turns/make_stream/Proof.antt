@@ -1,5 +1,5 @@
 -- What `new` answers, by its two numbers.
-use mathlib.Core.Path.{sym, _∙_}
+use mathlib.Core.Path.{sym}
 use Rattle.feed.proofs.Rungs.{refused-here, made-refused, made-stream}
 use borrow.Author.Needs.{needs}
 use Rattle.feed.proofs.turns.make_stream.Statement.{statement}
