@@ -1,9 +1,8 @@
 -- The right program meets the three demands as they are stated of any program.
-use mathlib.Core.Path.{_≡_, refl, sym, ap, ap₂, _∙_, subst}
+use mathlib.Core.Path.{_≡_, refl, sym, ap, ap₂, subst}
 use mathlib.Core.Bool.{Bool, true, not}
 use mathlib.Core.List.{List, [], _∷_}
 use Prim.Native.Nat.{ℕ}
-use lib.Ieee.{Float}
 use Rattle.real.specs.Paper.{Paper, gives, refuses}
 use Rattle.real.proofs.Truth.{both}
 use Rattle.accumulator.specs.declared.Summary.{Summary}
@@ -18,9 +17,9 @@ use Rattle.model.specs.Merge.{mergeFault, mergeOf}
 use Rattle.model.specs.Update.{updateOf}
 use Rattle.grid.specs.State.{ownOf}
 use Rattle.grid.specs.Bins.{estimateBy, binAlong, estimateAlong}
-use Rattle.demands.specs.Fresh.{Plan, sized, fresh}
-use Rattle.demands.specs.History.{Call, draws, probes, sums, estimates, estimatesBin, trains, updates, matches, merges, copies, lacks, Word, done, drawing, weight, summary, estimate, Told, telling, reading, leaving, numbered, matched, told, onward, after, run, Entry, entry, given, log}
-use Rattle.demands.specs.Lent.{granted, worded, words}
+use Rattle.demands.specs.Fresh.{fresh}
+use Rattle.demands.specs.History.{Call, draws, probes, sums, estimates, estimatesBin, trains, updates, matches, merges, copies, lacks, Word, done, drawing, weight, summary, estimate, Told, telling, reading, leaving, numbered, matched, told, onward, after, run, Entry, entry, log}
+use Rattle.demands.specs.Lent.{worded, words}
 use Rattle.demands.specs.Order.{Test, Ordered, matchTests, mergeTests}
 use Rattle.demands.specs.Programs.{right, endOf, wordsOf, logOf, testsOf, Meets1, Meets2, Meets3}
 use Rattle.demands.specs.Demand3.{Demand3}
