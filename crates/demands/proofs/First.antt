@@ -2,10 +2,10 @@
 -- unchanged then; it is answered otherwise.
 use mathlib.Core.Path.{_≡_, refl, sym, ap, _∙_, subst}
 use mathlib.Core.Bool.{Bool, true, false, not, cond}
-use mathlib.Core.List.{List, [], _∷_, _++_, append-nil}
-use Prim.Native.Nat.{ℕ, zero, suc, _+_}
+use mathlib.Core.List.{List, [], _∷_, _++_}
+use Prim.Native.Nat.{ℕ, suc, _+_}
 use native.Mathlib.Omega.{arith}
-use borrow.Author.Tests.{eqb-true, eqb-false, ne-eqb, not-false}
+use borrow.Author.Tests.{eqb-true, eqb-false, not-false}
 use lib.Dec.{eqb, ltb}
 use lib.ListN.{length}
 use lib.Ieee.{Float}
@@ -50,21 +50,13 @@ use Rattle.demands.specs.History.{Word, numbered}
 use Rattle.demands.specs.Lent.{roomBy, roomFault}
 use Rattle.demands.specs.Order.{Test, test, First, NoneHolds, Ordered, stateTestsBy, stateTests, roomTestsBy, roomTests, secondTests, firstTests, pairTests, planTests, freshTests, liveTests, alongTests, probeTests, trainTests, updateTests, matchTests, mergeTests}
 use Rattle.demands.specs.Demand1.{atField, Guarded, Demand1}
-use Rattle.demands.proofs.Kept.{refused-none}
-use Rattle.demands.proofs.Tied.{numbered-refuses, update-called}
-use Rattle.demands.proofs.Orders.{given-last, held, passed, firstOf, Above, by-number, changed, first-above, above-append, first-is, none-is}
+use Rattle.demands.proofs.Kept.{refused-none, numbered-refuses}
+use Rattle.demands.proofs.Tied.{update-called}
+use Rattle.demands.proofs.Orders.{given-last, held, passed, firstOf, Above, by-number, changed, first-above, above-append, first-is, none-is, alone, numbered-by, numbered-ordered}
 use Rattle.demands.proofs.Ladders.{train-ordered, train-above, update-ordered, update-above, merge-ordered, merge-above, match-first, match-above, probe-ordered, live-ordered, own-kept, along-ordered}
 
 no : (n : ℕ) → suc n ≡ 0 → ⊥
 no n z = omega (arith, z)
-
--- a number is a refusal where it is not 0
-pub numbered-by : (f : ℕ) (n : ℕ) → numbered (cond (not (eqb f 0)) f n) ≡ cond (not (eqb f 0)) (refuses f) (numbered n)
-numbered-by f n = pick (eqb f 0) refl
-  where
-    pick : (b : Bool) → eqb f 0 ≡ b → numbered (cond (not b) f n) ≡ cond (not b) (refuses f) (numbered n)
-    pick true h = refl
-    pick false h = numbered-refuses f (eqb-false f 0 h)
 
 -- where a fault is found, the state is left alone
 end-answer : (f : ℕ) (m : Memory) (e : StateEnd) → (cond (not (eqb f 0)) (stateEnd f m) e) .answer ≡ cond (not (eqb f 0)) f (e .answer)
@@ -126,9 +118,6 @@ module _ (table : List ℕ) (m : Memory) where
   -- a call on a state that may be refused, then its own tests
   on-state : {A : Type 0} (us : List Test) (p : Paper A) → (sound root ≡ true → Ordered us p) → Ordered (stateTests table m ++ us) (onState fault p)
   on-state us p o = by-number (stateTests table m) us p fault state-first state-above (λ z. o (fault-sound z))
-
-  alone : {A : Type 0} (ts : List Test) (p : Paper A) → Ordered (ts ++ []) p → Ordered ts p
-  alone ts p o = subst (λ (l : List Test). Ordered l p) (append-nil ts) o
 
   draw-ordered : (s : MonteCarloRng) → Ordered (stateTests table m) (drawOf table (m .reals) (m .counts) s)
   unfolding drawOf
@@ -196,14 +185,6 @@ module _ (table : List ℕ) (m : Memory) where
   fresh-stays bs = fresh-left bs (measureOf bs)
 
   -- ---- a number, 0 for none
-
-  numbered-cond : (k : ℕ) → numbered k ≡ cond (not (eqb k 0)) (refuses k) (gives model.done)
-  unfolding numbered
-  numbered-cond zero = refl
-  numbered-cond (suc k) = rw (ne-eqb (suc k) 0 (no k))
-
-  numbered-ordered : (ts : List Test) (k : ℕ) → k ≡ firstOf ts → Above ts → Ordered ts (numbered k)
-  numbered-ordered ts k e a = subst (λ (p : Paper Word). Ordered ts p) (sym (numbered-cond k)) (alone ts _ (by-number ts [] (gives model.done) k e a (λ z. given-last model.done)))
 
   -- what a model's answer comes to as a number
   answered : (ts : List Test) (p : Paper Grid) (f : Paper Grid → ℕ) → Above ts → Ordered ts p → ((n : ℕ) → f (refuses n) ≡ n) → ((g : Grid) → f (gives g) ≡ 0) → Ordered ts (numbered (f p))

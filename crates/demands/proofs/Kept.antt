@@ -248,6 +248,12 @@ says g (refuses n) t e = let z : _≡_ {A = ℕ} 0 1 = cc in absurd (omega arith
 pub refused-none : {A : Type 0} (n : ℕ) (x : A) → _≡_ {A = Paper A} (refuses n) (gives x) → ⊥
 refused-none n x e = let z : _≡_ {A = ℕ} 0 1 = cc in absurd (omega arith)
 
+-- a number that is not 0 is a refusal
+pub numbered-refuses : (n : ℕ) → (n ≡ 0 → ⊥) → numbered n ≡ refuses n
+unfolding numbered
+numbered-refuses zero z = absurd (z refl)
+numbered-refuses (suc n) z = refl
+
 -- ---- every accepted call leaves a well-formed grid
 
 pub sound-told : (g : Grid) (c : Call) (t : Told) → sound g ≡ true → told g c ≡ gives t → sound (t .grid) ≡ true

@@ -11,3 +11,5 @@ pub mod ThirdLent
 pub mod Orders
 pub mod Ladders
 pub mod First
+pub mod Meets
+pub mod Refuted

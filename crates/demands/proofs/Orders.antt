@@ -2,13 +2,15 @@
 use mathlib.Core.Path.{_≡_, refl, sym, ap, _∙_, subst}
 use mathlib.Core.Logic.{_⊎_, inl, inr}
 use mathlib.Core.Bool.{Bool, true, false, not, cond, true≢false, false≢true}
-use mathlib.Core.List.{List, [], _∷_, _++_}
-use Prim.Native.Nat.{ℕ}
-use borrow.Author.Tests.{ne-eqb}
+use mathlib.Core.List.{List, [], _∷_, _++_, append-nil}
+use Prim.Native.Nat.{ℕ, zero, suc}
+use native.Mathlib.Omega.{arith}
+use borrow.Author.Tests.{ne-eqb, eqb-false}
 use lib.Dec.{eqb}
 use Rattle.real.specs.Paper.{Paper, gives, refuses}
+use Rattle.demands.specs.History.{Word, done, numbered}
 use Rattle.demands.specs.Order.{Test, test, First, NoneHolds, Ordered}
-use Rattle.demands.proofs.Kept.{refused-none}
+use Rattle.demands.proofs.Kept.{refused-none, numbered-refuses}
 
 same-number : {A : Type 0} (n m : ℕ) → _≡_ {A = Paper A} (refuses n) (refuses m) → n ≡ m
 same-number n m e = cc
@@ -107,3 +109,24 @@ pub none-is : (ts : List Test) → NoneHolds ts → firstOf ts ≡ 0
 unfolding NoneHolds firstOf
 none-is [] w = refl
 none-is (t ∷ ts) w = rw (w .0) (none-is ts (w .1))
+
+-- ---- a number, 0 for none
+
+pub alone : {A : Type 0} (ts : List Test) (p : Paper A) → Ordered (ts ++ []) p → Ordered ts p
+alone ts p o = subst (λ (l : List Test). Ordered l p) (append-nil ts) o
+
+-- a number is a refusal where it is not 0
+pub numbered-by : (f : ℕ) (n : ℕ) → numbered (cond (not (eqb f 0)) f n) ≡ cond (not (eqb f 0)) (refuses f) (numbered n)
+numbered-by f n = pick (eqb f 0) refl
+  where
+    pick : (b : Bool) → eqb f 0 ≡ b → numbered (cond (not b) f n) ≡ cond (not b) (refuses f) (numbered n)
+    pick true h = refl
+    pick false h = numbered-refuses f (eqb-false f 0 h)
+
+numbered-cond : (k : ℕ) → numbered k ≡ cond (not (eqb k 0)) (refuses k) (gives done)
+unfolding numbered
+numbered-cond zero = refl
+numbered-cond (suc k) = let z : suc k ≡ 0 → ⊥ = λ e. absurd (omega (arith, e)) in rw (ne-eqb (suc k) 0 z)
+
+pub numbered-ordered : (ts : List Test) (k : ℕ) → k ≡ firstOf ts → Above ts → Ordered ts (numbered k)
+numbered-ordered ts k e a = subst (λ (p : Paper Word). Ordered ts p) (sym (numbered-cond k)) (alone ts _ (by-number ts [] (gives done) k e a (λ z. given-last done)))

@@ -31,7 +31,7 @@ unfoldable pub AllGiven : List (Paper Word) → Type 0
 AllGiven [] = Unit
 AllGiven (p ∷ ps) = (granted p ≡ true) × AllGiven ps
 
-granted-is : (p : Paper Told) → granted (worded p) ≡ given p
+pub granted-is : (p : Paper Told) → granted (worded p) ≡ given p
 unfolding granted worded given
 granted-is (gives t) = refl
 granted-is (refuses n) = refl

@@ -3,7 +3,7 @@
 use mathlib.Core.Path.{_≡_, refl, sym, ap, ap₂, _∙_, subst}
 use mathlib.Core.Bool.{Bool, true, false, not, _&&_, cond}
 use mathlib.Core.List.{List}
-use Prim.Native.Nat.{ℕ, zero, suc, _+_, _≤_}
+use Prim.Native.Nat.{ℕ, _+_, _≤_}
 use native.Mathlib.Omega.{arith}
 use borrow.Author.Tests.{eqb-true, eqb-false, ne-eqb, le-ltb}
 use lib.Dec.{eqb}
@@ -51,7 +51,7 @@ use Rattle.grid.proofs.UnitedTree.{merge-read}
 use Rattle.demands.specs.History as model
 use Rattle.demands.specs.History.{Call, Word, drawing, weight, summary, estimate, reading, leaving, numbered, matched, told, onward, after}
 use Rattle.demands.specs.Lent.{Deed, draws, probes, sums, estimates, estimatesBin, trains, updates, matches, merges, copies, mapped, replyOf, copyOr, stateOf, roomBy, roomFault, lent, plainly, besides, seen, worded}
-use Rattle.demands.proofs.Kept.{refused-none, sound-copied}
+use Rattle.demands.proofs.Kept.{refused-none, numbered-refuses, sound-copied}
 
 -- every other table lent is of 64-bit words, as this one
 unfoldable pub Wordy : Deed → Type 0
@@ -77,11 +77,6 @@ reading-stays : {A : Type 0} (f : A → Word) (g : Grid) (p : Paper A) → onwar
 unfolding onward reading
 reading-stays f g (gives x) = refl
 reading-stays f g (refuses n) = refl
-
-pub numbered-refuses : (n : ℕ) → (n ≡ 0 → ⊥) → numbered n ≡ refuses n
-unfolding numbered
-numbered-refuses zero z = absurd (z refl)
-numbered-refuses (suc n) z = refl
 
 matched-words : (g : Grid) (p : Paper Word) → p ≡ worded (matched g p)
 unfolding matched worded

@@ -15,10 +15,15 @@ use Rattle.model.specs.Grid.{Grid}
 use Rattle.demands.specs.Address.{Spot, axisAt, chanceAt}
 use Rattle.demands.specs.History.{Entry, totalOf, sinceReset}
 
+-- the bin rule with its uniqueness, of a function that gives a coordinate its bin: x is in bin i exactly when x is a number in [0, 1] and i
+-- is the bin that it gives
+abbrev pub BinRule : (List Float → Float → ℕ) → List Float → Type 0
+BinRule f es = (x : Float) (i : ℕ) → InBin es x i ↔ ((inUnit x ≡ true) × (i ≡ f es x))
+
 -- of one axis, for which the history has counted n samples: its edges, the bin rule with its uniqueness, its bin counts
 pub record AxisHolds (ax : Axis) (n : ℕ) : Type 0 where
   pub edges : wellFormed (ax .edges) ≡ true
-  pub bin : (x : Float) (i : ℕ) → InBin (ax .edges) x i ↔ ((inUnit x ≡ true) × (i ≡ binOf (ax .edges) x))
+  pub bin : BinRule binOf (ax .edges)
   pub counts : totalOf ax ≡ n
 
 -- of a grid after a history: each axis by its address, and each probability by its own

@@ -6,3 +6,4 @@ pub mod Demand3
 pub mod Lent
 pub mod Order
 pub mod Demand1
+pub mod Programs
