@@ -11,3 +11,5 @@ pub mod Splits
 pub mod Waits
 pub mod Joined
 pub mod Chunks
+pub mod Settled
+pub mod SettledPlan
