@@ -13,3 +13,4 @@ pub mod Joined
 pub mod Chunks
 pub mod Settled
 pub mod SettledPlan
+pub mod PlanChunks

@@ -1,24 +1,21 @@
 -- Reading a plan off bytes with others behind them: what was settled stays. A refusal other than 1 is settled, and so is a plan with
 -- something behind it.
 use mathlib.Core.Path.{_≡_, refl, sym, ap, _∙_, subst}
-use mathlib.Core.Bool.{Bool, true, false, not, _&&_, cond}
+use mathlib.Core.Bool.{Bool, true, false, not, cond}
 use mathlib.Core.List.{List, _∷_, _++_}
-use Prim.Native.Nat.{ℕ, zero, suc, _+_, _-_, _*_, _/_, _%_, _≤_, _<_}
+use Prim.Native.Nat.{ℕ, zero, suc, _+_, _-_, _*_, _/_, _≤_, _<_}
 use native.Mathlib.Omega.{arith}
-use borrow.Author.Tests.{not-true, not-false, eqb-true, eqb-false, eq-eqb, ne-eqb, leb-true, le-leb, ltb-true, ltb-false}
+use borrow.Author.Tests.{eqb-true, eqb-false, eq-eqb, leb-true, le-leb, ltb-true, ltb-false}
 use lib.Dec.{eqb, leb, ltb}
 use lib.ListN.{length, getD, length-append, List·getD-append, List·getD-eq-default}
 use Rattle.plan.specs.declared.Place.{Place}
 use Rattle.plan.specs.declared.AxesPlan.{AxesPlan}
-use Rattle.plan.specs.declared.BinsPlan.{BinsPlan}
-use Rattle.plan.specs.declared.Child.{Child}
 use Rattle.plan.specs.declared.Child.the-variants as child
 use Rattle.plan.specs.declared.Field.{Field}
 use Rattle.plan.specs.declared.Field.the-variants as field
 use Rattle.plan.specs.Numbers.{numberAt, runOf, valuesAt}
-use Rattle.plan.specs.Needs.{axesTaken, binsTaken}
-use Rattle.plan.specs.Fields.{formed, valuesIn, evolutionFault, spanOf, axesAt, axesFault, axesField, binsAt, binsFault, binsField, nothingField, fieldOf}
-use Rattle.plan.specs.Ranges.{within, bounded, scanned}
+use Rattle.plan.specs.Needs.{axesTaken}
+use Rattle.plan.specs.Fields.{formed, valuesIn, evolutionFault, spanOf, axesAt, axesFault, axesField, binsAt, binsField, nothingField, fieldOf}
 use Rattle.plan.proofs.Here.{whole, length-here}
 use Rattle.feed.proofs.Joined.{number-front}
 
@@ -113,6 +110,7 @@ module _ (xs ys : List ℕ) where
       by-room : eqb (getD xs at 0) 2 ≡ true → (b : Bool) → leb (at + 3 + numberAt xs (at + 1) 2) (length xs) ≡ b → Evolved at
       by-room e true l = let w = leb-true (at + 3 + numberAt xs (at + 1) 2) (length xs) l in evolution-there at (omega arith) w e
       by-room e false l = absurd (settled (cut xs at e l))
+
       by-tag : (b : Bool) → eqb (getD xs at 0) 2 ≡ b → Evolved at
       by-tag true e = by-room e (leb (at + 3 + numberAt xs (at + 1) 2) (length xs)) refl
       by-tag false e = no-evolution at (other e) e

@@ -15,8 +15,8 @@ use Rattle.plan.specs.declared.Field.{Field}
 use Rattle.plan.specs.declared.Field.the-variants as field
 use Rattle.plan.specs.declared.BinsPlan.{BinsPlan}
 use Rattle.plan.specs.Numbers.{runOf, valuesAt}
-use Rattle.plan.specs.Plan.{Tree, nothing, axes}
-use Rattle.plan.specs.Fields.{spanOf, axesAt, fieldOf}
+use Rattle.plan.specs.Plan.{Tree, axes}
+use Rattle.plan.specs.Fields.{spanOf, fieldOf}
 use Rattle.plan.specs.Reading.{Out, Outs, consTo, then, binsTo, treesOf, hung, opened, treeOf, fromBytes}
 use Rattle.plan.specs.Calls.{begin, gridOf}
 use Rattle.plan.proofs.Here.{axes-found, here-reach, deep}

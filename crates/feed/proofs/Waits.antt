@@ -38,6 +38,10 @@ pub record Waits (o : Said) : Type 0 where
   pub told : o .told ≡ plan.gives none
   pub due : isOverOf (o .run) ≡ false
 
+pub waiting-waits : (run : Run) → isOverOf run ≡ false → Waits (waiting run)
+unfolding waiting
+waiting-waits run e = record { taken = refl; told = refl; due = e }
+
 -- then the run is the one before, and so is the grid's memory
 pub record Stays (before : Run) (m : Memory) (e : TurnEnd) : Type 0 where
   pub run : e .answer .run ≡ before
