@@ -20,7 +20,7 @@ use Rattle.feed.specs.Said.{Said, isOverIn, isOverOf, waiting, refusing}
 use Rattle.feed.specs.Fields.{doubleAt, missingOf, standingOf, isSample, rowFrom}
 use Rattle.feed.specs.Turns.{TurnEnd, turnEnd, streamBy, streamTurn, trainOf, rowBy, rowTurn, renewOf, updateBy, updateTurn, samplesTurn, turnBy, turnOf}
 use Rattle.feed.proofs.Rows.{sample-is, row-none, row-one}
-use Rattle.feed.proofs.Standings.{Whole, is-whole, whole-there}
+use Rattle.feed.proofs.Standings.{wrong-waiting, is-whole, whole-there}
 use Rattle.feed.proofs.Splits.{behind, row-split}
 use Rattle.feed.proofs.Waits.{Waits, waiting-waits}
 use Rattle.feed.proofs.Joined.{number-front, double-front, standing-stays, sample-front, row-longer}
@@ -49,9 +49,6 @@ module _ (table : List ℕ) (large : Words table) (run : Run) (word : run .numbe
 no-end : (last : Bool) (n : ℕ) → 0 < n → (last && eqb n 0) ≡ false
 no-end true n h = ne-eqb n 0 (λ z. absurd (omega arith))
 no-end false n h = refl
-
-wrong-waiting : {P : Type 0} → standing.Wrong ≡ standing.Waiting → P
-wrong-waiting e = let z : _≡_ {A = ℕ} 0 1 = cc in absurd (omega arith)
 
 module _ (run : Run) (table : List ℕ) (m : Memory) (R C : ℕ) where
   -- whole 11s at the front: their row is the turn

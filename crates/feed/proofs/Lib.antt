@@ -14,3 +14,5 @@ pub mod Chunks
 pub mod Settled
 pub mod SettledPlan
 pub mod PlanChunks
+pub mod Feeding
+pub mod Turning
