@@ -16,3 +16,4 @@ pub mod SettledPlan
 pub mod PlanChunks
 pub mod Feeding
 pub mod Turning
+pub mod Reading

@@ -58,7 +58,7 @@ samples-due : (run : Run) → run .phase ≡ phase.Samples → samplesDue (run .
 unfolding samplesDue
 samples-due run p = ap samplesDue p
 
-due-samples : (p : Phase) → samplesDue p ≡ true → p ≡ phase.Samples
+pub due-samples : (p : Phase) → samplesDue p ≡ true → p ≡ phase.Samples
 unfolding samplesDue
 due-samples phase.Plan e = never (sym e)
 due-samples phase.Stream e = never (sym e)
