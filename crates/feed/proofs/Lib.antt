@@ -17,3 +17,4 @@ pub mod PlanChunks
 pub mod Feeding
 pub mod Turning
 pub mod Reading
+pub mod Decided

@@ -36,14 +36,14 @@ unfolding evolutionFault
 none bs at e = rw e
 
 -- the field 01 by its form, its faults and its numbers
-abbrev axesBy : Bool → ℕ → ℕ → AxesPlan → Place → Field
+abbrev pub axesBy : Bool → ℕ → ℕ → AxesPlan → Place → Field
 axesBy f n e a p =
     cond (not f) (field.Stop 1 (p .at))
     (cond (not (eqb n 0)) (field.Stop n (p .at))
     (cond (not (eqb e 0)) (field.Stop e (p .at + 19))
     (field.Found (record { child = child.Axes a; past = record { at = p .at + spanOf (a .values); tally = axesTaken a (p .tally) } }))))
 
-axes-by : (bs : List ℕ) (p : Place) → axesField bs p ≡ axesBy (formed bs (p .at) 16) (axesFault (axesAt bs (p .at)) (p .tally .left)) (evolutionFault bs (p .at + 19)) (axesAt bs (p .at)) p
+pub axes-by : (bs : List ℕ) (p : Place) → axesField bs p ≡ axesBy (formed bs (p .at) 16) (axesFault (axesAt bs (p .at)) (p .tally .left)) (evolutionFault bs (p .at + 19)) (axesAt bs (p .at)) p
 unfolding axesField
 axes-by bs p = refl
 
@@ -59,7 +59,7 @@ module _ (xs ys : List ℕ) where
   abbrev zs : List ℕ
   zs = xs ++ ys
 
-  longer : length xs ≤ length zs
+  pub longer : length xs ≤ length zs
   longer = omega (arith, length-append xs ys)
 
   pub byte-front : (at : ℕ) → at < length xs → getD zs at 0 ≡ getD xs at 0
@@ -81,18 +81,18 @@ module _ (xs ys : List ℕ) where
 
   -- ---- 02
 
-  record Evolved (at : ℕ) : Type 0 where
-    fault : evolutionFault zs at ≡ evolutionFault xs at
-    number : valuesIn zs at ≡ valuesIn xs at
-    values : valuesAt zs (at + 3) (valuesIn xs at) ≡ valuesAt xs (at + 3) (valuesIn xs at)
+  pub record Evolved (at : ℕ) : Type 0 where
+    pub fault : evolutionFault zs at ≡ evolutionFault xs at
+    pub number : valuesIn zs at ≡ valuesIn xs at
+    pub values : valuesAt zs (at + 3) (valuesIn xs at) ≡ valuesAt xs (at + 3) (valuesIn xs at)
 
-  no-evolution : (at : ℕ) → at < length xs → eqb (getD xs at 0) 2 ≡ false → Evolved at
+  pub no-evolution : (at : ℕ) → at < length xs → eqb (getD xs at 0) 2 ≡ false → Evolved at
   unfolding evolutionFault valuesIn valuesAt runOf
   no-evolution at h e =
       let t : eqb (getD zs at 0) 2 ≡ false = ap (λ (x : ℕ). eqb x 2) (byte-front at h) ∙ e in
       record { fault = rw (t, e); number = rw (t, e); values = rw e }
 
-  evolution-there : (at : ℕ) → at < length xs → at + 3 + numberAt xs (at + 1) 2 ≤ length xs → eqb (getD xs at 0) 2 ≡ true → Evolved at
+  pub evolution-there : (at : ℕ) → at < length xs → at + 3 + numberAt xs (at + 1) 2 ≤ length xs → eqb (getD xs at 0) 2 ≡ true → Evolved at
   unfolding evolutionFault
   evolution-there at h w e =
       let t : eqb (getD zs at 0) 2 ≡ true = ap (λ (x : ℕ). eqb x 2) (byte-front at h) ∙ e in
@@ -122,18 +122,18 @@ module _ (xs ys : List ℕ) where
   Settled (field.Found x) = x .past .at < length xs
 
   module _ (at : ℕ) (w : at + 19 ≤ length xs) where
-    fault-stays : (left : ℕ) → axesFault (axesAt zs at) left ≡ axesFault (axesAt xs at) left
+    pub fault-stays : (left : ℕ) → axesFault (axesAt zs at) left ≡ axesFault (axesAt xs at) left
     unfolding axesFault axesAt
     fault-stays left = rw (byte-front (at + 3) (omega arith), number-front xs ys 2 (at + 4) (omega arith), byte-front (at + 10) (omega arith), number-front xs ys 8 (at + 11) (omega arith))
 
-    axes-same : Evolved (at + 19) → axesAt zs at ≡ axesAt xs at
+    pub axes-same : Evolved (at + 19) → axesAt zs at ≡ axesAt xs at
     unfolding axesAt
     axes-same v =
         let i : at + 19 + 3 ≡ at + 22 = omega arith in
         let vs : valuesAt zs (at + 22) (valuesIn xs (at + 19)) ≡ valuesAt xs (at + 22) (valuesIn xs (at + 19)) = rw i at (v .values) in
         rw (byte-front (at + 3) (omega arith), number-front xs ys 2 (at + 4) (omega arith), number-front xs ys 4 (at + 6) (omega arith), byte-front (at + 10) (omega arith), number-front xs ys 8 (at + 11) (omega arith), v .number, vs)
 
-  bins-same : (at : ℕ) → at + 14 ≤ length xs → binsAt zs at ≡ binsAt xs at
+  pub bins-same : (at : ℕ) → at + 14 ≤ length xs → binsAt zs at ≡ binsAt xs at
   unfolding binsAt
   bins-same at w = rw (number-front xs ys 2 (at + 3) (omega arith), number-front xs ys 8 (at + 5) (omega arith), byte-front (at + 13) (omega arith))
 

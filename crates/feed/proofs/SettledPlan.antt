@@ -23,7 +23,7 @@ use Rattle.plan.proofs.Here.{axes-found, here-reach, deep}
 use Rattle.plan.proofs.Readings.{tree-stop}
 use Rattle.feed.proofs.Settled.{Settled, byte-front, values-front, field-stays, past-field}
 
-span-some : (k : ℕ) → spanOf (suc k) ≡ 22 + 2 * suc k
+pub span-some : (k : ℕ) → spanOf (suc k) ≡ 22 + 2 * suc k
 unfolding spanOf
 span-some k = rw (ne-eqb (suc k) 0 (λ z. absurd (omega arith)))
 
