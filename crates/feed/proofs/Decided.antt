@@ -1,11 +1,11 @@
 -- 131,072 bytes decide a plan: every field of one begins among the first 53,507 and takes at most 65,557, so that no byte behind them is looked at.
 use mathlib.Core.Path.{_≡_, refl, sym, ap, _∙_}
-use mathlib.Core.Bool.{Bool, true, false, _&&_}
+use mathlib.Core.Bool.{Bool, true, false}
 use mathlib.Core.List.{List, _++_}
-use Prim.Native.Nat.{ℕ, zero, suc, _+_, _-_, _*_, _≤_, _<_}
+use Prim.Native.Nat.{ℕ, zero, suc, _+_, _-_, _*_, _≤_}
 use native.Mathlib.Omega.{arith}
 use borrow.Author.Tests.{le-leb}
-use lib.Dec.{eqb, leb}
+use lib.Dec.{eqb}
 use lib.ListN.{length, getD}
 use Rattle.plan.specs.declared.Place.{Place}
 use Rattle.plan.specs.declared.AxesPlan.{AxesPlan}
@@ -15,15 +15,15 @@ use Rattle.plan.specs.declared.Child.the-variants as child
 use Rattle.plan.specs.declared.Field.{Field}
 use Rattle.plan.specs.declared.Field.the-variants as field
 use Rattle.plan.specs.Bounds.{Bytes}
-use Rattle.plan.specs.Numbers.{numberAt, valuesAt}
+use Rattle.plan.specs.Numbers.{valuesAt}
 use Rattle.plan.specs.Needs.{axesTaken, binsTaken}
-use Rattle.plan.specs.Plan.{Tree, Trees, axes}
+use Rattle.plan.specs.Plan.{Tree, axes}
 use Rattle.plan.specs.Fields.{formed, spanOf, axesAt, axesField, binsAt, binsField, nothingField, fieldOf}
-use Rattle.plan.specs.Reading.{Out, Outs, consTo, then, binsTo, treesOf, hung, opened, treeOf, fromBytes}
+use Rattle.plan.specs.Reading.{Out, consTo, then, binsTo, treesOf, hung, opened, treeOf, fromBytes}
 use Rattle.plan.specs.Calls.{begin, gridOf}
 use Rattle.plan.proofs.Flags.{at-most}
 use Rattle.plan.proofs.Faults.{axes-free, bins-free, evolution-few}
-use Rattle.plan.proofs.Here.{nothing-found, axes-found, bins-found, here-evolved, deep}
+use Rattle.plan.proofs.Here.{nothing-found, axes-found, bins-found, here-evolved}
 use Rattle.plan.proofs.Readings.{Kept, kept}
 use Rattle.feed.proofs.Spelling.{below}
 use Rattle.feed.proofs.Joined.{number-front}
@@ -61,19 +61,8 @@ module _ (bs : List ℕ) where
       let left : q .tally .left ≡ p .tally .left - 1 = ap (λ (x : Place). x .tally .left) (f .past) in
       omega (arith, free .some)
 
-  onto-bins : (l : ℕ) (p : Place) (b : BinsPlan) (s q : Place) → fieldOf bs l p ≡ field.Found (record { child = child.Bins b; past = s }) → Onto s q (b .bins) → Onto p q 1
-  unfolding binsTaken
-  onto-bins l p b s q e on k h =
-      let f = bins-found bs l p b s e in
-      let free = bins-free (binsAt bs (p .at)) (p .tally .left) l (f .at .free) in
-      let few = at-most 1 256 (binsAt bs (p .at) .bins) (free .bins) in
-      let same : b .bins ≡ binsAt bs (p .at) .bins = ap (λ (x : BinsPlan). x .bins) (f .numbers) in
-      let at : s .at ≡ p .at + 14 = ap (λ (x : Place). x .at) (f .past) in
-      let left : s .tally .left ≡ p .tally .left - 1 = ap (λ (x : Place). x .tally .left) (f .past) in
-      on k (omega (arith, free .some))
-
   -- what a bins grid's field leaves to its children
-  pub into-bins : (l : ℕ) (p : Place) (b : BinsPlan) (s : Place) → fieldOf bs l p ≡ field.Found (record { child = child.Bins b; past = s }) → (k : ℕ) → Spent p (k + 1) → Spent s (k + b .bins)
+  into-bins : (l : ℕ) (p : Place) (b : BinsPlan) (s : Place) → fieldOf bs l p ≡ field.Found (record { child = child.Bins b; past = s }) → (k : ℕ) → Spent p (k + 1) → Spent s (k + b .bins)
   unfolding binsTaken
   into-bins l p b s e k h =
       let f = bins-found bs l p b s e in

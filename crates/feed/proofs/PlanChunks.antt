@@ -1,11 +1,11 @@
--- The plan's turn with more bytes behind it: where it did not wait it stays. A table that holds any plan, and fewer bytes than decide it.
+-- The plan's turn with more bytes behind it: where it did not wait it stays, with a table that holds any plan.
 use mathlib.Core.Path.{_≡_, refl, sym, ap, _∙_, subst}
 use mathlib.Core.Bool.{Bool, true, false, not, _&&_, cond}
 use mathlib.Core.List.{List, _++_}
 use Prim.Native.Nat.{ℕ, _≤_, _<_}
 use native.Mathlib.Omega.{arith}
-use borrow.Author.Tests.{eq-eqb, ne-eqb, ltb-true, ltb-false, le-ltb, lt-leb}
-use lib.Dec.{eqb, ltb}
+use borrow.Author.Tests.{eq-eqb, ne-eqb, ltb-true, ltb-false, le-ltb, leb-true, leb-false, le-leb, lt-leb}
+use lib.Dec.{eqb, leb, ltb}
 use lib.ListN.{length, length-append}
 use lib.Seq.{sets, take-append-le}
 use Rattle.plan.specs.declared.Place.{Place}
@@ -25,12 +25,19 @@ use Rattle.feed.specs.declared.Run.{Run}
 use Rattle.feed.specs.Said.{Said, isOverIn, isOverOf, waiting, refusingAt}
 use Rattle.feed.specs.Turns.{TurnEnd, turnEnd, allIn, unreadOf, foundOf, planBy, planTurn, turnBy, turnOf}
 use Rattle.feed.proofs.Waits.{Waits, waiting-waits}
+use Rattle.feed.proofs.Prefixes.{prefix-reach}
+use Rattle.feed.proofs.Decided.{grid-near}
 use Rattle.feed.proofs.SettledPlan.{Settles, grid-stays}
 
 unread-refuses : (run : Run) (all : Bool) (n at : ℕ) → (n ≡ 1 → ⊥) → unreadOf run all n at ≡ refusingAt (waiting run) n at
 unfolding unreadOf
 unread-refuses run true n at h = refl
 unread-refuses run false n at h = rw (ne-eqb n 1 h)
+
+all-in : (bs : List ℕ) (last : Bool) → 131072 ≤ length bs → allIn bs last ≡ true
+unfolding allIn
+all-in bs true h = refl
+all-in bs false h = le-leb 131072 (length bs) h
 
 no-end : (all : Bool) (a b : ℕ) → a < b → (not all && eqb a b) ≡ false
 no-end true a b h = refl
@@ -99,11 +106,36 @@ module _ (run : Run) (table : List ℕ) (m : Memory) (xs ys : List ℕ) where
           ∙ by-out (allIn (xs ++ ys) last) (gridOf xs) h
           ∙ ap (λ (b : Bool). planBy run xs b m (prefixEnd table (gridOf xs) .answer) (prefixEnd table (gridOf xs) .table)) (sym undecided)
 
-  pub plan-chunks : (R C : ℕ) (last : Bool) → 16832 ≤ length table → Bytes xs → length xs < 131072 → run .phase ≡ phase.Plan → (Waits (turnOf run xs false table m R C .answer) → ⊥)
+  -- ---- bytes that decide it
+
+  module _ (small : Bytes xs) (many : 131072 ≤ length xs) where
+    decided-by : (p : plan.Paper plan.PlanRead) (t : List ℕ) → readPrefixOf xs table .answer ≡ p → planBy run (xs ++ ys) true m p t ≡ planBy run xs true m p t
+    unfolding planBy foundOf
+    decided-by (plan.gives r) t e = rw (take-append-le (r .end) xs ys (prefix-reach xs table r small e))
+    decided-by (plan.refuses n) t e = refl
+    decided-by (plan.refusesAt n at) t e = refl
+
+    decided-same : (last : Bool) → planTurn run (xs ++ ys) last table m ≡ planTurn run xs false table m
+    unfolding planTurn readPrefixOf
+    decided-same last =
+        let l : 131072 ≤ length (xs ++ ys) = omega (arith, length-append xs ys) in
+        let e = prefixEnd table (gridOf xs) in
+        ap (λ (o : Out). planBy run (xs ++ ys) (allIn (xs ++ ys) last) m (prefixEnd table o .answer) (prefixEnd table o .table)) (grid-near xs ys small many)
+        ∙ ap (λ (b : Bool). planBy run (xs ++ ys) b m (e .answer) (e .table)) (all-in (xs ++ ys) last l)
+        ∙ decided-by (e .answer) (e .table) refl
+        ∙ ap (λ (b : Bool). planBy run xs b m (e .answer) (e .table)) (sym (all-in xs false many))
+
+  -- ---- both
+
+  by-length : 16832 ≤ length table → Bytes xs → isOverOf run ≡ false → (Waits (planTurn run xs false table m .answer) → ⊥) → (last b : Bool) → leb 131072 (length xs) ≡ b → planTurn run (xs ++ ys) last table m ≡ planTurn run xs false table m
+  by-length room small due goes last true e = decided-same small (leb-true 131072 (length xs) e) last
+  by-length room small due goes last false e = plan-same room small (leb-false 131072 (length xs) e) due goes last
+
+  pub plan-chunks : (R C : ℕ) (last : Bool) → 16832 ≤ length table → Bytes xs → run .phase ≡ phase.Plan → (Waits (turnOf run xs false table m R C .answer) → ⊥)
       → turnOf run (xs ++ ys) last table m R C ≡ turnOf run xs false table m R C
   unfolding turnOf turnBy isOverOf isOverIn
-  plan-chunks R C last room small few p goes =
+  plan-chunks R C last room small p goes =
       let due : (bs : List ℕ) (b : Bool) → turnOf run bs b table m R C ≡ planTurn run bs b table m = λ bs b. ap (λ (x : Phase). turnBy x run bs b table m R C) p in
       due (xs ++ ys) last
-      ∙ plan-same room small few (ap isOverIn p) (λ w. goes (subst (λ (o : TurnEnd). Waits (o .answer)) (sym (due xs false)) w)) last
+      ∙ by-length room small (ap isOverIn p) (λ w. goes (subst (λ (o : TurnEnd). Waits (o .answer)) (sym (due xs false)) w)) last (leb 131072 (length xs)) refl
       ∙ sym (due xs false)

@@ -15,15 +15,15 @@ use Rattle.feed.proofs.Rows.{sample-is, row-some}
 use Rattle.feed.proofs.Standings.{is-whole}
 use Rattle.feed.proofs.Waits.{Waits, train-not}
 use Rattle.feed.proofs.Chunks.{turn-row}
-use Rattle.feed.proofs.Feeding.{Stand, after, with, samplesDue, Open, single, Fed, here, fed-on, Chunked, ends, more, joined, Ended, chunks-one}
+use Rattle.feed.proofs.Feeding.{Stand, after, with, samplesDue, Room, single, Fed, here, fed-on, Chunked, ends, more, joined, Ended, chunks-one}
 use Rattle.feed.proofs.Turning.{due-samples, turn-fed}
 
--- what is known of what is lent: bytes, words, and while a plan is due and more may come, room for any plan and fewer bytes than decide it
+-- what is known of what is lent: bytes, words, and while a plan is due and more may come, room for any plan
 pub record Lent (last : Bool) (s : Stand) : Type 0 where
   pub small : Bytes (s .bytes)
   pub words : Words (s .table)
   pub word : s .run .number < 2 ^ 64
-  pub undecided : last ≡ false → s .run .phase ≡ phase.Plan → Open s
+  pub room : last ≡ false → s .run .phase ≡ phase.Plan → Room s
 
 module _ (R C : ℕ) where
   abbrev pub turned : Bool → Stand → TurnEnd
@@ -46,7 +46,7 @@ module _ (R C : ℕ) where
   poured-fed : (last : Bool) (s t : Stand) → Poured last s t → Fed R C last s t
   poured-fed last s t (stays u) = here s
   poured-fed last s t (turns u v l live goes rest) =
-      fed-on R C last u (after u (turned last u)) v (turn-fed R C last u (l .words) (l .word) (l .small) (l .undecided) live goes) (poured-fed last (after u (turned last u)) v rest)
+      fed-on R C last u (after u (turned last u)) v (turn-fed R C last u (l .words) (l .word) (l .small) (l .room) live goes) (poured-fed last (after u (turned last u)) v rest)
 
   reads-chunked : (s t : Stand) (ys : List (List ℕ)) → Reads s ys t → Chunked R C s ys t
   reads-chunked s t ys (finishes u v p) = ends u v (poured-fed true u v p)

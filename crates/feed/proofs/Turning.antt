@@ -31,7 +31,7 @@ use Rattle.feed.proofs.Splits.{followed, row-split}
 use Rattle.feed.proofs.Waits.{Waits, train-not}
 use Rattle.feed.proofs.Joined.{sample-drop, row-drop}
 use Rattle.feed.proofs.Chunks.{turn-row}
-use Rattle.feed.proofs.Feeding.{Stand, heard, after, samplesDue, Open, single, Fed, here, on}
+use Rattle.feed.proofs.Feeding.{Stand, heard, after, samplesDue, Room, single, Fed, here, on}
 
 -- an 11 that was not refused
 record Goes (o : Said) : Type 0 where
@@ -149,7 +149,7 @@ module _ (R C : ℕ) (last : Bool) where
 
   -- ---- any turn
 
-  module _ (s : Stand) (words : Words (s .table)) (word : s .run .number < 2 ^ 64) (small : Bytes (s .bytes)) (undecided : last ≡ false → s .run .phase ≡ phase.Plan → Open s) (live : isOverOf (s .run) ≡ false) where
+  module _ (s : Stand) (words : Words (s .table)) (word : s .run .number < 2 ^ 64) (small : Bytes (s .bytes)) (room : last ≡ false → s .run .phase ≡ phase.Plan → Room s) (live : isOverOf (s .run) ≡ false) where
     abbrev turned : TurnEnd
     turned = turnOf (s .run) (s .bytes) last (s .table) (s .state) R C
 
@@ -162,7 +162,7 @@ module _ (R C : ℕ) (last : Bool) where
         (row-fed 255 s (record { due = p; words = words; word = word; small = small; sample = k .1 }))
     by-field false e goes =
         let same : single R C last s ≡ turned = rw e in
-        on s (after s turned) small undecided live (λ w. goes (subst (λ (o : TurnEnd). Waits (o .answer)) same w))
+        on s (after s turned) small room live (λ w. goes (subst (λ (o : TurnEnd). Waits (o .answer)) same w))
         (subst (λ (o : TurnEnd). Fed R C last (after s o) (after s turned)) (sym same) (here (after s turned)))
 
     -- a turn that does not wait is some fields fed
