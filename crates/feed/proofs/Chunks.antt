@@ -1,34 +1,28 @@
 -- How the input is cut does not matter: a row of 11s is a turn for each of them, and what a turn took or refused it takes or refuses as well
 -- with more bytes behind it.
 use mathlib.Core.Path.{_≡_, refl, sym, ap, _∙_, subst}
-use mathlib.Core.Bool.{Bool, true, false, not, _&&_, cond}
+use mathlib.Core.Bool.{Bool, true, false, _&&_}
 use mathlib.Core.List.{List, [], _∷_, _++_, append-nil, append-assoc}
 use Prim.Native.Nat.{ℕ, zero, suc, _+_, _-_, _*_, _^_, _<_}
 use native.Mathlib.Omega.{arith}
-use borrow.Author.Tests.{ne-eqb}
-use lib.Dec.{eqb, ltb}
-use lib.ListN.{length, getD, take, drop, length-append, List·getD-append}
-use lib.Seq.{take-append-le}
+use borrow.Author.Tests.{eq-eqb, ne-eqb}
+use lib.Dec.{eqb}
+use lib.ListN.{length, getD, length-append, List·getD-append}
 use lib.Ieee.{Float}
-use Rattle.plan.specs.Bounds.{Bytes}
-use Rattle.plan.specs.Paper as plan
-use Rattle.plan.specs.Calls.{End, readPrefixOf}
 use Rattle.plan.proofs.Tables.{Words}
 use Rattle.grid.specs.Memory.{Memory}
-use Rattle.grid.specs.Calls.{freshOf}
 use Rattle.feed.specs.declared.Phase.{Phase}
 use Rattle.feed.specs.declared.Phase.the-variants as phase
 use Rattle.feed.specs.declared.Run.{Run}
 use Rattle.feed.specs.declared.fields.Standing.{Standing}
 use Rattle.feed.specs.declared.fields.Standing.the-variants as standing
-use Rattle.feed.specs.Said.{Said, isOverIn, isOverOf, waiting, refusingAt}
+use Rattle.feed.specs.Said.{Said, isOverIn, isOverOf, waiting, refusing}
 use Rattle.feed.specs.Fields.{doubleAt, missingOf, standingOf, isSample, rowFrom}
-use Rattle.feed.specs.Turns.{TurnEnd, turnEnd, allIn, freshEnds, foundOf, planBy, planTurn, streamBy, streamTurn, trainOf, rowBy, rowTurn, renewOf, updateBy, updateTurn, samplesTurn, turnBy, turnOf}
+use Rattle.feed.specs.Turns.{TurnEnd, turnEnd, streamBy, streamTurn, trainOf, rowBy, rowTurn, renewOf, updateBy, updateTurn, samplesTurn, turnBy, turnOf}
 use Rattle.feed.proofs.Rows.{sample-is, row-none, row-one}
-use Rattle.feed.proofs.Standings.{Whole, is-whole, whole-there}
+use Rattle.feed.proofs.Standings.{wrong-waiting, is-whole, whole-there}
 use Rattle.feed.proofs.Splits.{behind, row-split}
-use Rattle.feed.proofs.Waits.{Waits}
-use Rattle.feed.proofs.Prefixes.{prefix-stays}
+use Rattle.feed.proofs.Waits.{Waits, waiting-waits}
 use Rattle.feed.proofs.Joined.{number-front, double-front, standing-stays, sample-front, row-longer}
 
 -- ---- a row is a turn for each of its 11s
@@ -55,10 +49,6 @@ module _ (table : List ℕ) (large : Words table) (run : Run) (word : run .numbe
 no-end : (last : Bool) (n : ℕ) → 0 < n → (last && eqb n 0) ≡ false
 no-end true n h = ne-eqb n 0 (λ z. absurd (omega arith))
 no-end false n h = refl
-
-no-plan-end : (all : Bool) (a b : ℕ) → a < b → (not all && eqb a b) ≡ false
-no-plan-end true a b h = refl
-no-plan-end false a b h = ne-eqb a b (λ z. absurd (omega arith))
 
 module _ (run : Run) (table : List ℕ) (m : Memory) (R C : ℕ) where
   -- whole 11s at the front: their row is the turn
@@ -104,8 +94,8 @@ module _ (run : Run) (table : List ℕ) (m : Memory) (R C : ℕ) where
     stream-same standing.Wrong e not-so = rw (standing-stays xs ys 0x10 10 last (λ z. not-so (sym e ∙ z)), e)
 
     stream-waits : run .phase ≡ phase.Stream → standingOf xs 0x10 10 false ≡ standing.Waiting → Waits (streamTurn run xs false)
-    unfolding streamTurn streamBy waiting isOverOf isOverIn
-    stream-waits p e = rw e record { taken = refl; told = refl; due = ap isOverIn p }
+    unfolding streamTurn streamBy isOverOf isOverIn
+    stream-waits p e = rw e (waiting-waits run (ap isOverIn p))
 
     pub stream-chunks : run .phase ≡ phase.Stream → (Waits (turnOf run xs false table m R C .answer) → ⊥) → turnOf run (xs ++ ys) last table m R C ≡ turnOf run xs false table m R C
     unfolding turnOf turnBy
@@ -125,8 +115,8 @@ module _ (run : Run) (table : List ℕ) (m : Memory) (R C : ℕ) where
     update-same standing.Wrong e not-so = rw (standing-stays xs ys 0x12 16 last (λ z. not-so (sym e ∙ z)), e)
 
     update-waits : run .phase ≡ phase.Samples → standingOf xs 0x12 16 false ≡ standing.Waiting → Waits (updateTurn run xs false table m R C .answer)
-    unfolding updateTurn updateBy waiting isOverOf isOverIn
-    update-waits p e = rw e record { taken = refl; told = refl; due = ap isOverIn p }
+    unfolding updateTurn updateBy isOverOf isOverIn
+    update-waits p e = rw e (waiting-waits run (ap isOverIn p))
 
     -- no bytes wait too
     some-there : (standingOf xs 0x12 16 false ≡ standing.Waiting → ⊥) → 0 < length xs
@@ -136,6 +126,18 @@ module _ (run : Run) (table : List ℕ) (m : Memory) (R C : ℕ) where
         by-length : (n : ℕ) → length xs ≡ n → 0 < length xs
         by-length zero e = absurd (not-so (rw e))
         by-length (suc n) e = omega arith
+
+    -- an 11 of a wrong length
+    pub wrong-chunks : run .phase ≡ phase.Samples → getD xs 0 0 ≡ 0x11 → standingOf xs 0x11 8 false ≡ standing.Wrong → 0 < length xs → turnOf run (xs ++ ys) last table m R C ≡ turnOf run xs false table m R C
+    unfolding turnOf turnBy samplesTurn rowTurn rowBy
+    wrong-chunks p t e some =
+        let l : 0 < length (xs ++ ys) = omega (arith, length-append xs ys) in
+        let tag : eqb (getD (xs ++ ys) 0 0) 0x11 ≡ true = ap (λ (x : ℕ). eqb x 0x11) (List·getD-append xs ys 0 0 some) ∙ eq-eqb (getD xs 0 0) 0x11 t in
+        let stays = standing-stays xs ys 0x11 8 last (λ z. wrong-waiting (sym e ∙ z)) in
+        let refused = turnEnd (refusing (waiting run) 1) table m in
+        let longer : turnOf run (xs ++ ys) last table m R C ≡ refused = ap (λ (x : Phase). turnBy x run (xs ++ ys) last table m R C) p ∙ rw (no-end last (length (xs ++ ys)) l, tag, stays, e) in
+        let shorter : turnOf run xs false table m R C ≡ refused = ap (λ (x : Phase). turnBy x run xs false table m R C) p ∙ rw (eq-eqb (getD xs 0 0) 0x11 t, e) in
+        longer ∙ sym shorter
 
     -- what stands at the front is no 11: the same turn
     pub update-chunks : run .phase ≡ phase.Samples → (getD xs 0 0 ≡ 0x11 → ⊥) → (Waits (turnOf run xs false table m R C .answer) → ⊥) → turnOf run (xs ++ ys) last table m R C ≡ turnOf run xs false table m R C
@@ -148,24 +150,3 @@ module _ (run : Run) (table : List ℕ) (m : Memory) (R C : ℕ) where
         let l : 0 < length (xs ++ ys) = omega (arith, length-append xs ys) in
         let tag : eqb (getD (xs ++ ys) 0 0) 0x11 ≡ false = ap (λ (x : ℕ). eqb x 0x11) (List·getD-append xs ys 0 0 some) ∙ ne-eqb (getD xs 0 0) 0x11 other in
         ap (λ (x : Phase). turnBy x run (xs ++ ys) last table m R C) p ∙ rw (no-end last (length (xs ++ ys)) l, tag) (update-same (standingOf xs 0x12 16 false) refl waits) ∙ sym first
-
-    -- ---- the plan: something stands behind it, and no 02
-
-    pub plan-chunks : (r : plan.PlanRead) → Bytes xs → run .phase ≡ phase.Plan → readPrefixOf xs table .answer ≡ plan.gives r → r .end < length xs → (getD (drop (r .end) xs) 0 0 ≡ 2 → ⊥)
-        → turnOf run (xs ++ ys) last table m R C ≡ turnOf run xs false table m R C
-    unfolding turnOf turnBy planTurn planBy foundOf
-    plan-chunks r small p e h c =
-        let due : (bs : List ℕ) (b : Bool) → turnOf run bs b table m R C ≡ planTurn run bs b table m = λ bs b. ap (λ (x : Phase). turnBy x run bs b table m R C) p in
-        let t = readPrefixOf xs table .table in
-        let found : (bs : List ℕ) (all : Bool) → r .end < length bs → foundOf run bs all r t m ≡ cond (ltb 128 (r .needs .bins)) (turnEnd (refusingAt (waiting run) 10 0) t m) (freshEnds run (r .end) (freshOf (take (r .end) bs) t m)) =
-        λ bs all k. rw (no-plan-end all (r .end) (length bs) k) in
-        let l : r .end < length (xs ++ ys) = omega (arith, length-append xs ys) in
-        let all = allIn (xs ++ ys) last in
-        due (xs ++ ys) last
-        ∙ ap (λ (o : End). planBy run (xs ++ ys) all m (o .answer) (o .table)) (prefix-stays xs table r small e ys h c)
-        ∙ ap (λ (o : plan.Paper plan.PlanRead). planBy run (xs ++ ys) all m o t) e
-        ∙ found (xs ++ ys) all l
-        ∙ ap (λ (bs : List ℕ). cond (ltb 128 (r .needs .bins)) (turnEnd (refusingAt (waiting run) 10 0) t m) (freshEnds run (r .end) (freshOf bs t m))) (take-append-le (r .end) xs ys (omega arith))
-        ∙ sym (found xs (allIn xs false) h)
-        ∙ sym (ap (λ (o : plan.Paper plan.PlanRead). planBy run xs (allIn xs false) m o t) e)
-        ∙ sym (due xs false)

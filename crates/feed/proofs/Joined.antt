@@ -2,11 +2,12 @@
 use mathlib.Core.Path.{_≡_, refl, sym, ap, _∙_}
 use mathlib.Core.Bool.{Bool, true, false, not, _&&_, cond}
 use mathlib.Core.List.{List, _∷_, _++_}
-use Prim.Native.Nat.{ℕ, zero, suc, _+_, _-_, _*_, _≤_}
+use Prim.Native.Nat.{ℕ, zero, suc, _+_, _-_, _*_, _≤_, _<_}
 use native.Mathlib.Omega.{arith}
-use borrow.Author.Tests.{ltb-false, le-ltb, leb-true, le-leb}
+use borrow.Author.Tests.{ltb-false, le-ltb, leb-true, leb-false, le-leb, lt-leb}
 use lib.Dec.{eqb, leb, ltb}
-use lib.ListN.{length, getD, length-append, List·getD-append}
+use lib.ListN.{length, getD, drop, length-append, length-drop, List·getD-append}
+use lib.Seq.{getD-drop}
 use lib.Ieee.{Float, binary64, ofBits}
 use Rattle.real.proofs.Truth.{both}
 use Rattle.plan.specs.Numbers.{numberAt}
@@ -100,3 +101,39 @@ module _ (xs ys : List ℕ) where
   unfolding rowFrom
   row-longer zero at = refl
   row-longer (suc n) at = more at n (isSample xs at) refl (row-longer n (at + 11))
+
+-- ---- what is left of some bytes
+
+module _ (bs : List ℕ) (k : ℕ) where
+  number-drop : (n at : ℕ) → numberAt (drop k bs) at n ≡ numberAt bs (k + at) n
+  unfolding numberAt
+  number-drop zero at = refl
+  number-drop (suc n) at =
+      let i : k + at + 1 ≡ k + (at + 1) = omega arith in
+      rw (getD-drop k bs at 0, i, number-drop n (at + 1))
+
+  there-drop : (at : ℕ) (b : Bool) → leb (k + at + 11) (length bs) ≡ b → leb (at + 11) (length (drop k bs)) ≡ b
+  there-drop at true e =
+      let h : k + at + 11 ≤ length bs = leb-true (k + at + 11) (length bs) e in
+      le-leb (at + 11) (length (drop k bs)) (omega (arith, length-drop k bs))
+  there-drop at false e =
+      let h : length bs < k + at + 11 = leb-false (k + at + 11) (length bs) e in
+      lt-leb (at + 11) (length (drop k bs)) (omega (arith, length-drop k bs))
+
+  pub sample-drop : (at : ℕ) → isSample (drop k bs) at ≡ isSample bs (k + at)
+  unfolding isSample
+  sample-drop at =
+      let i : k + (at + 1) ≡ k + at + 1 = omega arith in
+      rw (there-drop at (leb (k + at + 11) (length bs)) refl, getD-drop k bs at 0, number-drop 2 (at + 1), i)
+
+  double-drop : (at : ℕ) → doubleAt (drop k bs) at ≡ doubleAt bs (k + at)
+  unfolding doubleAt
+  double-drop at = ap (ofBits binary64) (number-drop 8 at)
+
+  pub row-drop : (n at : ℕ) → rowFrom (drop k bs) at n ≡ rowFrom bs (k + at) n
+  unfolding rowFrom
+  row-drop zero at = refl
+  row-drop (suc n) at =
+      let i : k + (at + 11) ≡ k + at + 11 = omega arith in
+      let j : k + (at + 3) ≡ k + at + 3 = omega arith in
+      rw (sample-drop at, double-drop (at + 3), j, row-drop n (at + 11), i)

@@ -11,3 +11,10 @@ pub mod Splits
 pub mod Waits
 pub mod Joined
 pub mod Chunks
+pub mod Settled
+pub mod SettledPlan
+pub mod PlanChunks
+pub mod Feeding
+pub mod Turning
+pub mod Reading
+pub mod Decided

@@ -28,7 +28,7 @@ module _ (bs : List ℕ) where
       let k : many - left ≡ many = omega arith in
       e ∙ ap (λ (j : ℕ). numberAt bs j (many - left)) i ∙ ap (numberAt bs at) k
 
-  below : Bytes bs → (n at : ℕ) → numberAt bs at n < 256 ^ n
+  pub below : Bytes bs → (n at : ℕ) → numberAt bs at n < 256 ^ n
   unfolding numberAt
   below small zero at = omega arith
   below small (suc n) at = rw pow-succ' (omega (arith, small at, below small n (at + 1)))

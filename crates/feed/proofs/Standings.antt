@@ -16,8 +16,11 @@ unfolding missingOf
 missing-whole true e = let z : _≡_ {A = ℕ} 0 1 = cc in absurd (omega arith)
 missing-whole false e = let z : _≡_ {A = ℕ} 0 1 = cc in absurd (omega arith)
 
-wrong-whole : {P : Type 0} → standing.Wrong ≡ standing.Whole → P
+pub wrong-whole : {P : Type 0} → standing.Wrong ≡ standing.Whole → P
 wrong-whole e = let z : _≡_ {A = ℕ} 0 1 = cc in absurd (omega arith)
+
+pub wrong-waiting : {P : Type 0} → standing.Wrong ≡ standing.Waiting → P
+wrong-waiting e = let z : _≡_ {A = ℕ} 0 1 = cc in absurd (omega arith)
 
 -- a whole field: its tag, its length, its bytes
 pub record Whole (bs : List ℕ) (tag size : ℕ) : Type 0 where

@@ -17,6 +17,7 @@ use Rattle.stream.specs.declared.MonteCarloRng.{MonteCarloRng}
 use Rattle.stream.specs.Calls.{newOf}
 use Rattle.accumulator.specs.declared.Summary.{Summary}
 use Rattle.grid.specs.declared.Batched.{Batched}
+use lib.Ieee.{Float}
 use Rattle.grid.specs.Memory.{Memory}
 use Rattle.grid.specs.Calls.{FreshEnd, StateEnd, freshOf, updateOf, summaryOf}
 use Rattle.grid.specs.Batched.{batchOf}
@@ -37,6 +38,10 @@ pub record Waits (o : Said) : Type 0 where
   pub taken : o .taken ≡ 0
   pub told : o .told ≡ plan.gives none
   pub due : isOverOf (o .run) ≡ false
+
+pub waiting-waits : (run : Run) → isOverOf run ≡ false → Waits (waiting run)
+unfolding waiting
+waiting-waits run e = record { taken = refl; told = refl; due = e }
 
 -- then the run is the one before, and so is the grid's memory
 pub record Stays (before : Run) (m : Memory) (e : TurnEnd) : Type 0 where
@@ -106,11 +111,13 @@ trained-not {P} run b n h all =
     pick (λ (x : Said). Waits x → P) (not (eqb (b .refused) 0)) (λ t w. refusing-not o (b .refused) (o .run .at) w)
     (λ t w. absurd (omega (arith, w .taken, all (eqb-true (b .refused) 0 (not-false (eqb (b .refused) 0) t)))))
 
+pub train-not : {P : Type 0} (run : Run) (table : List ℕ) (row : List Float) (m : Memory) → 0 < length row → Waits (trainOf run table row m .answer) → P
+unfolding trainOf batchEnds
+train-not run table row m h = trained-not run (batchOf table m (run .stream) row (run .number) .answer) (length row) h (batch-all table m (run .stream) row (run .number))
+
 row-kept : (run : Run) (bs : List ℕ) (last : Bool) (table : List ℕ) (m : Memory) (o : Standing) → standingOf bs 0x11 8 last ≡ o → Kept run m (rowBy run bs table m o)
-unfolding rowBy trainOf batchEnds refusing waiting
-row-kept run bs last table m standing.Whole e w =
-    let row = rowFrom bs 0 256 in
-    trained-not run (batchOf table m (run .stream) row (run .number) .answer) (length row) (row-some bs last 255 e) (batch-all table m (run .stream) row (run .number)) w
+unfolding rowBy refusing waiting
+row-kept run bs last table m standing.Whole e w = train-not run table (rowFrom bs 0 256) m (row-some bs last 255 e) w
 row-kept run bs last table m standing.Waiting e w = record { run = refl; state = refl }
 row-kept run bs last table m standing.Wrong e w = refusing-not (waiting run) 1 (run .at) w
 

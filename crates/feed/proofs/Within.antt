@@ -80,7 +80,7 @@ unfolding trainedOf refusing refusingAt going
 trained-within run b n h =
     pick (Says n) (not (eqb (b .refused) 0)) (λ t. h) (λ t. h)
 
-train-within : (run : Run) (table : List ℕ) (row : List Float) (m : Memory) (n : ℕ) → 11 * length row ≤ n → trainOf run table row m .answer .taken ≤ n
+pub train-within : (run : Run) (table : List ℕ) (row : List Float) (m : Memory) (n : ℕ) → 11 * length row ≤ n → trainOf run table row m .answer .taken ≤ n
 unfolding trainOf batchEnds
 train-within run table row m n h = trained-within run (batchOf table m (run .stream) row (run .number) .answer) n (omega (arith, batch-done table m (run .stream) row (run .number)))
 
