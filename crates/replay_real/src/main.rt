@@ -1,6 +1,6 @@
 // Replays a list of the kernels' answers. A line of standard input is an opcode and three words of 16
 // hexadecimal digits: x, a (or zeros) and the answer. The program writes each line that it does not agree
-// with, and at the end how many lines of each kind it compared and how many differ.
+// with, and at the end how many lines of each kind it compared and how many differ. The list is that of list.py beside it.
 ghost use Prim.Native.Nat.{_≤_};
 use libc::STDIN_FILENO;
 use libc::STDOUT_FILENO;
