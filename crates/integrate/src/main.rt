@@ -4,9 +4,12 @@
 mod lines;
 
 ghost use mathlib.Core.Path.{_≡_};
-ghost use mathlib.Core.Bool.{true};
-ghost use Prim.Native.Nat.{_-_, _≤_, _<_};
+ghost use mathlib.Core.Bool.{true, _&&_};
+ghost use Prim.Native.Nat.{_-_, _≤_};
+ghost use lib.Dec.{eqb};
 ghost use lib.ListN.{length, take, drop};
+ghost use Rattle.grid.specs.Memory.{memory};
+ghost use Rattle.integrate.specs.Pouring.{place, goesOn, Turns, Stepped, TakenIn};
 use feed::Run;
 use feed::Turned;
 use feed::beginning;
@@ -19,7 +22,7 @@ use libc::STDOUT_FILENO;
 struct Poured {
     run: Run,
     taken: usize,
-    open: bool,
+    written: bool,
     goes: bool,
 }
 
@@ -52,14 +55,14 @@ fn tell(told: feed::Told) -> bool {
 }
 
 // Whether another turn follows on the bytes that are left: one that took nothing waits for more of them.
-fn goes_on(turned: Turned, open: bool) -> bool
-    ensures { λ r. ⌜ (r ≡ true → 0 < turned .taken) ⌝ }
+fn goes_on(turned: Turned, written: bool) -> bool
+    ensures { λ r. ⌜ r ≡ goesOn (turned .taken) (turned .run) && written ⌝ }
 {
     if turned.taken == 0 {
         return false;
     }
     let run = turned.run;
-    open & !is_over(run)
+    !is_over(run) & written
 }
 
 // One turn on the bytes from a place on, and its line.
@@ -75,7 +78,9 @@ fn step(
     spare_counts: &mut [u64],
 ) -> Poured
     requires { ⌜ from ≤ length (now bytes) ⌝ }
-    ensures { λ r. ⌜ (r .taken ≤ length (now (bytes .entry))) × (r .goes ≡ true → from < r .taken) ⌝ }
+    ensures { λ r. ⌜ Stepped (now (bytes .entry)) last (length (now («spare_reals» .entry))) (length (now («spare_counts» .entry)))
+        (place run from (now (table .entry)) (memory (now (reals .entry)) (now (counts .entry))))
+        (place (r .run) (r .taken) (now (table .exit)) (memory (now (reals .exit)) (now (counts .exit)))) (r .written) (r .goes) ⌝ }
 {
     let turned = turn(
         run,
@@ -88,13 +93,13 @@ fn step(
         spare_counts,
     );
     let told = turned.told;
-    let open = tell(told);
-    let goes = goes_on(turned, open);
+    let written = tell(told);
+    let goes = goes_on(turned, written);
     let after = turned.run;
     Poured {
         run: after,
         taken: from + turned.taken,
-        open,
+        written,
         goes,
     }
 }
@@ -111,6 +116,9 @@ fn pour(
     spare_counts: &mut [u64],
 ) -> Poured
     ensures { λ r. ⌜ r .taken ≤ length (now (bytes .entry)) ⌝ }
+    ensures { λ r. ⌜ (r .written ≡ true → Turns (now (bytes .entry)) last (length (now («spare_reals» .entry))) (length (now («spare_counts» .entry)))
+        (place run 0 (now (table .entry)) (memory (now (reals .entry)) (now (counts .entry))))
+        (place (r .run) (r .taken) (now (table .exit)) (memory (now (reals .exit)) (now (counts .exit))))) ⌝ }
 {
     let mut now = run;
     let mut taken = 0;
@@ -149,6 +157,9 @@ fn take_in(
 ) -> Fed
     requires { ⌜ full ≤ length (now text) ⌝ }
     ensures { λ r. ⌜ r .held ≤ length (now (text .entry)) ⌝ }
+    ensures { λ r. ⌜ TakenIn (now (text .entry)) full (eqb full held) (length (now («spare_reals» .entry))) (length (now («spare_counts» .entry)))
+        run (now (table .entry)) (memory (now (reals .entry)) (now (counts .entry)))
+        (now (text .exit)) (r .held) (r .goes) (r .run) (now (table .exit)) (memory (now (reals .exit)) (now (counts .exit))) ⌝ }
 {
     let poured = pour(
         run,
@@ -165,7 +176,7 @@ fn take_in(
     Fed {
         run: after,
         held: rest,
-        goes: poured.open & (held < full) & !is_over(after),
+        goes: poured.written & (held < full) & !is_over(after),
     }
 }
 
