@@ -52,7 +52,12 @@ module _ {bs : List ℕ} {last : Bool} {R C : ℕ} {p q : Place} {w goes : Bool}
       both true e = cc
       both false e = cc
 
--- of three that hold, the first
+-- of three that hold, the first and the last
 pub first-holds : (a b d : Bool) → a && b && d ≡ true → a ≡ true
 first-holds true b d e = cc
 first-holds false b d e = e
+
+pub last-holds : (a b d : Bool) → a && b && d ≡ true → d ≡ true
+last-holds true true d e = e
+last-holds true false d e = let z : _≡_ {A = ℕ} 0 1 = cc in absurd (omega arith)
+last-holds false b d e = let z : _≡_ {A = ℕ} 0 1 = cc in absurd (omega arith)

@@ -4,11 +4,12 @@
 mod lines;
 
 ghost use mathlib.Core.Path.{_≡_};
-ghost use mathlib.Core.Bool.{true, _&&_};
-ghost use Prim.Native.Nat.{_-_, _≤_};
+ghost use mathlib.Core.Bool.{true, false, _&&_};
+ghost use Prim.Native.Nat.{_+_, _-_, _≤_, _<_};
 ghost use lib.Dec.{eqb};
 ghost use lib.ListN.{length, take, drop};
 ghost use Rattle.grid.specs.Memory.{memory};
+ghost use Rattle.feed.specs.Said.{isOverOf};
 ghost use Rattle.integrate.specs.Pouring.{place, goesOn, Turns, Stepped, TakenIn};
 use feed::Run;
 use feed::Turned;
@@ -119,6 +120,7 @@ fn pour(
     ensures { λ r. ⌜ (r .written ≡ true → Turns (now (bytes .entry)) last (length (now («spare_reals» .entry))) (length (now («spare_counts» .entry)))
         (place run 0 (now (table .entry)) (memory (now (reals .entry)) (now (counts .entry))))
         (place (r .run) (r .taken) (now (table .exit)) (memory (now (reals .exit)) (now (counts .exit))))) ⌝ }
+    ensures { λ r. ⌜ (r .written ≡ true → isOverOf (r .run) ≡ false → length (now (bytes .entry)) < r .taken + 131072) ⌝ }
 {
     let mut now = run;
     let mut taken = 0;
@@ -143,7 +145,8 @@ fn pour(
     }
 }
 
-// The turns on the first `full` bytes of the text, of which `held` were there before; what they leave is kept.
+// The turns on the first `full` bytes of the text, of which `held` were there before; what they leave is kept. Where the run goes on these
+// are fewer than 131,072.
 fn take_in(
     run: Run,
     text: &mut [u8],
@@ -156,10 +159,10 @@ fn take_in(
     spare_counts: &mut [u64],
 ) -> Fed
     requires { ⌜ full ≤ length (now text) ⌝ }
-    ensures { λ r. ⌜ r .held ≤ length (now (text .entry)) ⌝ }
     ensures { λ r. ⌜ TakenIn (now (text .entry)) full (eqb full held) (length (now («spare_reals» .entry))) (length (now («spare_counts» .entry)))
         run (now (table .entry)) (memory (now (reals .entry)) (now (counts .entry)))
         (now (text .exit)) (r .held) (r .goes) (r .run) (now (table .exit)) (memory (now (reals .exit)) (now (counts .exit))) ⌝ }
+    ensures { λ r. ⌜ (r .goes ≡ true → r .held < 131072) ⌝ }
 {
     let poured = pour(
         run,
@@ -180,7 +183,8 @@ fn take_in(
     }
 }
 
-// One read behind the bytes that are held, and the turns on all of them. A read that fails ends it.
+// One read behind the bytes that are held, and the turns on all of them. There is room for it: a read into nothing would look like the
+// input's end. A read that fails ends it.
 fn feed_once(
     run: Run,
     text: &mut [u8],
@@ -191,8 +195,8 @@ fn feed_once(
     spare_reals: &mut [f64],
     spare_counts: &mut [u64],
 ) -> Fed
-    requires { ⌜ held ≤ length (now text) ⌝ }
-    ensures { λ r. ⌜ r .held ≤ length (now (text .entry)) ⌝ }
+    requires { ⌜ held < length (now text) ⌝ }
+    ensures { λ r. ⌜ (r .goes ≡ true → r .held < 131072) ⌝ }
 {
     let got = libc::read(STDIN_FILENO, &mut text[held..]);
     if got < 0 {
@@ -225,7 +229,9 @@ fn integrate(
     counts: &mut [u64],
     spare_reals: &mut [f64],
     spare_counts: &mut [u64],
-) {
+)
+    requires { ⌜ 131072 ≤ length (now text) ⌝ }
+{
     let mut run = beginning();
     let mut held = 0;
     let mut left = u64::MAX;
@@ -262,8 +268,7 @@ fn run(
     integrate(text, table, reals, counts, spare_reals, spare_counts);
 }
 
-// 131,072 bytes decide any plan, so that a text full of them is never waited on. A table of 16,832 words holds any plan; 128 bins in 64 grids
-// need at most 2,816 reals and 1,344 counts.
+// 131,072 bytes decide any plan. A table of 16,832 words holds any plan; 128 bins in 64 grids need at most 2,816 reals and 1,344 counts.
 fn main() {
     let mut text = [0u8; 131072];
     let mut table = [0u64; 16832];

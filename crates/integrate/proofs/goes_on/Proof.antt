@@ -1,5 +1,4 @@
 -- `goes_on`: its two tests are those of the definition.
-use mathlib.Core.Path.{_≡_}
 use borrow.Author.Needs.{needs}
 use borrow.Author.Tests.{eq-eqb, ne-eqb}
 use Rattle.integrate.specs.Pouring.{goesOn}

@@ -7,6 +7,7 @@ use borrow.Author.Tests.{not-true, not-false}
 use lib.ListN.{length}
 use Rattle.grid.specs.Memory.{memory}
 use Rattle.integrate.specs.Pouring.{Place, place, Turns}
+use Rattle.integrate.proofs.Full.{turns-short}
 use Rattle.integrate.proofs.Turning.{ends, onward}
 use Rattle.integrate.proofs.pour.Statement.{statement}
 use Rattle.integrate.proofs.pour.Tie as tie
@@ -44,8 +45,13 @@ same-length-5 c = search needs
 returns : tie.Need-returns Inv-loop μ-loop
 returns c =
     let i = c .before .before .before .before .before .before .before .before .before .before .before .before .before .before .before .before .before .before .loop .inv in
-    let s = rw (i .4, i .5) at (c .before .before .before .before .before .before .before .before .before .before .before .before .step .ensures) in
-    (s .within, λ w. i .6 _ (ends s (not-true _ (c .if1 .taken)) w))
+    let s = rw (i .4, i .5) at (c .before .before .before .before .before .before .before .before .before .before .before .before .step .ensures) in (
+      s .within,
+      (
+        λ w. i .6 _ (ends s (not-true _ (c .if1 .taken)) w),
+        λ w d. turns-short (λ n. c .before .before .before .before .before .before .before .before .before .before .before .before .before .before .before .before .before .before .before .before .before .before .before .before .shared-slice-known .given n .fits) (i .6 _ (ends s (not-true _ (c .if1 .taken)) w)) d,
+      ),
+    )
 
 loop-less : tie.Need-loop-less Inv-loop μ-loop
 loop-less c =

@@ -1,10 +1,13 @@
 -- `take_in`: what the turns leave is what is kept, and lies within the text.
-use mathlib.Core.Path.{sym}
+use mathlib.Core.Path.{sym, _∙_}
 use native.Mathlib.Omega.{arith}
+use lib.Dec.{ltb}
 use lib.ListN.{length-take}
 use lib.Seq.{length-take-le}
 use borrow.Author.Needs.{needs}
-use Rattle.integrate.proofs.Turning.{first-holds}
+use borrow.Author.Tests.{not-true}
+use Rattle.integrate.proofs.Full.{left-short}
+use Rattle.integrate.proofs.Turning.{first-holds, last-holds}
 use Rattle.integrate.proofs.take_in.Statement.{statement}
 use Rattle.integrate.proofs.take_in.Tie as tie
 
@@ -45,9 +48,10 @@ same-length-6 c = search needs
 returns : tie.Need-returns
 returns c =
     let k = c .before .before .before .before .keep .ensures in
-    let p = c .before .before .before .before .before .before .before .before .before .before .before .before .before .before .before .before .before .pour in (
-      omega (arith, k .0, c .before .before .before .before .before .before .before .before .before .before .before .before .before .before .before .before .before .before .before .before .before .before .before .before .before .before .before .before .before .before .pre),
-      record { taken = p .result .taken; many = k .0; kept = k .1; turns = λ h. p .ensures .1 (first-holds _ _ _ h) },
+    let p = c .before .before .before .before .before .before .before .before .before .before .before .before .before .before .before .before .before .pour in
+    let a = c .before .before .before .before .before .before .before .before .before .before .before .before .before .before .before .before .before .before .before .before .before .before .before .before .before .before .before .before .before .before in (
+      record { taken = p .result .taken; many = k .0; kept = k .1; turns = λ h. p .ensures .1 .0 (first-holds _ _ _ h) },
+      λ h. let d = sym (c .is-over .ensures) ∙ not-true _ (last-holds (p .result .written) (ltb (a .args .held) (a .args .full)) _ h) in left-short (a .args .text .now) (a .args .full) (p .result .taken) _ (a .pre) (k .0) (p .ensures .1 .1 (first-holds _ _ _ h) d),
     )
 
 pub take-in-spec : {M : Type 1} → statement M
