@@ -1,2 +1,4 @@
 pub mod Decimal
+pub mod Full
 pub mod Placing
+pub mod Turning

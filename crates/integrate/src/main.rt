@@ -4,9 +4,13 @@
 mod lines;
 
 ghost use mathlib.Core.Path.{_≡_};
-ghost use mathlib.Core.Bool.{true};
-ghost use Prim.Native.Nat.{_-_, _≤_, _<_};
+ghost use mathlib.Core.Bool.{true, false, _&&_};
+ghost use Prim.Native.Nat.{_+_, _-_, _≤_, _<_};
+ghost use lib.Dec.{eqb};
 ghost use lib.ListN.{length, take, drop};
+ghost use Rattle.grid.specs.Memory.{memory};
+ghost use Rattle.feed.specs.Said.{isOverOf};
+ghost use Rattle.integrate.specs.Pouring.{place, goesOn, Turns, Stepped, TakenIn};
 use feed::Run;
 use feed::Turned;
 use feed::beginning;
@@ -19,7 +23,7 @@ use libc::STDOUT_FILENO;
 struct Poured {
     run: Run,
     taken: usize,
-    open: bool,
+    written: bool,
     goes: bool,
 }
 
@@ -52,14 +56,14 @@ fn tell(told: feed::Told) -> bool {
 }
 
 // Whether another turn follows on the bytes that are left: one that took nothing waits for more of them.
-fn goes_on(turned: Turned, open: bool) -> bool
-    ensures { λ r. ⌜ (r ≡ true → 0 < turned .taken) ⌝ }
+fn goes_on(turned: Turned, written: bool) -> bool
+    ensures { λ r. ⌜ r ≡ goesOn (turned .taken) (turned .run) && written ⌝ }
 {
     if turned.taken == 0 {
         return false;
     }
     let run = turned.run;
-    open & !is_over(run)
+    !is_over(run) & written
 }
 
 // One turn on the bytes from a place on, and its line.
@@ -75,7 +79,9 @@ fn step(
     spare_counts: &mut [u64],
 ) -> Poured
     requires { ⌜ from ≤ length (now bytes) ⌝ }
-    ensures { λ r. ⌜ (r .taken ≤ length (now (bytes .entry))) × (r .goes ≡ true → from < r .taken) ⌝ }
+    ensures { λ r. ⌜ Stepped (now (bytes .entry)) last (length (now («spare_reals» .entry))) (length (now («spare_counts» .entry)))
+        (place run from (now (table .entry)) (memory (now (reals .entry)) (now (counts .entry))))
+        (place (r .run) (r .taken) (now (table .exit)) (memory (now (reals .exit)) (now (counts .exit)))) (r .written) (r .goes) ⌝ }
 {
     let turned = turn(
         run,
@@ -88,13 +94,13 @@ fn step(
         spare_counts,
     );
     let told = turned.told;
-    let open = tell(told);
-    let goes = goes_on(turned, open);
+    let written = tell(told);
+    let goes = goes_on(turned, written);
     let after = turned.run;
     Poured {
         run: after,
         taken: from + turned.taken,
-        open,
+        written,
         goes,
     }
 }
@@ -111,6 +117,10 @@ fn pour(
     spare_counts: &mut [u64],
 ) -> Poured
     ensures { λ r. ⌜ r .taken ≤ length (now (bytes .entry)) ⌝ }
+    ensures { λ r. ⌜ (r .written ≡ true → Turns (now (bytes .entry)) last (length (now («spare_reals» .entry))) (length (now («spare_counts» .entry)))
+        (place run 0 (now (table .entry)) (memory (now (reals .entry)) (now (counts .entry))))
+        (place (r .run) (r .taken) (now (table .exit)) (memory (now (reals .exit)) (now (counts .exit))))) ⌝ }
+    ensures { λ r. ⌜ (r .written ≡ true → isOverOf (r .run) ≡ false → length (now (bytes .entry)) < r .taken + 131072) ⌝ }
 {
     let mut now = run;
     let mut taken = 0;
@@ -135,7 +145,8 @@ fn pour(
     }
 }
 
-// The turns on the first `full` bytes of the text, of which `held` were there before; what they leave is kept.
+// The turns on the first `full` bytes of the text, of which `held` were there before; what they leave is kept. Where the run goes on these
+// are fewer than 131,072.
 fn take_in(
     run: Run,
     text: &mut [u8],
@@ -148,7 +159,10 @@ fn take_in(
     spare_counts: &mut [u64],
 ) -> Fed
     requires { ⌜ full ≤ length (now text) ⌝ }
-    ensures { λ r. ⌜ r .held ≤ length (now (text .entry)) ⌝ }
+    ensures { λ r. ⌜ TakenIn (now (text .entry)) full (eqb full held) (length (now («spare_reals» .entry))) (length (now («spare_counts» .entry)))
+        run (now (table .entry)) (memory (now (reals .entry)) (now (counts .entry)))
+        (now (text .exit)) (r .held) (r .goes) (r .run) (now (table .exit)) (memory (now (reals .exit)) (now (counts .exit))) ⌝ }
+    ensures { λ r. ⌜ (r .goes ≡ true → r .held < 131072) ⌝ }
 {
     let poured = pour(
         run,
@@ -165,11 +179,12 @@ fn take_in(
     Fed {
         run: after,
         held: rest,
-        goes: poured.open & (held < full) & !is_over(after),
+        goes: poured.written & (held < full) & !is_over(after),
     }
 }
 
-// One read behind the bytes that are held, and the turns on all of them. A read that fails ends it.
+// One read behind the bytes that are held, and the turns on all of them. There is room for it: a read into nothing would look like the
+// input's end. A read that fails ends it.
 fn feed_once(
     run: Run,
     text: &mut [u8],
@@ -180,8 +195,8 @@ fn feed_once(
     spare_reals: &mut [f64],
     spare_counts: &mut [u64],
 ) -> Fed
-    requires { ⌜ held ≤ length (now text) ⌝ }
-    ensures { λ r. ⌜ r .held ≤ length (now (text .entry)) ⌝ }
+    requires { ⌜ held < length (now text) ⌝ }
+    ensures { λ r. ⌜ (r .goes ≡ true → r .held < 131072) ⌝ }
 {
     let got = libc::read(STDIN_FILENO, &mut text[held..]);
     if got < 0 {
@@ -214,7 +229,9 @@ fn integrate(
     counts: &mut [u64],
     spare_reals: &mut [f64],
     spare_counts: &mut [u64],
-) {
+)
+    requires { ⌜ 131072 ≤ length (now text) ⌝ }
+{
     let mut run = beginning();
     let mut held = 0;
     let mut left = u64::MAX;
@@ -251,8 +268,7 @@ fn run(
     integrate(text, table, reals, counts, spare_reals, spare_counts);
 }
 
-// 131,072 bytes decide any plan, so that a text full of them is never waited on. A table of 16,832 words holds any plan; 128 bins in 64 grids
-// need at most 2,816 reals and 1,344 counts.
+// 131,072 bytes decide any plan. A table of 16,832 words holds any plan; 128 bins in 64 grids need at most 2,816 reals and 1,344 counts.
 fn main() {
     let mut text = [0u8; 131072];
     let mut table = [0u64; 16832];

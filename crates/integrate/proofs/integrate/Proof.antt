@@ -1,15 +1,16 @@
 -- `integrate`: the bytes held lie within the text, and the reads that are left fall.
-use Prim.Native.Nat.{_≤_}
+use Prim.Native.Nat.{_<_}
 use mathlib.Core.Path.{_≡_, refl}
 use native.Mathlib.Omega.{arith}
 use borrow.Author.Needs.{needs}
+use borrow.Author.Tests.{not-false}
 use lib.ListN.{length}
 use Rattle.integrate.proofs.integrate.Statement.{statement}
 use Rattle.integrate.proofs.integrate.Tie as tie
 
 abbrev Inv-loop : tie.InvT-loop
 Inv-loop text₀ table₀ reals₀ counts₀ spare-reals₀ spare-counts₀ run₀ held₀ left₀ text table reals counts spare-reals spare-counts run held left =
-    (held ≤ length text) × (length text ≡ length text₀) × (length table ≡ length table₀) × (length reals ≡ length reals₀) × (length counts ≡ length counts₀) × (length spare-reals ≡ length spare-reals₀) × (length spare-counts ≡ length spare-counts₀)
+    (held < length text) × (length text ≡ length text₀) × (length table ≡ length table₀) × (length reals ≡ length reals₀) × (length counts ≡ length counts₀) × (length spare-reals ≡ length spare-reals₀) × (length spare-counts ≡ length spare-counts₀)
 
 abbrev μ-loop : tie.MeasureT-loop
 μ-loop text₀ table₀ reals₀ counts₀ spare-reals₀ spare-counts₀ run₀ held₀ left₀ text table reals counts spare-reals spare-counts run held left =
@@ -52,7 +53,7 @@ loop-less : tie.Need-loop-less Inv-loop μ-loop
 loop-less c = search needs
 
 loop-again : tie.Need-loop-again Inv-loop μ-loop
-loop-again c = (omega arith, omega arith, omega arith, omega arith, omega arith, omega arith, omega arith)
+loop-again c = (omega (arith, c .before .before .before .before .before .before .before .before .before .before .before .before .before .before .before .feed-once .ensures (not-false _ (c .before .if1 .left)), c .before .before .before .before .before .before .before .before .before .before .before .before .before .before .before .before .before .before .before .before .before .before .before .before .before .before .before .before .before .before .before .pre), omega arith, omega arith, omega arith, omega arith, omega arith, omega arith)
 
 same-length-7 : tie.Need-same-length-7 Inv-loop μ-loop
 same-length-7 c = search needs

@@ -1,6 +1,10 @@
 -- `step`: the place behind the turn lies within the bytes, and where it goes on the turn took some.
 use native.Mathlib.Omega.{arith}
-use lib.ListN.{length-drop, length-take}
+use lib.ListN.{length, length-drop, length-take}
+use Rattle.grid.specs.Memory.{memory}
+use Rattle.feed.specs.Said.{said}
+use Rattle.integrate.specs.Pouring.{place}
+use Rattle.integrate.proofs.Turning.{stepped}
 use borrow.Author.Needs.{needs}
 use Rattle.integrate.proofs.step.Statement.{statement}
 use Rattle.integrate.proofs.step.Tie as tie
@@ -42,7 +46,13 @@ same-length-5 : tie.Need-same-length-5
 same-length-5 c = search needs
 
 returns : tie.Need-returns
-returns c = (omega (arith, c .before .before .before .before .before .before .before .before .before .before .before .before .before .before .before .before .before .before .before .before .before .before .before .before .before .before .before .pre, c .before .before .before .before .before .before .before .before .before .before .before .before .before .before .before .before .before .before .before .before .before .before .before .before .before .before .before .good .1 .0, simp (length-drop, length-take) at (c .before .before .before .before .before .before .before .before .before .before .before .before .before .before .turn .ensures .1)), λ e. omega (arith, c .before .before .goes-on .ensures e))
+returns c =
+    let a = c .before .before .before .before .before .before .before .before .before .before .before .before .before .before .before .before .before .before .before .before .before .before .before .before .before .before .before .args in
+    let t = c .before .before .before .before .before .before .before .before .before .before .before .before .before .before .turn in
+    stepped (a .bytes .now) (a .last) (length (a .spare-reals .now)) (length (a .spare-counts .now))
+    (place (a .run) (a .from) (a .table .now) (memory (a .reals .now) (a .counts .now))) (said (t .result)) (t .last .1 .1 .1 .0)
+    (memory (t .last .1 .1 .1 .1 .0) (t .last .1 .1 .1 .1 .1 .0)) (c .before .before .before .tell .result) (c .before .before .goes-on .result) (t .ensures .0)
+    (t .ensures .1) (c .before .before .before .before .before .before .before .before .before .before .before .before .before .before .before .before .before .before .before .before .before .before .before .before .before .before .before .pre) (c .before .before .goes-on .ensures)
 
 pub step-spec : {M : Type 1} → statement M
 step-spec =
