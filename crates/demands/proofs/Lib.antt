@@ -13,3 +13,5 @@ pub mod Ladders
 pub mod First
 pub mod Meets
 pub mod Refuted
+pub mod Opened
+pub mod Whole

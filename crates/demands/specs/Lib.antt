@@ -7,3 +7,4 @@ pub mod Lent
 pub mod Order
 pub mod Demand1
 pub mod Programs
+pub mod Batch
