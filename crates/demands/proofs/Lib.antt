@@ -15,3 +15,4 @@ pub mod Meets
 pub mod Refuted
 pub mod Opened
 pub mod Whole
+pub mod SecondActs

@@ -1,9 +1,8 @@
 -- draw_and_train in histories: a batch leaves what its draws and trainings leave one by one, so the demands hold with batches among the calls.
-use mathlib.Core.Path.{_≡_, refl, sym, ap, ap₂, _∙_, subst}
-use mathlib.Core.Bool.{Bool, true, false, not, cond}
+use mathlib.Core.Path.{_≡_, refl, sym, ap, _∙_, subst}
+use mathlib.Core.Bool.{Bool, true, false, cond}
 use mathlib.Core.List.{List, [], _∷_, _++_}
 use Prim.Native.Nat.{ℕ, _+_}
-use native.Mathlib.Omega.{arith}
 use borrow.Author.Tests.{eqb-true, eqb-false}
 use lib.Dec.{eqb}
 use lib.Ieee.{Float}
@@ -27,7 +26,7 @@ use Rattle.grid.proofs.States.{stopped, went-on}
 use Rattle.grid.proofs.Objections.{grants, train-objection, train-done}
 use Rattle.grid.proofs.Batches.{step-objected, step-done, trained-onward}
 use Rattle.grid.proofs.FreshState.{fresh-founds}
-use Rattle.demands.specs.Lent.{Deed, draws, trains, stateOf, ending, lentLog}
+use Rattle.demands.specs.Lent.{Deed, stateOf, ending, lentLog}
 use Rattle.demands.specs.Batch.{batchDeeds, Act, one, batch, actState, acted, actDeeds, opened}
 use Rattle.demands.specs.Demand3.{Demand3}
 use Rattle.demands.proofs.Kept.{refused-none}
@@ -52,7 +51,7 @@ module _ (table : List ℕ) (m : Memory) (s : MonteCarloRng) (e : Float) (es : L
 
   -- what a batch's first step comes to: its state where it is refused, else the others from there
   pub record Stepped : Type 0 where
-    pub stops : (call .answer ≡ 0 → ⊥) → (stepsOf table (e ∷ es) m s k done .state ≡ m) × (call .state ≡ m)
+    pub stops : (call .answer ≡ 0 → ⊥) → (stepsOf table (e ∷ es) m s k done ≡ batchEnd (batched (call .answer) done s) m) × (call .state ≡ m)
     pub goes : call .answer ≡ 0 → stepsOf table (e ∷ es) m s k done ≡ stepsOf table es (call .state) (drawn .stream) (k + 1) (done + 1)
 
   stepped-by : (p : Paper Grid) → trainOf root (sampleOf (drawn .sample)) e k ≡ p → Stepped
@@ -71,7 +70,7 @@ module _ (table : List ℕ) (m : Memory) (s : MonteCarloRng) (e : Float) (es : L
       let o = step-objected table m s e k fault drawn n refl (sym (ap objectionOf h)) z in
       let t = train-objection table m (drawn .sample) e k n fault (sym (ap objectionOf h)) z in
       record {
-        stops = λ y. (ap (λ (x : BatchEnd). x .state) (sym (ap rest o) ∙ stopped n (batchEnd (batched n done s) m) _ z), sym (ap (λ (x : StateEnd). x .state) t));
+        stops = λ y. (sym (ap rest o) ∙ stopped n (batchEnd (batched n done s) m) _ z ∙ ap (λ (x : StateEnd). batchEnd (batched (x .answer) done s) m) t, sym (ap (λ (x : StateEnd). x .state) t));
         goes = λ y. absurd (z (ap (λ (x : StateEnd). x .answer) t ∙ y));
       }
 
@@ -102,7 +101,7 @@ batch-ends table large (e ∷ es) m s k done f = pick (eqb (t .answer) 0) refl (
         ap (λ (x : BatchEnd). x .state) (step .goes z) ∙ on z ∙ ap (λ (b : Bool). ending table (t .state) (cond b (batchDeeds table (t .state) (d .stream) es (k + 1)) [])) (sym h)
     pick false h on =
         let q = step .stops (eqb-false (t .answer) 0 h) in
-        q .0 ∙ sym (q .1) ∙ ap (λ (b : Bool). ending table (t .state) (cond b (batchDeeds table (t .state) (d .stream) es (k + 1)) [])) (sym h)
+        ap (λ (x : BatchEnd). x .state) (q .0) ∙ sym (q .1) ∙ ap (λ (b : Bool). ending table (t .state) (cond b (batchDeeds table (t .state) (d .stream) es (k + 1)) [])) (sym h)
 
 -- its calls lend no other table
 batch-wordy : (table : List ℕ) (es : List Float) (m : Memory) (s : MonteCarloRng) (k : ℕ) → AllWordy (batchDeeds table m s es k)
@@ -137,7 +136,7 @@ unfolding ending
 ending-append table [] es m = refl
 ending-append table (d ∷ ds) es m = ending-append table ds es (stateOf table m d)
 
-act-wordy : (table : List ℕ) (m : Memory) (a : Act) (rest : List Act) → WordyActs (a ∷ rest) → AllWordy (actDeeds table m a) × WordyActs rest
+pub act-wordy : (table : List ℕ) (m : Memory) (a : Act) (rest : List Act) → WordyActs (a ∷ rest) → AllWordy (actDeeds table m a) × WordyActs rest
 unfolding WordyActs AllWordy actDeeds
 act-wordy table m (one d) rest w = ((w .0, tt), w .1)
 act-wordy table m (batch s es k) rest w = (batch-wordy table es m s k, w)
@@ -149,6 +148,11 @@ act-ends table large (batch s es k) m f =
     let fault = stateFault table (m .reals) (m .counts) in
     ap (λ (x : BatchEnd). x .state) (went-on fault (batchEnd (batched fault 0 s) m) (stepsOf table es m s k 0) f) ∙ batch-ends table large es m s k 0 f
 
+pub act-clear : (table : List ℕ) → Words table → (a : Act) (rest : List Act) (m : Memory) → stateFault table (m .reals) (m .counts) ≡ 0 → WordyActs (a ∷ rest)
+    → stateFault table (actState table m a .reals) (actState table m a .counts) ≡ 0
+act-clear table large a rest m f w =
+    ap (λ (x : Memory). stateFault table (x .reals) (x .counts)) (act-ends table large a m f) ∙ runs table large (actDeeds table m a) m f (act-wordy table m a rest w .0) .clear
+
 pub acts-end : (table : List ℕ) → Words table → (as′ : List Act) (m : Memory) → stateFault table (m .reals) (m .counts) ≡ 0 → WordyActs as′
     → (acted table m as′ ≡ ending table m (opened table m as′)) × AllWordy (opened table m as′)
 unfolding acted opened ending AllWordy
@@ -156,8 +160,7 @@ acts-end table large [] m f w = (refl, tt)
 acts-end table large (a ∷ rest) m f w =
     let v = act-wordy table m a rest w in
     let e = act-ends table large a m f in
-    let c = runs table large (actDeeds table m a) m f (v .0) .clear in
-    let r = acts-end table large rest (actState table m a) (ap (λ (x : Memory). stateFault table (x .reals) (x .counts)) e ∙ c) (v .1) in
+    let r = acts-end table large rest (actState table m a) (act-clear table large a rest m f w) (v .1) in
     (r .0 ∙ ap (λ (x : Memory). ending table x (opened table (actState table m a) rest)) e ∙ sym (ending-append table (actDeeds table m a) (opened table (actState table m a) rest) m), wordy-append (actDeeds table m a) _ (v .0) (r .1))
 
 -- demand 3 of lent memory, draw_and_train among the calls

@@ -6,7 +6,6 @@ use mathlib.Core.List.{List, [], _∷_, _++_}
 use Prim.Native.Nat.{ℕ, zero, suc, _+_, _-_, _≤_, _<_}
 use native.Mathlib.Omega.{arith}
 use borrow.Author.Tests.{ne-eqb}
-use lib.Dec.{eqb}
 use lib.ListN.{length, getD, take, replicate, length-append, length-replicate}
 use lib.Seq.{length-take-le}
 use lib.Ieee.{Float, nan, lt, eq}
@@ -14,9 +13,9 @@ use Rattle.real.specs.Numbers.{zero64, one64}
 use Rattle.stream.specs.declared.MonteCarloRng.{MonteCarloRng}
 use Rattle.stream.specs.Xoshiro.{stepOf}
 use Rattle.plan.proofs.Tables.{Words}
-use Rattle.model.specs.Axes.{Axis, AxesGrid}
-use Rattle.model.specs.Grid.{Grid, Bins, Child, Head, axes, bins, nothing, grid}
-use Rattle.model.specs.Draw.{Sample, Drawing, Placed, unitAt, walked, placedFrom, placedOf, drawAxes, over, drawNothing, drawGrid, drawBin, drawChild}
+use Rattle.model.specs.Axes.{Axis}
+use Rattle.model.specs.Grid.{Grid, axes, bins}
+use Rattle.model.specs.Draw.{Sample, unitAt, walked, placedFrom, placedOf, drawAxes, drawNothing, drawGrid, drawBin, drawChild}
 use Rattle.grid.specs.Memory.{Memory}
 use Rattle.grid.specs.Drawn.{padded}
 use Rattle.grid.specs.Sampled.{entries, sampleOf, laidSample, laidDrawing, Short}
