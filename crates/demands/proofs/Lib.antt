@@ -16,3 +16,4 @@ pub mod Refuted
 pub mod Opened
 pub mod Whole
 pub mod SecondActs
+pub mod Story
