@@ -10,6 +10,7 @@ pub mod Second
 pub mod ThirdLent
 pub mod Orders
 pub mod Ladders
+pub mod Fielded
 pub mod First
 pub mod Meets
 pub mod Refuted
