@@ -18,3 +18,4 @@ pub mod Opened
 pub mod Whole
 pub mod SecondActs
 pub mod Story
+pub mod Coded
