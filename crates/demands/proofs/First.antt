@@ -7,7 +7,7 @@ use Prim.Native.Nat.{ℕ, suc, _+_}
 use native.Mathlib.Omega.{arith}
 use borrow.Author.Tests.{eqb-true, eqb-false, not-false}
 use lib.Dec.{eqb, ltb}
-use lib.ListN.{length}
+use lib.ListN.{length, getD}
 use lib.Ieee.{Float}
 use Rattle.real.specs.Paper.{Paper, gives, refuses}
 use Rattle.real.proofs.Truth.{both}
@@ -17,8 +17,12 @@ use Rattle.accumulator.specs.Calls.{summarizeOf, liveEstimateOf}
 use Rattle.stream.specs.declared.MonteCarloRng.{MonteCarloRng}
 use Rattle.plan.specs.declared.Needs.{Needs}
 use Rattle.plan.specs.Paper as plan
-use Rattle.plan.specs.Paper.{PlanRead}
-use Rattle.plan.specs.Calls.{measureOf, sizesOf}
+use Rattle.plan.specs.Paper.{PlanRead, planRead}
+use Rattle.plan.specs.declared.Place.{Place}
+use Rattle.plan.specs.Plan.{nothing}
+use Rattle.plan.specs.Needs.{needsOf}
+use Rattle.plan.specs.Reading.{Out, treeOf, fromBytes}
+use Rattle.plan.specs.Calls.{begin, gridOf, measuredEnd, measureOf, sizesOf}
 use Rattle.plan.proofs.Tables.{Words}
 use Rattle.model.specs.Grid.{Grid}
 use Rattle.model.specs.Sound.{sound, formedGrid, keptGrid}
@@ -48,11 +52,13 @@ use Rattle.grid.proofs.Batches.{step-objected, step-done}
 use Rattle.demands.specs.History as model
 use Rattle.demands.specs.History.{Word, numbered}
 use Rattle.demands.specs.Lent.{roomBy, roomFault}
-use Rattle.demands.specs.Order.{Test, test, First, NoneHolds, Ordered, stateTestsBy, stateTests, roomTestsBy, roomTests, secondTests, firstTests, pairTests, planTests, freshTests, liveTests, alongTests, probeTests, trainTests, updateTests, matchTests, mergeTests}
+use Rattle.demands.specs.Order.{Test, test, First, NoneHolds, Ordered, stateTestsBy, stateTests, roomTestsBy, roomTests, secondTests, firstTests, pairTests, liveTests, alongTests, probeTests, trainTests, updateTests, matchTests, mergeTests}
+use Rattle.demands.specs.Fields.{behind, outPaper, treeTests, wholeTests, freshTests}
 use Rattle.demands.specs.Demand1.{atField, Guarded, Demand1}
 use Rattle.demands.proofs.Kept.{refused-none, numbered-refuses}
 use Rattle.demands.proofs.Tied.{update-called}
 use Rattle.demands.proofs.Orders.{given-last, held, passed, firstOf, Above, by-number, changed, first-above, above-append, first-is, none-is, alone, numbered-by, numbered-ordered}
+use Rattle.demands.proofs.Fielded.{thenPaper, ordered-then, tree-ordered}
 use Rattle.demands.proofs.Ladders.{train-ordered, train-above, update-ordered, update-above, merge-ordered, merge-above, match-first, match-above, probe-ordered, live-ordered, own-kept, along-ordered}
 
 no : (n : ℕ) → suc n ≡ 0 → ⊥
@@ -156,15 +162,42 @@ module _ (table : List ℕ) (m : Memory) where
   short true ts e o = held 10 ts
   short false ts e o = passed 10 ts _ o
 
-  fresh-by : (bs : List ℕ) (p : plan.Paper PlanRead) → Ordered (planTests table m p) (atField (freshBy bs p table m .answer))
-  unfolding planTests foundedOf atField
-  fresh-by bs (plan.gives r) = short (ltb (length table) (r .needs .words)) _ _ (short (ltb (length (m .reals)) (r .needs .reals)) _ _ (short (ltb (length (m .counts)) (r .needs .counts)) _ _ (given-last r)))
-  fresh-by bs (plan.refuses n) = held n []
-  fresh-by bs (plan.refusesAt n at) = held n []
+  whole-ordered : (bs : List ℕ) (q : Place) → Ordered (wholeTests bs table m q) (atField (freshBy bs (measuredEnd bs (Out.reads nothing q)) table m .answer))
+  unfolding wholeTests foundedOf atField
+  whole-ordered bs q = pick (ltb (q .at) (length bs))
+    where
+      r : PlanRead
+      r = planRead (q .at) (needsOf (q .tally))
+
+      room : List Test
+      room = test (ltb (length table) (r .needs .words)) 10 ∷ (test (ltb (length (m .reals)) (r .needs .reals)) 10 ∷ (test (ltb (length (m .counts)) (r .needs .counts)) 10 ∷ []))
+
+      pick : (b : Bool) → Ordered (test b 1 ∷ room) (atField (freshBy bs (cond b (plan.refusesAt 1 (q .at)) (plan.gives r)) table m .answer))
+      pick true = held 1 room
+      pick false = passed 1 room _ (short (ltb (length table) (r .needs .words)) _ _ (short (ltb (length (m .reals)) (r .needs .reals)) _ _ (short (ltb (length (m .counts)) (r .needs .counts)) _ _ (given-last r))))
+
+  fresh-paper : (bs : List ℕ) (o : Out)
+      → thenPaper (outPaper o) (λ (q : Place). atField (freshBy bs (measuredEnd bs (Out.reads nothing q)) table m .answer)) ≡ atField (freshBy bs (measuredEnd bs o) table m .answer)
+  unfolding thenPaper outPaper atField
+  fresh-paper bs (Out.stops n at) = refl
+  fresh-paper bs (Out.reads t q) = refl
 
   fresh-ordered : (bs : List ℕ) → Ordered (freshTests bs table m) (atField (freshOf bs table m .answer))
-  unfolding freshTests freshOf
-  fresh-ordered bs = fresh-by bs (measureOf bs)
+  unfolding freshTests freshOf measureOf gridOf atField
+  fresh-ordered bs = pick (eqb (getD bs 0 0) 4)
+    where
+      tree : Out
+      tree = treeOf (fromBytes bs) 4 begin
+
+      ts : List Test
+      ts = treeTests bs 4 begin ++ behind (outPaper tree) (wholeTests bs table m)
+
+      all : Ordered ts (atField (freshBy bs (measuredEnd bs tree) table m .answer))
+      all = subst (λ (p : Paper PlanRead). Ordered ts p) (fresh-paper bs tree) (ordered-then (treeTests bs 4 begin) (outPaper tree) (wholeTests bs table m) _ (tree-ordered bs 4 begin) (λ q e. whole-ordered bs q))
+
+      pick : (b : Bool) → Ordered (test b 1 ∷ ts) (atField (freshBy bs (measuredEnd bs (cond b (Out.stops 1 0) tree)) table m .answer))
+      pick true = held 1 ts
+      pick false = passed 1 ts _ all
 
   abbrev Left : FreshEnd → Type 0
   Left e = (n : ℕ) → atField (e .answer) ≡ refuses n → (e .table ≡ table) × (e .state ≡ m)

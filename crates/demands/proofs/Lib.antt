@@ -10,6 +10,12 @@ pub mod Second
 pub mod ThirdLent
 pub mod Orders
 pub mod Ladders
+pub mod Fielded
 pub mod First
 pub mod Meets
 pub mod Refuted
+pub mod Opened
+pub mod Whole
+pub mod SecondActs
+pub mod Story
+pub mod Coded

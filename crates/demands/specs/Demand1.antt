@@ -18,7 +18,8 @@ use Rattle.grid.specs.State.{rootOf, ownOf}
 use Rattle.grid.specs.Calls.{drawnAs, drawOf, summaryOf, liveOf, liveOfBin, freshOf, cloneOf, probeOf, trainCallOf, updateOf, mergeableOf, mergeIntoOf}
 use Rattle.grid.specs.Batched.{batchEnd, batched, stepsOf, batchOf}
 use Rattle.demands.specs.History.{numbered}
-use Rattle.demands.specs.Order.{First, NoneHolds, Ordered, stateTests, roomTests, pairTests, freshTests, liveTests, alongTests, probeTests, trainTests, updateTests, matchTests, mergeTests}
+use Rattle.demands.specs.Fields.{freshTests}
+use Rattle.demands.specs.Order.{First, NoneHolds, Ordered, stateTests, roomTests, pairTests, liveTests, alongTests, probeTests, trainTests, updateTests, matchTests, mergeTests}
 
 -- a plan's answer without its offset
 unfoldable pub atField : {A : Type 0} → plan.Paper A → Paper A

@@ -5,5 +5,7 @@ pub mod History
 pub mod Demand3
 pub mod Lent
 pub mod Order
+pub mod Fields
 pub mod Demand1
 pub mod Programs
+pub mod Batch

@@ -17,8 +17,7 @@ use Rattle.accumulator.specs.Update.{updatedOf}
 use Rattle.axis.specs.Edges.{inUnit}
 use Rattle.plan.specs.declared.Needs.{Needs}
 use Rattle.plan.specs.Paper as plan
-use Rattle.plan.specs.Paper.{PlanRead}
-use Rattle.plan.specs.Calls.{measureOf, sizesOf}
+use Rattle.plan.specs.Calls.{sizesOf}
 use Rattle.model.specs.Axes.{AxesGrid}
 use Rattle.model.specs.Grid.{Grid, Bins, Child, axes, bins, none, more, nothing, grid, many}
 use Rattle.model.specs.Sound.{sound, keptGrid}
@@ -89,17 +88,6 @@ firstTests table m (plan.refusesAt k at) other o = test true 12 ∷ []
 
 unfoldable pub pairTests : List ℕ → Memory → List ℕ → Memory → List Test
 pairTests table m other o = firstTests table m (sizesOf table) other o
-
--- ---- fresh: the plan's own refusal, 1, 2 or 3, then room for its table and its grid
-
-unfoldable pub planTests : List ℕ → Memory → plan.Paper PlanRead → List Test
-planTests table m (plan.gives r) =
-    test (ltb (length table) (r .needs .words)) 10 ∷ (test (ltb (length (m .reals)) (r .needs .reals)) 10 ∷ (test (ltb (length (m .counts)) (r .needs .counts)) 10 ∷ []))
-planTests table m (plan.refuses n) = test true n ∷ []
-planTests table m (plan.refusesAt n at) = test true n ∷ []
-
-unfoldable pub freshTests : List ℕ → List ℕ → Memory → List Test
-freshTests bs table m = planTests table m (measureOf bs)
 
 -- ---- estimates: what would be kept, 8; that of a bin along its path, 6 and 4
 
