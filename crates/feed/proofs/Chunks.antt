@@ -12,7 +12,7 @@ use lib.Seq.{take-append-le}
 use lib.Ieee.{Float}
 use Rattle.plan.specs.Bounds.{Bytes}
 use Rattle.plan.specs.Paper as plan
-use Rattle.plan.specs.Calls.{End, readPrefixOf}
+use Rattle.plan.specs.Calls.{measurePrefixOf}
 use Rattle.plan.proofs.Tables.{Words}
 use Rattle.grid.specs.Memory.{Memory}
 use Rattle.grid.specs.Calls.{freshOf}
@@ -151,21 +151,19 @@ module _ (run : Run) (table : List ℕ) (m : Memory) (R C : ℕ) where
 
     -- ---- the plan: something stands behind it, and no 02
 
-    pub plan-chunks : (r : plan.PlanRead) → Bytes xs → run .phase ≡ phase.Plan → readPrefixOf xs table .answer ≡ plan.gives r → r .end < length xs → (getD (drop (r .end) xs) 0 0 ≡ 2 → ⊥)
+    pub plan-chunks : (r : plan.PlanRead) → Bytes xs → run .phase ≡ phase.Plan → measurePrefixOf xs ≡ plan.gives r → r .end < length xs → (getD (drop (r .end) xs) 0 0 ≡ 2 → ⊥)
         → turnOf run (xs ++ ys) last table m R C ≡ turnOf run xs false table m R C
     unfolding turnOf turnBy planTurn planBy foundOf
     plan-chunks r small p e h c =
         let due : (bs : List ℕ) (b : Bool) → turnOf run bs b table m R C ≡ planTurn run bs b table m = λ bs b. ap (λ (x : Phase). turnBy x run bs b table m R C) p in
-        let t = readPrefixOf xs table .table in
-        let found : (bs : List ℕ) (all : Bool) → r .end < length bs → foundOf run bs all r t m ≡ cond (ltb 128 (r .needs .bins)) (turnEnd (refusingAt (waiting run) 10 0) t m) (freshEnds run (r .end) (freshOf (take (r .end) bs) t m)) =
+        let found : (bs : List ℕ) (all : Bool) → r .end < length bs → foundOf run bs all r table m ≡ cond (ltb 128 (r .needs .bins)) (turnEnd (refusingAt (waiting run) 10 0) table m) (freshEnds run (r .end) (freshOf (take (r .end) bs) table m)) =
         λ bs all k. rw (no-plan-end all (r .end) (length bs) k) in
         let l : r .end < length (xs ++ ys) = omega (arith, length-append xs ys) in
         let all = allIn (xs ++ ys) last in
         due (xs ++ ys) last
-        ∙ ap (λ (o : End). planBy run (xs ++ ys) all m (o .answer) (o .table)) (prefix-stays xs table r small e ys h c)
-        ∙ ap (λ (o : plan.Paper plan.PlanRead). planBy run (xs ++ ys) all m o t) e
+        ∙ ap (λ (o : plan.Paper plan.PlanRead). planBy run (xs ++ ys) all table m o) (prefix-stays xs r small e ys h c)
         ∙ found (xs ++ ys) all l
-        ∙ ap (λ (bs : List ℕ). cond (ltb 128 (r .needs .bins)) (turnEnd (refusingAt (waiting run) 10 0) t m) (freshEnds run (r .end) (freshOf bs t m))) (take-append-le (r .end) xs ys (omega arith))
+        ∙ ap (λ (bs : List ℕ). cond (ltb 128 (r .needs .bins)) (turnEnd (refusingAt (waiting run) 10 0) table m) (freshEnds run (r .end) (freshOf bs table m))) (take-append-le (r .end) xs ys (omega arith))
         ∙ sym (found xs (allIn xs false) h)
-        ∙ sym (ap (λ (o : plan.Paper plan.PlanRead). planBy run xs (allIn xs false) m o t) e)
+        ∙ sym (ap (λ (o : plan.Paper plan.PlanRead). planBy run xs (allIn xs false) table m o) e)
         ∙ sym (due xs false)

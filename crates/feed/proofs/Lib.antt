@@ -11,3 +11,6 @@ pub mod Splits
 pub mod Waits
 pub mod Joined
 pub mod Chunks
+pub mod Renewed
+pub mod Refusals
+pub mod Rooms
