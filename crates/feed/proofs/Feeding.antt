@@ -58,10 +58,6 @@ samplesDue phase.Stream = false
 samplesDue phase.Samples = true
 samplesDue phase.Over = false
 
--- a table that holds any plan
-abbrev pub Room : Stand → Type 0
-Room s = 16832 ≤ length (s .table)
-
 over-due : (run : Run) → run .phase ≡ phase.Over → isOverOf run ≡ true
 unfolding isOverOf isOverIn
 over-due run p = ap isOverIn p
@@ -91,7 +87,7 @@ module _ (R C : ℕ) where
   -- field after field, each taken or refused and none waiting
   pub data Fed (last : Bool) : Stand → Stand → Type 0 where
     here : (s : Stand) → Fed last s s
-    on : (s t : Stand) → Bytes (s .bytes) → (last ≡ false → s .run .phase ≡ phase.Plan → Room s) → isOverOf (s .run) ≡ false → (Waits (single last s .answer) → ⊥)
+    on : (s t : Stand) → Bytes (s .bytes) → isOverOf (s .run) ≡ false → (Waits (single last s .answer) → ⊥)
         → Fed last (after s (single last s)) t → Fed last s t
 
   -- ---- one field with more bytes behind it
@@ -181,13 +177,13 @@ module _ (R C : ℕ) where
       samples-stay true e goes = one-stays e
       samples-stay false e goes = none-stays e goes (eqb (getD xs 0 0) 0x11) refl
 
-    single-stays : (d : Phase) → s .run .phase ≡ d → Bytes xs → (s .run .phase ≡ phase.Plan → Room s) → (Waits (single false s .answer) → ⊥) → single true (with s ys) ≡ single false s
+    single-stays : (d : Phase) → s .run .phase ≡ d → Bytes xs → (Waits (single false s .answer) → ⊥) → single true (with s ys) ≡ single false s
     unfolding samplesDue
-    single-stays phase.Plan p small room goes =
-        other-stays (ap samplesDue p) goes (λ h. plan-chunks (s .run) (s .table) (s .state) xs ys R C true (room p) small p h)
-    single-stays phase.Stream p small room goes = other-stays (ap samplesDue p) goes (λ h. stream-chunks (s .run) (s .table) (s .state) R C xs ys true p h)
-    single-stays phase.Samples p small room goes = samples-stay p (ap samplesDue p) (isSample xs 0) refl goes
-    single-stays phase.Over p small room goes = never (sym (over-due (s .run) p) ∙ live)
+    single-stays phase.Plan p small goes =
+        other-stays (ap samplesDue p) goes (λ h. plan-chunks (s .run) (s .table) (s .state) xs ys R C true small p h)
+    single-stays phase.Stream p small goes = other-stays (ap samplesDue p) goes (λ h. stream-chunks (s .run) (s .table) (s .state) R C xs ys true p h)
+    single-stays phase.Samples p small goes = samples-stay p (ap samplesDue p) (isSample xs 0) refl goes
+    single-stays phase.Over p small goes = never (sym (over-due (s .run) p) ∙ live)
 
   -- ---- how many bytes a field takes
 
@@ -206,19 +202,19 @@ module _ (R C : ℕ) where
   -- what was fed is fed as well with the rest of the input behind it
   pub fed-longer : (s t : Stand) (ys : List ℕ) → Bytes ys → Fed false s t → Fed true (with s ys) (with t ys)
   fed-longer s t ys small (here u) = here (with s ys)
-  fed-longer s t ys small (on u v bytes room live goes rest) =
-      let e = single-stays u ys live (u .run .phase) refl bytes (room refl) goes in
+  fed-longer s t ys small (on u v bytes live goes rest) =
+      let e = single-stays u ys live (u .run .phase) refl bytes goes in
       let o = single false u in
       let next : after (with u ys) (single true (with u ys)) ≡ with (after u o) ys =
       ap (after (with u ys)) e
       ∙ ap (λ (l : List ℕ). record { run = o .answer .run; bytes = l; table = o .table; state = o .state; told = heard (o .answer .told) (u .told) })
       (drop-append-le (o .answer .taken) (u .bytes) ys (single-within false u bytes)) in
-      on (with u ys) (with v ys) (small-append (u .bytes) ys bytes small) (λ z p. never z) live (λ w. goes (subst (λ (x : TurnEnd). Waits (x .answer)) e w))
+      on (with u ys) (with v ys) (small-append (u .bytes) ys bytes small) live (λ w. goes (subst (λ (x : TurnEnd). Waits (x .answer)) e w))
       (subst (λ (x : Stand). Fed true x (with v ys)) (sym next) (fed-longer (after u o) v ys small rest))
 
   pub fed-on : (last : Bool) (s t u : Stand) → Fed last s t → Fed last t u → Fed last s u
   fed-on last s t u (here x) k = k
-  fed-on last s t u (on x y bytes room live goes rest) k = on x u bytes room live goes (fed-on last (after x (single last x)) y u rest k)
+  fed-on last s t u (on x y bytes live goes rest) k = on x u bytes live goes (fed-on last (after x (single last x)) y u rest k)
 
   -- a program's reading: what is there is fed as far as it goes, then a chunk comes; behind the last one the input ends
   pub data Chunked : Stand → List (List ℕ) → Stand → Type 0 where
@@ -248,9 +244,9 @@ module _ (R C : ℕ) where
 
   fed-one : (s t u : Stand) → Fed true s t → Fed true s u → Ended t → Ended u → t ≡ u
   fed-one s t u (here x) (here y) p q = refl
-  fed-one s t u (here x) (on y z bytes room live goes rest) p q = absurd (goes (p live))
-  fed-one s t u (on x y bytes room live goes rest) (here z) p q = absurd (goes (q live))
-  fed-one s t u (on x y bytes room live goes rest) (on z w bytes′ room′ live′ goes′ rest′) p q = fed-one (after x (single true x)) y w rest rest′ p q
+  fed-one s t u (here x) (on y z bytes live goes rest) p q = absurd (goes (p live))
+  fed-one s t u (on x y bytes live goes rest) (here z) p q = absurd (goes (q live))
+  fed-one s t u (on x y bytes live goes rest) (on z w bytes′ live′ goes′ rest′) p q = fed-one (after x (single true x)) y w rest rest′ p q
 
   -- however the same input is cut, the end is the same: the run, the memory, and all that was told
   pub chunks-one : (s t u : Stand) (ys zs : List (List ℕ)) → joined ys ≡ joined zs → Chunked s ys t → Chunked s zs u → Ended t → Ended u → t ≡ u

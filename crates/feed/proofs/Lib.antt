@@ -18,3 +18,6 @@ pub mod Feeding
 pub mod Turning
 pub mod Reading
 pub mod Decided
+pub mod Renewed
+pub mod Refusals
+pub mod Rooms

@@ -1,21 +1,20 @@
--- The plan's turn with more bytes behind it: where it did not wait it stays, with a table that holds any plan.
+-- The plan's turn with more bytes behind it: where it did not wait it stays.
 use mathlib.Core.Path.{_≡_, refl, sym, ap, _∙_, subst}
-use mathlib.Core.Bool.{Bool, true, false, not, _&&_, cond}
+use mathlib.Core.Bool.{Bool, true, false, not, _&&_}
 use mathlib.Core.List.{List, _++_}
 use Prim.Native.Nat.{ℕ, _≤_, _<_}
 use native.Mathlib.Omega.{arith}
-use borrow.Author.Tests.{eq-eqb, ne-eqb, ltb-true, ltb-false, le-ltb, leb-true, leb-false, le-leb, lt-leb}
+use borrow.Author.Tests.{eq-eqb, ne-eqb, ltb-true, ltb-false, leb-true, leb-false, le-leb, lt-leb}
 use lib.Dec.{eqb, leb, ltb}
 use lib.ListN.{length, length-append}
-use lib.Seq.{sets, take-append-le}
+use lib.Seq.{take-append-le}
 use Rattle.plan.specs.declared.Place.{Place}
 use Rattle.plan.specs.Bounds.{Bytes}
 use Rattle.plan.specs.Plan.{Tree}
-use Rattle.plan.specs.Needs.{untaken, needsOf}
+use Rattle.plan.specs.Needs.{needsOf}
 use Rattle.plan.specs.Reading.{Out}
-use Rattle.plan.specs.Table.{rows}
 use Rattle.plan.specs.Paper as plan
-use Rattle.plan.specs.Calls.{end, begin, gridOf, writtenOf, prefixEnd, readPrefixOf}
+use Rattle.plan.specs.Calls.{begin, gridOf, prefixMeasured, measurePrefixOf}
 use Rattle.plan.proofs.Accepts.{sound, sound-inside}
 use Rattle.plan.proofs.Calls.{begin-inside, grid-read}
 use Rattle.grid.specs.Memory.{Memory}
@@ -46,44 +45,34 @@ no-end false a b h = ne-eqb a b (λ z. absurd (omega arith))
 module _ (run : Run) (table : List ℕ) (m : Memory) (xs ys : List ℕ) where
   -- ---- a settled plan's turn is the same
 
-  found-same : (all : Bool) (r : plan.PlanRead) (t : List ℕ) → r .end < length xs → foundOf run (xs ++ ys) all r t m ≡ foundOf run xs false r t m
+  found-same : (all : Bool) (r : plan.PlanRead) → r .end < length xs → foundOf run (xs ++ ys) all r table m ≡ foundOf run xs false r table m
   unfolding foundOf
-  found-same all r t h =
+  found-same all r h =
       let l : r .end < length (xs ++ ys) = omega (arith, length-append xs ys) in
       rw (no-end all (r .end) (length (xs ++ ys)) l, no-end false (r .end) (length xs) h, take-append-le (r .end) xs ys (omega arith))
 
-  written-same : (all : Bool) (r : plan.PlanRead) (t : List ℕ) (b : Bool) → r .end < length xs
-      → planBy run (xs ++ ys) all m (cond b (end (plan.refusesAt 10 0) table) (end (plan.gives r) t) .answer) (cond b (end (plan.refusesAt 10 0) table) (end (plan.gives r) t) .table)
-      ≡ planBy run xs false m (cond b (end (plan.refusesAt 10 0) table) (end (plan.gives r) t) .answer) (cond b (end (plan.refusesAt 10 0) table) (end (plan.gives r) t) .table)
-  unfolding planBy
-  written-same all r t true h =
-      let ten : _≡_ {A = ℕ} 10 1 → ⊥ = λ z. absurd (omega arith) in
-      ap (λ (o : Said). turnEnd o table m) (unread-refuses run all 10 0 ten ∙ sym (unread-refuses run false 10 0 ten))
-  written-same all r t false h = found-same all r t h
-
-  by-out : (all : Bool) (o : Out) → Settles xs ys o → planBy run (xs ++ ys) all m (prefixEnd table o .answer) (prefixEnd table o .table) ≡ planBy run xs false m (prefixEnd table o .answer) (prefixEnd table o .table)
-  unfolding planBy writtenOf Settles
+  by-out : (all : Bool) (o : Out) → Settles xs ys o → planBy run (xs ++ ys) all table m (prefixMeasured o) ≡ planBy run xs false table m (prefixMeasured o)
+  unfolding planBy Settles
   by-out all (Out.stops n at) h = ap (λ (o : Said). turnEnd o table m) (unread-refuses run all n at h ∙ sym (unread-refuses run false n at h))
-  by-out all (Out.reads t q) h = written-same all (plan.planRead (q .at) (needsOf (q .tally))) (sets table 0 (rows 4 t untaken)) (ltb (length table) (q .tally .words)) h
+  by-out all (Out.reads t q) h = found-same all (plan.planRead (q .at) (needsOf (q .tally))) h
 
   -- ---- a turn that did not wait is settled
 
-  module _ (room : 16832 ≤ length table) (small : Bytes xs) (few : length xs < 131072) (due : isOverOf run ≡ false) where
+  module _ (small : Bytes xs) (few : length xs < 131072) (due : isOverOf run ≡ false) where
     undecided : allIn xs false ≡ false
     unfolding allIn
     undecided = lt-leb 131072 (length xs) few
 
     stopped-waits : (at : ℕ) → gridOf xs ≡ Out.stops 1 at → planTurn run xs false table m .answer ≡ waiting run
-    unfolding planTurn planBy readPrefixOf unreadOf
+    unfolding planTurn planBy measurePrefixOf unreadOf
     stopped-waits at g = rw (g, undecided)
 
     ended-waits : (t : Tree) (q : Place) → gridOf xs ≡ Out.reads t q → length xs ≤ q .at → planTurn run xs false table m .answer ≡ waiting run
-    unfolding planTurn planBy readPrefixOf writtenOf foundOf
+    unfolding planTurn planBy measurePrefixOf foundOf
     ended-waits t q g h =
         let i = sound-inside (begin-inside xs small refl) (sound xs small 4 begin t q (grid-read xs t q g .read)) in
-        let w : q .tally .words ≤ length table = omega (arith, i .roomy .words) in
         let e : q .at ≡ length xs = omega (arith, i .reach) in
-        rw (g, le-ltb (length table) (q .tally .words) w, undecided, eq-eqb (q .at) (length xs) e)
+        rw (g, undecided, eq-eqb (q .at) (length xs) e)
 
     module _ (goes : Waits (planTurn run xs false table m .answer) → ⊥) where
       waits : planTurn run xs false table m .answer ≡ waiting run → ⊥
@@ -99,43 +88,43 @@ module _ (run : Run) (table : List ℕ) (m : Memory) (xs ys : List ℕ) where
       settled (Out.reads t q) g = read-settled t q g (ltb (q .at) (length xs)) refl
 
       plan-same : (last : Bool) → planTurn run (xs ++ ys) last table m ≡ planTurn run xs false table m
-      unfolding planTurn readPrefixOf
+      unfolding planTurn measurePrefixOf
       plan-same last =
           let h = settled (gridOf xs) refl in
-          ap (λ (o : Out). planBy run (xs ++ ys) (allIn (xs ++ ys) last) m (prefixEnd table o .answer) (prefixEnd table o .table)) (grid-stays xs ys h)
+          ap (λ (o : Out). planBy run (xs ++ ys) (allIn (xs ++ ys) last) table m (prefixMeasured o)) (grid-stays xs ys h)
           ∙ by-out (allIn (xs ++ ys) last) (gridOf xs) h
-          ∙ ap (λ (b : Bool). planBy run xs b m (prefixEnd table (gridOf xs) .answer) (prefixEnd table (gridOf xs) .table)) (sym undecided)
+          ∙ ap (λ (b : Bool). planBy run xs b table m (prefixMeasured (gridOf xs))) (sym undecided)
 
   -- ---- bytes that decide it
 
   module _ (small : Bytes xs) (many : 131072 ≤ length xs) where
-    decided-by : (p : plan.Paper plan.PlanRead) (t : List ℕ) → readPrefixOf xs table .answer ≡ p → planBy run (xs ++ ys) true m p t ≡ planBy run xs true m p t
+    decided-by : (p : plan.Paper plan.PlanRead) → measurePrefixOf xs ≡ p → planBy run (xs ++ ys) true table m p ≡ planBy run xs true table m p
     unfolding planBy foundOf
-    decided-by (plan.gives r) t e = rw (take-append-le (r .end) xs ys (prefix-reach xs table r small e))
-    decided-by (plan.refuses n) t e = refl
-    decided-by (plan.refusesAt n at) t e = refl
+    decided-by (plan.gives r) e = rw (take-append-le (r .end) xs ys (prefix-reach xs r small e))
+    decided-by (plan.refuses n) e = refl
+    decided-by (plan.refusesAt n at) e = refl
 
     decided-same : (last : Bool) → planTurn run (xs ++ ys) last table m ≡ planTurn run xs false table m
-    unfolding planTurn readPrefixOf
+    unfolding planTurn measurePrefixOf
     decided-same last =
         let l : 131072 ≤ length (xs ++ ys) = omega (arith, length-append xs ys) in
-        let e = prefixEnd table (gridOf xs) in
-        ap (λ (o : Out). planBy run (xs ++ ys) (allIn (xs ++ ys) last) m (prefixEnd table o .answer) (prefixEnd table o .table)) (grid-near xs ys small many)
-        ∙ ap (λ (b : Bool). planBy run (xs ++ ys) b m (e .answer) (e .table)) (all-in (xs ++ ys) last l)
-        ∙ decided-by (e .answer) (e .table) refl
-        ∙ ap (λ (b : Bool). planBy run xs b m (e .answer) (e .table)) (sym (all-in xs false many))
+        let e = prefixMeasured (gridOf xs) in
+        ap (λ (o : Out). planBy run (xs ++ ys) (allIn (xs ++ ys) last) table m (prefixMeasured o)) (grid-near xs ys small many)
+        ∙ ap (λ (b : Bool). planBy run (xs ++ ys) b table m e) (all-in (xs ++ ys) last l)
+        ∙ decided-by e refl
+        ∙ ap (λ (b : Bool). planBy run xs b table m e) (sym (all-in xs false many))
 
   -- ---- both
 
-  by-length : 16832 ≤ length table → Bytes xs → isOverOf run ≡ false → (Waits (planTurn run xs false table m .answer) → ⊥) → (last b : Bool) → leb 131072 (length xs) ≡ b → planTurn run (xs ++ ys) last table m ≡ planTurn run xs false table m
-  by-length room small due goes last true e = decided-same small (leb-true 131072 (length xs) e) last
-  by-length room small due goes last false e = plan-same room small (leb-false 131072 (length xs) e) due goes last
+  by-length : Bytes xs → isOverOf run ≡ false → (Waits (planTurn run xs false table m .answer) → ⊥) → (last b : Bool) → leb 131072 (length xs) ≡ b → planTurn run (xs ++ ys) last table m ≡ planTurn run xs false table m
+  by-length small due goes last true e = decided-same small (leb-true 131072 (length xs) e) last
+  by-length small due goes last false e = plan-same small (leb-false 131072 (length xs) e) due goes last
 
-  pub plan-chunks : (R C : ℕ) (last : Bool) → 16832 ≤ length table → Bytes xs → run .phase ≡ phase.Plan → (Waits (turnOf run xs false table m R C .answer) → ⊥)
+  pub plan-chunks : (R C : ℕ) (last : Bool) → Bytes xs → run .phase ≡ phase.Plan → (Waits (turnOf run xs false table m R C .answer) → ⊥)
       → turnOf run (xs ++ ys) last table m R C ≡ turnOf run xs false table m R C
   unfolding turnOf turnBy isOverOf isOverIn
-  plan-chunks R C last room small p goes =
+  plan-chunks R C last small p goes =
       let due : (bs : List ℕ) (b : Bool) → turnOf run bs b table m R C ≡ planTurn run bs b table m = λ bs b. ap (λ (x : Phase). turnBy x run bs b table m R C) p in
       due (xs ++ ys) last
-      ∙ by-length room small (ap isOverIn p) (λ w. goes (subst (λ (o : TurnEnd). Waits (o .answer)) (sym (due xs false)) w)) last (leb 131072 (length xs)) refl
+      ∙ by-length small (ap isOverIn p) (λ w. goes (subst (λ (o : TurnEnd). Waits (o .answer)) (sym (due xs false)) w)) last (leb 131072 (length xs)) refl
       ∙ sym (due xs false)

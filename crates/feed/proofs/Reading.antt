@@ -15,15 +15,14 @@ use Rattle.feed.proofs.Rows.{sample-is, row-some}
 use Rattle.feed.proofs.Standings.{is-whole}
 use Rattle.feed.proofs.Waits.{Waits, train-not}
 use Rattle.feed.proofs.Chunks.{turn-row}
-use Rattle.feed.proofs.Feeding.{Stand, after, with, samplesDue, Room, single, Fed, here, fed-on, Chunked, ends, more, joined, Ended, chunks-one}
+use Rattle.feed.proofs.Feeding.{Stand, after, with, samplesDue, single, Fed, here, fed-on, Chunked, ends, more, joined, Ended, chunks-one}
 use Rattle.feed.proofs.Turning.{due-samples, turn-fed}
 
--- what is known of what is lent: bytes, words, and while a plan is due and more may come, room for any plan
-pub record Lent (last : Bool) (s : Stand) : Type 0 where
+-- what is known of what is lent: bytes and words
+pub record Lent (s : Stand) : Type 0 where
   pub small : Bytes (s .bytes)
   pub words : Words (s .table)
   pub word : s .run .number < 2 ^ 64
-  pub room : last ≡ false → s .run .phase ≡ phase.Plan → Room s
 
 module _ (R C : ℕ) where
   abbrev pub turned : Bool → Stand → TurnEnd
@@ -32,7 +31,7 @@ module _ (R C : ℕ) where
   -- turn after turn, none waiting
   pub data Poured (last : Bool) : Stand → Stand → Type 0 where
     stays : (s : Stand) → Poured last s s
-    turns : (s t : Stand) → Lent last s → isOverOf (s .run) ≡ false → (Waits (turned last s .answer) → ⊥) → Poured last (after s (turned last s)) t → Poured last s t
+    turns : (s t : Stand) → Lent s → isOverOf (s .run) ≡ false → (Waits (turned last s .answer) → ⊥) → Poured last (after s (turned last s)) t → Poured last s t
 
   -- what is there is turned as far as it goes, then a chunk comes; behind the last one the input ends
   pub data Reads : Stand → List (List ℕ) → Stand → Type 0 where
@@ -46,7 +45,7 @@ module _ (R C : ℕ) where
   poured-fed : (last : Bool) (s t : Stand) → Poured last s t → Fed R C last s t
   poured-fed last s t (stays u) = here s
   poured-fed last s t (turns u v l live goes rest) =
-      fed-on R C last u (after u (turned last u)) v (turn-fed R C last u (l .words) (l .word) (l .small) (l .room) live goes) (poured-fed last (after u (turned last u)) v rest)
+      fed-on R C last u (after u (turned last u)) v (turn-fed R C last u (l .words) (l .word) (l .small) live goes) (poured-fed last (after u (turned last u)) v rest)
 
   reads-chunked : (s t : Stand) (ys : List (List ℕ)) → Reads s ys t → Chunked R C s ys t
   reads-chunked s t ys (finishes u v p) = ends u v (poured-fed true u v p)

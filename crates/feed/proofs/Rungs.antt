@@ -12,8 +12,8 @@ use Rattle.plan.specs.declared.Needs.{Needs}
 use Rattle.plan.specs.declared.Read.{Read}
 use Rattle.plan.specs.declared.Read.the-variants as read
 use Rattle.plan.specs.Bounds.{Bytes}
-use Rattle.plan.specs.Paper.{PlanRead, planRead, paperRead}
-use Rattle.plan.specs.Calls.{End, end, readPrefixOf}
+use Rattle.plan.specs.Paper.{Paper, PlanRead, planRead, paperRead}
+use Rattle.plan.specs.Calls.{measurePrefixOf}
 use Rattle.stream.specs.declared.MonteCarloRng.{MonteCarloRng}
 use Rattle.stream.specs.declared.Made.{Made}
 use Rattle.stream.specs.declared.Made.the-variants as made
@@ -65,23 +65,23 @@ pub fresh-goes : (run : Run) (end k : ℕ) (n : Needs) (x : Read) (o : Said) →
 unfolding freshSaid paperRead
 fresh-goes run end k n x o e d = d ∙ sym (ap (λ (y : Read). freshSaid run end (paperRead y)) e)
 
-module _ (run : Run) (bs : List ℕ) (last all : Bool) (table table′ : List ℕ) (m : Memory) (x : Read) (a : all ≡ allIn bs last) (q : end (paperRead x) table′ ≡ readPrefixOf bs table) where
-  -- what was read decides
-  by-read : planBy run bs all m (paperRead x) table′ ≡ planTurn run bs last table m
+module _ (run : Run) (bs : List ℕ) (last all : Bool) (table : List ℕ) (m : Memory) (x : Read) (a : all ≡ allIn bs last) (q : paperRead x ≡ measurePrefixOf bs) where
+  -- what was measured decides
+  by-measure : planBy run bs all table m (paperRead x) ≡ planTurn run bs last table m
   unfolding planTurn
-  by-read = ap (λ (b : Bool). planBy run bs b m (paperRead x) table′) a ∙ ap (λ (e : End). planBy run bs (allIn bs last) m (e .answer) (e .table)) q
+  by-measure = ap (λ (b : Bool). planBy run bs b table m (paperRead x)) a ∙ ap (λ (p : Paper PlanRead). planBy run bs (allIn bs last) table m p) q
 
-  pub plan-unread : (n at : ℕ) (o : Said) → x ≡ read.Refused n at → o ≡ unreadOf run all n at → turnEnd o table′ m ≡ planTurn run bs last table m
+  pub plan-unread : (n at : ℕ) (o : Said) → x ≡ read.Refused n at → o ≡ unreadOf run all n at → turnEnd o table m ≡ planTurn run bs last table m
   unfolding planBy paperRead
-  plan-unread n at o e d = ap (λ (y : Said). turnEnd y table′ m) d ∙ sym (ap (λ (y : Read). planBy run bs all m (paperRead y) table′) e) ∙ by-read
+  plan-unread n at o e d = ap (λ (y : Said). turnEnd y table m) d ∙ sym (ap (λ (y : Read). planBy run bs all table m (paperRead y)) e) ∙ by-measure
 
-  pub plan-found : (k : ℕ) (n : Needs) (o : TurnEnd) → x ≡ read.Plan k n → o ≡ foundOf run bs all (planRead k n) table′ m → o ≡ planTurn run bs last table m
+  pub plan-found : (k : ℕ) (n : Needs) (o : TurnEnd) → x ≡ read.Plan k n → o ≡ foundOf run bs all (planRead k n) table m → o ≡ planTurn run bs last table m
   unfolding planBy paperRead
-  plan-found k n o e d = d ∙ sym (ap (λ (y : Read). planBy run bs all m (paperRead y) table′) e) ∙ by-read
+  plan-found k n o e d = d ∙ sym (ap (λ (y : Read). planBy run bs all table m (paperRead y)) e) ∙ by-measure
 
-pub found-inside : (bs table table′ : List ℕ) (x : Read) (k : ℕ) (n : Needs) → Bytes bs → end (paperRead x) table′ ≡ readPrefixOf bs table → x ≡ read.Plan k n → k ≤ length bs
+pub found-inside : (bs : List ℕ) (x : Read) (k : ℕ) (n : Needs) → Bytes bs → paperRead x ≡ measurePrefixOf bs → x ≡ read.Plan k n → k ≤ length bs
 unfolding paperRead
-found-inside bs table table′ x k n small q e = prefix-reach bs table (planRead k n) small (sym (ap (λ (o : End). o .answer) q) ∙ ap paperRead e)
+found-inside bs x k n small q e = prefix-reach bs (planRead k n) small (sym q ∙ ap paperRead e)
 
 -- ---- the stream's field
 

@@ -31,7 +31,7 @@ use Rattle.feed.proofs.Splits.{followed, row-split}
 use Rattle.feed.proofs.Waits.{Waits, train-not}
 use Rattle.feed.proofs.Joined.{sample-drop, row-drop}
 use Rattle.feed.proofs.Chunks.{turn-row}
-use Rattle.feed.proofs.Feeding.{Stand, heard, after, samplesDue, Room, single, Fed, here, on}
+use Rattle.feed.proofs.Feeding.{Stand, heard, after, samplesDue, single, Fed, here, on}
 
 -- an 11 that was not refused
 record Goes (o : Said) : Type 0 where
@@ -65,10 +65,6 @@ due-samples phase.Stream e = never (sym e)
 due-samples phase.Samples e = refl
 due-samples phase.Over e = never (sym e)
 
-samples-plan : {P : Type 0} (p : Phase) → p ≡ phase.Samples → p ≡ phase.Plan → P
-unfolding samplesDue
-samples-plan p e f = never (sym (ap samplesDue e) ∙ ap samplesDue f)
-
 small-drop : (bs : List ℕ) (k : ℕ) → Bytes bs → Bytes (drop k bs)
 small-drop bs k small i = rw (getD-drop k bs i 0) (small (k + i))
 
@@ -92,7 +88,7 @@ module _ (R C : ℕ) (last : Bool) where
   step : (s t : Stand) → Ready s → Fed R C last (after s (first s)) t → Fed R C last s t
   step s t r f =
       let e = single-first s r in
-      on s t (r .small) (λ z p. samples-plan (s .run .phase) (r .due) p) (samples-live (s .run) (r .due))
+      on s t (r .small) (samples-live (s .run) (r .due))
       (λ w. train-not (s .run) (s .table) (doubleAt (s .bytes) 3 ∷ []) (s .state) (omega arith) (subst (λ (o : TurnEnd). Waits (o .answer)) e w))
       (subst (λ (o : TurnEnd). Fed R C last (after s o) t) (sym e) f)
 
@@ -149,7 +145,7 @@ module _ (R C : ℕ) (last : Bool) where
 
   -- ---- any turn
 
-  module _ (s : Stand) (words : Words (s .table)) (word : s .run .number < 2 ^ 64) (small : Bytes (s .bytes)) (room : last ≡ false → s .run .phase ≡ phase.Plan → Room s) (live : isOverOf (s .run) ≡ false) where
+  module _ (s : Stand) (words : Words (s .table)) (word : s .run .number < 2 ^ 64) (small : Bytes (s .bytes)) (live : isOverOf (s .run) ≡ false) where
     abbrev turned : TurnEnd
     turned = turnOf (s .run) (s .bytes) last (s .table) (s .state) R C
 
@@ -162,7 +158,7 @@ module _ (R C : ℕ) (last : Bool) where
         (row-fed 255 s (record { due = p; words = words; word = word; small = small; sample = k .1 }))
     by-field false e goes =
         let same : single R C last s ≡ turned = rw e in
-        on s (after s turned) small room live (λ w. goes (subst (λ (o : TurnEnd). Waits (o .answer)) same w))
+        on s (after s turned) small live (λ w. goes (subst (λ (o : TurnEnd). Waits (o .answer)) same w))
         (subst (λ (o : TurnEnd). Fed R C last (after s o) (after s turned)) (sym same) (here (after s turned)))
 
     -- a turn that does not wait is some fields fed

@@ -11,7 +11,7 @@ use Rattle.real.specs.Paper as real
 use Rattle.plan.specs.Bounds.{Bytes}
 use Rattle.plan.specs.Numbers.{numberAt}
 use Rattle.plan.specs.Paper as plan
-use Rattle.plan.specs.Calls.{readPrefixOf}
+use Rattle.plan.specs.Calls.{measurePrefixOf}
 use Rattle.plan.proofs.Here.{pick}
 use Rattle.stream.specs.declared.MonteCarloRng.{MonteCarloRng}
 use Rattle.stream.specs.Calls.{newOf}
@@ -54,11 +54,11 @@ found-within run bs all r table m h =
     pick (Ends (length bs)) (not all && eqb (r .end) (length bs)) (λ t. omega arith)
     (λ t. pick (Ends (length bs)) (ltb 128 (r .needs .bins)) (λ u. omega arith) (λ u. fresh-within run (r .end) (length bs) (e .answer) h))
 
-plan-by-within : (run : Run) (bs xs : List ℕ) (all : Bool) (m : Memory) (p : plan.Paper plan.PlanRead) (table : List ℕ) → Bytes bs → readPrefixOf bs xs .answer ≡ p → planBy run bs all m p table .answer .taken ≤ length bs
+plan-by-within : (run : Run) (bs : List ℕ) (all : Bool) (table : List ℕ) (m : Memory) (p : plan.Paper plan.PlanRead) → Bytes bs → measurePrefixOf bs ≡ p → planBy run bs all table m p .answer .taken ≤ length bs
 unfolding planBy unreadOf refusing refusingAt waiting
-plan-by-within run bs xs all m (plan.gives r) table small e = found-within run bs all r table m (prefix-reach bs xs r small e)
-plan-by-within run bs xs all m (plan.refuses n) table small e = omega arith
-plan-by-within run bs xs all m (plan.refusesAt n at) table small e = pick (Says (length bs)) (not all && eqb n 1) (λ t. omega arith) (λ t. omega arith)
+plan-by-within run bs all table m (plan.gives r) small e = found-within run bs all r table m (prefix-reach bs r small e)
+plan-by-within run bs all table m (plan.refuses n) small e = omega arith
+plan-by-within run bs all table m (plan.refusesAt n at) small e = pick (Says (length bs)) (not all && eqb n 1) (λ t. omega arith) (λ t. omega arith)
 
 -- ---- the stream's field
 
@@ -122,7 +122,7 @@ samples-within run bs last table m R C =
 
 turn-by-within : (p : Phase) (run : Run) (bs : List ℕ) (last : Bool) (table : List ℕ) (m : Memory) (R C : ℕ) → Bytes bs → turnBy p run bs last table m R C .answer .taken ≤ length bs
 unfolding turnBy planTurn streamTurn waiting
-turn-by-within phase.Plan run bs last table m R C small = plan-by-within run bs table (allIn bs last) m (readPrefixOf bs table .answer) (readPrefixOf bs table .table) small refl
+turn-by-within phase.Plan run bs last table m R C small = plan-by-within run bs (allIn bs last) table m (measurePrefixOf bs) small refl
 turn-by-within phase.Stream run bs last table m R C small = stream-within run bs last (standingOf bs 0x10 10 last) refl
 turn-by-within phase.Samples run bs last table m R C small = samples-within run bs last table m R C
 turn-by-within phase.Over run bs last table m R C small = omega arith

@@ -8,7 +8,7 @@ use lib.Ieee.{Float}
 use Rattle.real.specs.Paper as real
 use Rattle.plan.specs.Numbers.{numberAt}
 use Rattle.plan.specs.Paper as plan
-use Rattle.plan.specs.Calls.{readPrefixOf}
+use Rattle.plan.specs.Calls.{measurePrefixOf}
 use Rattle.stream.specs.declared.MonteCarloRng.{MonteCarloRng}
 use Rattle.stream.specs.Calls.{newOf}
 use Rattle.accumulator.specs.declared.Summary.{Summary}
@@ -59,15 +59,14 @@ foundOf run bs all r table m =
     (cond (ltb 128 (r .needs .bins)) (turnEnd (refusingAt (waiting run) 10 0) table m)
     (freshEnds run (r .end) (freshOf (take (r .end) bs) table m)))
 
-unfoldable pub planBy : Run → List ℕ → Bool → Memory → plan.Paper plan.PlanRead → List ℕ → TurnEnd
-planBy run bs all m (plan.gives r) table = foundOf run bs all r table m
-planBy run bs all m (plan.refuses n) table = turnEnd (refusing (waiting run) n) table m
-planBy run bs all m (plan.refusesAt n at) table = turnEnd (unreadOf run all n at) table m
+unfoldable pub planBy : Run → List ℕ → Bool → List ℕ → Memory → plan.Paper plan.PlanRead → TurnEnd
+planBy run bs all table m (plan.gives r) = foundOf run bs all r table m
+planBy run bs all table m (plan.refuses n) = turnEnd (refusing (waiting run) n) table m
+planBy run bs all table m (plan.refusesAt n at) = turnEnd (unreadOf run all n at) table m
 
--- a plan that stands at the front is in the table, also where the turn waits or refuses
+-- the plan that stands at the front is measured; the table and the memory stay where the turn waits or refuses
 unfoldable pub planTurn : Run → List ℕ → Bool → List ℕ → Memory → TurnEnd
-planTurn run bs last table m =
-    let e = readPrefixOf bs table in planBy run bs (allIn bs last) m (e .answer) (e .table)
+planTurn run bs last table m = planBy run bs (allIn bs last) table m (measurePrefixOf bs)
 
 -- ---- the stream's field 10
 

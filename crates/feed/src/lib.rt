@@ -78,8 +78,8 @@ pub fn is_over(run: Run) -> bool
     }
 }
 
-// One turn: the plan, the stream's field, a row of at most 256 samples, or an update. The table has a plan that stands at the front of
-// the bytes, also where the turn waits for more of them or refuses it.
+// One turn: the plan, the stream's field, a row of at most 256 samples, or an update. A turn that waits or refuses leaves the table and
+// the grid's memory as they were; but a refused sample's row leaves what the samples before it left.
 pub fn turn(
     run: Run,
     bytes: &[u8],

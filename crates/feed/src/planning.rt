@@ -60,7 +60,7 @@ fn found(
     }
 }
 
-// The plan.
+// The plan, which is only measured until it is laid, so that a turn that waits or refuses writes nothing.
 pub fn read_plan(
     run: Run,
     bytes: &[u8],
@@ -73,7 +73,7 @@ pub fn read_plan(
         planTurn run (now (bytes .entry)) last (now (table .entry)) (memory (now (reals .entry)) (now (counts .entry))) ⌝ }
 {
     let all = is_all_in(bytes, last);
-    match plan::read_prefix(bytes, table) {
+    match plan::measure_prefix(bytes) {
         Read::Refused { number, offset } => unread(run, all, number, offset),
         Read::Plan { end, needs } => found(run, bytes, all, end, needs, table, reals, counts),
     }
