@@ -21,8 +21,9 @@ use Rattle.plan.specs.Ranges.{within, floorFits, ratioFits, bounded}
 use Rattle.plan.specs.Fields.{formed, valuesIn, evolutionFault, axesAt, axesFault, axesField, binsAt, binsFault, binsField, nothingField, fieldOf}
 use Rattle.plan.specs.Plan.{Tree}
 use Rattle.plan.specs.Reading.{Out, Outs, consTo, then, binsTo, treesOf, hung, opened, treeOf, fromBytes}
+use Rattle.plan.specs.Calls.{begin, gridOf}
 use Rattle.demands.specs.Order.{Test, test, First, NoneHolds, Ordered}
-use Rattle.demands.specs.Fields.{axesRanges, evolutionTests, binsRanges, fieldTests, behind, fieldPaper, outPaper, manyTests, childTests, treeTests}
+use Rattle.demands.specs.Fields.{axesRanges, evolutionTests, binsRanges, fieldTests, behind, fieldPaper, outPaper, manyTests, childTests, treeTests, gridTests}
 use Rattle.demands.proofs.Kept.{refused-none}
 use Rattle.demands.proofs.Orders.{given-last, held, passed, step, firstOf, Above, by-number, changed, turned}
 
@@ -56,7 +57,7 @@ gave-none ts x o = pick (which ts)
     pick (inl f) = absurd (refused-none (f .0) x (sym (o .refused (f .0) .1 (f .1))))
     pick (inr w) = w
 
-pub ordered-then : {A B : Type 0} (ts : List Test) (p : Paper A) (us : A → List Test) (q : A → Paper B) → Ordered ts p → ((x : A) → p ≡ gives x → Ordered (us x) (q x)) → Ordered (ts ++ behind p us) (thenPaper p q)
+ordered-then : {A B : Type 0} (ts : List Test) (p : Paper A) (us : A → List Test) (q : A → Paper B) → Ordered ts p → ((x : A) → p ≡ gives x → Ordered (us x) (q x)) → Ordered (ts ++ behind p us) (thenPaper p q)
 unfolding behind thenPaper
 ordered-then ts (gives x) us q o r = pass-all ts (us x) (q x) (gave-none ts x o) (r x refl)
 ordered-then {A} {B} ts (refuses n) us q o r =
@@ -197,7 +198,26 @@ module _ (T : Place → List Test) (R : Place → Out) (each : (q : Place) → O
       subst (λ (a : Paper Place). Ordered ts a) (opened-paper evolution (fieldOf bs level p))
       (ordered-then (fieldTests bs level p) (fieldPaper (fieldOf bs level p)) (λ (x : BinPlan). childTests T R (x .child) (x .past)) _ (field-ordered bs level p) (λ x e. hung-ordered evolution (x .child) (x .past)))
 
-pub tree-ordered : (bs : List ℕ) (l : ℕ) (p : Place) → Ordered (treeTests bs l p) (outPaper (treeOf (fromBytes bs) l p))
+tree-ordered : (bs : List ℕ) (l : ℕ) (p : Place) → Ordered (treeTests bs l p) (outPaper (treeOf (fromBytes bs) l p))
 unfolding treeTests treeOf outPaper
 tree-ordered bs zero p = opened-ordered (λ (q : Place). test true 2 ∷ []) (λ (q : Place). Out.stops 2 (q .at)) (λ q. held 2 []) (λ a. valuesAt bs (p .at + 22) (a .values)) bs 0 p
 tree-ordered bs (suc l) p = opened-ordered (treeTests bs l) (treeOf (fromBytes bs) l) (λ q. tree-ordered bs l q) (λ a. valuesAt bs (p .at + 22) (a .values)) bs (suc l) p
+
+-- a plan is one grid and no 04; then what comes behind it
+pub grid-ordered : {B : Type 0} (bs : List ℕ) (us : Place → List Test) (q : Place → Paper B) → ((p : Place) → Ordered (us p) (q p))
+    → Ordered (gridTests bs us) (thenPaper (outPaper (gridOf bs)) q)
+unfolding gridTests gridOf outPaper thenPaper
+grid-ordered {B} bs us q o = pick (eqb (getD bs 0 0) 4)
+  where
+    tree : Out
+    tree = treeOf (fromBytes bs) 4 begin
+
+    ts : List Test
+    ts = treeTests bs 4 begin ++ behind (outPaper tree) us
+
+    all : Ordered ts (thenPaper (outPaper tree) q)
+    all = ordered-then (treeTests bs 4 begin) (outPaper tree) us q (tree-ordered bs 4 begin) (λ p e. o p)
+
+    pick : (b : Bool) → Ordered (test b 1 ∷ ts) (thenPaper (outPaper (cond b (Out.stops 1 0) tree)) q)
+    pick true = held 1 ts
+    pick false = passed 1 ts _ all

@@ -7,7 +7,7 @@ use Prim.Native.Nat.{ℕ, suc, _+_}
 use native.Mathlib.Omega.{arith}
 use borrow.Author.Tests.{eqb-true, eqb-false, not-false}
 use lib.Dec.{eqb, ltb}
-use lib.ListN.{length, getD}
+use lib.ListN.{length}
 use lib.Ieee.{Float}
 use Rattle.real.specs.Paper.{Paper, gives, refuses}
 use Rattle.real.proofs.Truth.{both}
@@ -21,8 +21,8 @@ use Rattle.plan.specs.Paper.{PlanRead, planRead}
 use Rattle.plan.specs.declared.Place.{Place}
 use Rattle.plan.specs.Plan.{nothing}
 use Rattle.plan.specs.Needs.{needsOf}
-use Rattle.plan.specs.Reading.{Out, treeOf, fromBytes}
-use Rattle.plan.specs.Calls.{begin, gridOf, measuredEnd, measureOf, sizesOf}
+use Rattle.plan.specs.Reading.{Out}
+use Rattle.plan.specs.Calls.{gridOf, measuredEnd, measureOf, sizesOf}
 use Rattle.plan.proofs.Tables.{Words}
 use Rattle.model.specs.Grid.{Grid}
 use Rattle.model.specs.Sound.{sound, formedGrid, keptGrid}
@@ -53,12 +53,12 @@ use Rattle.demands.specs.History as model
 use Rattle.demands.specs.History.{Word, numbered}
 use Rattle.demands.specs.Lent.{roomBy, roomFault}
 use Rattle.demands.specs.Order.{Test, test, First, NoneHolds, Ordered, stateTestsBy, stateTests, roomTestsBy, roomTests, secondTests, firstTests, pairTests, liveTests, alongTests, probeTests, trainTests, updateTests, matchTests, mergeTests}
-use Rattle.demands.specs.Fields.{behind, outPaper, treeTests, wholeTests, freshTests}
+use Rattle.demands.specs.Fields.{outPaper, gridTests, wholeTests, freshTests}
 use Rattle.demands.specs.Demand1.{atField, Guarded, Demand1}
 use Rattle.demands.proofs.Kept.{refused-none, numbered-refuses}
 use Rattle.demands.proofs.Tied.{update-called}
 use Rattle.demands.proofs.Orders.{given-last, held, passed, firstOf, Above, by-number, changed, first-above, above-append, first-is, none-is, alone, numbered-by, numbered-ordered}
-use Rattle.demands.proofs.Fielded.{thenPaper, ordered-then, tree-ordered}
+use Rattle.demands.proofs.Fielded.{thenPaper, grid-ordered}
 use Rattle.demands.proofs.Ladders.{train-ordered, train-above, update-ordered, update-above, merge-ordered, merge-above, match-first, match-above, probe-ordered, live-ordered, own-kept, along-ordered}
 
 no : (n : ℕ) → suc n ≡ 0 → ⊥
@@ -183,21 +183,10 @@ module _ (table : List ℕ) (m : Memory) where
   fresh-paper bs (Out.reads t q) = refl
 
   fresh-ordered : (bs : List ℕ) → Ordered (freshTests bs table m) (atField (freshOf bs table m .answer))
-  unfolding freshTests freshOf measureOf gridOf atField
-  fresh-ordered bs = pick (eqb (getD bs 0 0) 4)
-    where
-      tree : Out
-      tree = treeOf (fromBytes bs) 4 begin
-
-      ts : List Test
-      ts = treeTests bs 4 begin ++ behind (outPaper tree) (wholeTests bs table m)
-
-      all : Ordered ts (atField (freshBy bs (measuredEnd bs tree) table m .answer))
-      all = subst (λ (p : Paper PlanRead). Ordered ts p) (fresh-paper bs tree) (ordered-then (treeTests bs 4 begin) (outPaper tree) (wholeTests bs table m) _ (tree-ordered bs 4 begin) (λ q e. whole-ordered bs q))
-
-      pick : (b : Bool) → Ordered (test b 1 ∷ ts) (atField (freshBy bs (measuredEnd bs (cond b (Out.stops 1 0) tree)) table m .answer))
-      pick true = held 1 ts
-      pick false = passed 1 ts _ all
+  unfolding freshTests freshOf measureOf
+  fresh-ordered bs =
+      subst (λ (p : Paper PlanRead). Ordered (gridTests bs (wholeTests bs table m)) p) (fresh-paper bs (gridOf bs))
+      (grid-ordered bs (wholeTests bs table m) (λ (q : Place). atField (freshBy bs (measuredEnd bs (Out.reads nothing q)) table m .answer)) (λ q. whole-ordered bs q))
 
   abbrev Left : FreshEnd → Type 0
   Left e = (n : ℕ) → atField (e .answer) ≡ refuses n → (e .table ≡ table) × (e .state ≡ m)

@@ -19,3 +19,4 @@ pub mod Whole
 pub mod SecondActs
 pub mod Story
 pub mod Coded
+pub mod FirstLeaves

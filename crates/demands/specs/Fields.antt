@@ -85,12 +85,16 @@ treeTests bs zero p =
 treeTests bs (suc l) p =
     fieldTests bs (suc l) p ++ behind (fieldPaper (fieldOf bs (suc l) p)) (λ (x : BinPlan). childTests (treeTests bs l) (treeOf (fromBytes bs) l) (x .child) (x .past))
 
--- ---- fresh: the plan, which is one grid and no 04; surplus bytes; then room for its table and its grid
+-- ---- the whole plan: one grid and no 04, then what comes behind it
 
+unfoldable pub gridTests : List ℕ → (Place → List Test) → List Test
+gridTests bs us = test (eqb (getD bs 0 0) 4) 1 ∷ (treeTests bs 4 begin ++ behind (outPaper (treeOf (fromBytes bs) 4 begin)) us)
+
+-- fresh: surplus bytes; then room for its table and its grid
 unfoldable pub wholeTests : List ℕ → List ℕ → Memory → Place → List Test
 wholeTests bs table m q =
     test (ltb (q .at) (length bs)) 1 ∷ (test (ltb (length table) (needsOf (q .tally) .words)) 10 ∷ (test (ltb (length (m .reals)) (needsOf (q .tally) .reals)) 10
     ∷ (test (ltb (length (m .counts)) (needsOf (q .tally) .counts)) 10 ∷ [])))
 
 unfoldable pub freshTests : List ℕ → List ℕ → Memory → List Test
-freshTests bs table m = test (eqb (getD bs 0 0) 4) 1 ∷ (treeTests bs 4 begin ++ behind (outPaper (treeOf (fromBytes bs) 4 begin)) (wholeTests bs table m))
+freshTests bs table m = gridTests bs (wholeTests bs table m)

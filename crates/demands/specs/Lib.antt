@@ -9,3 +9,4 @@ pub mod Fields
 pub mod Demand1
 pub mod Programs
 pub mod Batch
+pub mod Leaves
