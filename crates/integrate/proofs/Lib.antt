@@ -1,4 +1,5 @@
 pub mod Decimal
+pub mod Examples
 pub mod Full
 pub mod Placing
 pub mod Turning
