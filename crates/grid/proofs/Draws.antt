@@ -1,13 +1,13 @@
 -- A draw axis by axis: what is set and what is to come make the model's draw.
-use mathlib.Core.Path.{_≡_, refl, sym, ap, _∙_}
+use mathlib.Core.Path.{_≡_, refl, sym, ap, _∙_, subst}
 use mathlib.Core.List.{List, _++_, append-nil, append-assoc}
 use mathlib.Core.Bool.{Bool, true, _&&_}
 use Prim.Native.Nat.{ℕ, suc, _+_, _-_, _*_, _^_, _≤_, _<_}
 use native.Mathlib.Nat.{mod-lt}
 use native.Mathlib.Numerals.{add-one}
 use native.Mathlib.Omega.{arith}
-use lib.ListN.{length, take, drop, set, getD, replicate, take-append-drop, length-replicate, replicate-append-replicate}
-use lib.Seq.{take-suc-set, drop-set-lt, drop-drop, length-take-le, take-append-add, take-at}
+use lib.ListN.{length, take, drop, set, getD, take-append-drop}
+use lib.Seq.{take-suc-set, drop-set-lt, drop-drop, length-take-le, sets, sets-eq}
 use lib.Ieee.{Float, binary64, mul, le, ofBits}
 use lib.Pow.{pow-pos}
 use Rattle.real.specs.Numbers.{zero64, one64}
@@ -23,7 +23,7 @@ use Rattle.axis.specs.declared.Point.{Point}
 use Rattle.axis.specs.Edges.{wellFormed, inUnit}
 use Rattle.model.specs.Draw.{Placed, unitAt, placeOn, walked}
 use Rattle.grid.specs.Layout.{stretch, axisAt, axesFrom}
-use Rattle.grid.specs.Drawn.{padded}
+use Rattle.grid.specs.Drawn.{Places}
 use Rattle.grid.proofs.Standing.{left-on}
 
 -- coordinates in front of a draw
@@ -82,25 +82,18 @@ pub asked-unit : (s : MonteCarloRng) (u : Unit) → u ≡ unitDrawnOf s → inUn
 unfolding unitDrawnOf
 asked-unit s u drawn = rw drawn (unit-in (wordOf s) (word-below s))
 
--- ---- coordinates that are not set yet are 0
+-- ---- coordinates that are not set yet are as they were
 
-pub zeros-on : (cs : List Float) (d : ℕ) (x : Float) → d < 8 → drop d cs ≡ replicate (8 - d) zero64 → drop (d + 1) (set cs d x) ≡ replicate (8 - (d + 1)) zero64
-zeros-on cs d x h e =
-    let n : 8 - d ≡ suc (8 - (d + 1)) = omega arith in
-    drop-set-lt (d + 1) cs d x (omega arith) ∙ sym (drop-drop 1 d cs) ∙ ap (drop 1) (e ∙ ap (λ (k : ℕ). replicate k zero64) n)
+pub kept-on : (xs cs : List Float) (d : ℕ) (x : Float) → drop d cs ≡ drop d xs → drop (d + 1) (set cs d x) ≡ drop (d + 1) xs
+kept-on xs cs d x e = drop-set-lt (d + 1) cs d x (omega arith) ∙ sym (drop-drop 1 d cs) ∙ ap (drop 1) e ∙ drop-drop 1 d xs
 
-pub zeros-out : (cs : List Float) (k d : ℕ) → d ≡ k → k ≤ 8 → length cs ≡ 8 → drop d cs ≡ replicate (8 - d) zero64
-    → (cs ≡ padded 8 zero64 (take k cs)) × (length (take k cs) ≡ k)
-unfolding padded
-zeros-out cs k d same h size e =
+-- all of a walk's coordinates are set
+pub walk-made : (xs cs : List Float) (k d : ℕ) (w : Float) (s : MonteCarloRng) (p : Placed) → d ≡ k → k ≤ 8 → length cs ≡ 8 → length xs ≡ 8 → drop d cs ≡ drop d xs
+    → record { coordinates = take k cs; weight = w; stream = s } ≡ p → Places k p (record { weight = w; stream = s }) xs cs
+walk-made xs cs k d w s p same h size room kept e =
     let n : length (take k cs) ≡ k = length-take-le k cs (omega arith) in
-    let z : drop k cs ≡ replicate (8 - k) zero64 = rw (sym same) e in
-    let m : 8 ≡ length (take k cs) + (8 - k) = omega arith in
-    let p : 8 ≡ 8 - k + k = omega arith in
-    let s : length (replicate (8 - k) zero64) ≡ 8 - k = length-replicate (8 - k) zero64 in (
-      sym (take-append-drop k cs) ∙ ap (λ (l : List Float). take k cs ++ l) (z ∙ sym (take-at (replicate (8 - k) zero64) (replicate k zero64) (8 - k) s))
-          ∙ ap (λ (l : List Float). take k cs ++ take (8 - k) l) (replicate-append-replicate (8 - k) k zero64 ∙ ap (λ (j : ℕ). replicate j zero64) (sym p))
-          ∙ sym (take-append-add (take k cs) (replicate 8 zero64) (8 - k))
-          ∙ ap (λ (j : ℕ). take j (take k cs ++ replicate 8 zero64)) (sym m),
-      n,
-    )
+    let z : k ≡ 0 + length (take k cs) = omega (arith, n) in
+    let rest : drop k cs ≡ drop k xs = rw (sym same) kept in
+    let whole : cs ≡ sets xs 0 (take k cs) =
+    sym (take-append-drop k cs) ∙ ap (λ (l : List Float). take k cs ++ l) (rest ∙ ap (λ (j : ℕ). drop j xs) z) ∙ sym (sets-eq (take k cs) xs 0 (omega (arith, n))) in
+    subst (λ (q : Placed). Places k q (record { weight = w; stream = s }) xs cs) e (refl, whole, n)

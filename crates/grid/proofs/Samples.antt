@@ -1,13 +1,13 @@
 -- Sampling the tree: the bin that a draw reaches, what is put in front of a sample, and a draw from one of the bins.
 use mathlib.Core.Path.{_≡_, refl, sym, ap, ap₂, _∙_, subst}
 use mathlib.Core.Bool.{true, false, _&&_}
-use mathlib.Core.List.{List, [], _∷_}
+use mathlib.Core.List.{List, [], _∷_, _++_}
 use Prim.Native.Nat.{ℕ, zero, suc, _+_, _-_, _≤_, _<_}
 use native.Mathlib.Numerals.{add-one}
 use native.Mathlib.Omega.{arith}
 use borrow.Author.Tests.{ne-eqb}
-use lib.ListN.{length, take, drop, getD, drop-of-length-le, length-drop}
-use lib.Seq.{drop-cons, length-take-le}
+use lib.ListN.{length, take, drop, set, getD, replicate, length-replicate, replicate-append-replicate, drop-of-length-le, length-drop}
+use lib.Seq.{drop-cons, length-take-le, set-comm, sets, sets-eq, take-at, drop-at, take-append-add}
 use lib.Ieee.{Float, nan, binary64, add, mul, le}
 use Rattle.real.specs.Numbers.{zero64, one64}
 use Rattle.real.specs.Inverse.{invOf}
@@ -21,15 +21,14 @@ use Rattle.plan.specs.Numbers.{wordsAt}
 use Rattle.model.specs.Grid.{Grid, Child, Head, Bin, axes, bins, grid, probabilities}
 use Rattle.model.specs.Sound.{chance, sound, formedChild, keptChild}
 use Rattle.model.specs.Draw.{Sample, Drawing, unitAt, Placed, placedFrom, placedOf, drawAxes, weightAt, reached, over, drawBin, drawChild, drawNothing, drawGrid}
-use Rattle.grid.specs.declared.Drawing as drawn
-use Rattle.grid.specs.declared.Sample as given
+use Rattle.grid.specs.declared.sampling.Traced.{Traced}
 use Rattle.grid.specs.declared.axes.AxesAt.{AxesAt}
 use Rattle.grid.specs.declared.axes.Walked.{Walked}
 use Rattle.grid.specs.Layout.{stretch}
-use Rattle.grid.specs.Drawn.{Stands, axesAt, underFloor, placedBy, padded, Filled}
+use Rattle.grid.specs.Drawn.{Stands, axesAt, underFloor, padded, Places}
 use Rattle.grid.specs.Tree.{axesPlanAt, axesPlace, axesGridAt, binIn, childIn, binsIn, AxesLaid}
 use Rattle.grid.specs.Judged.{soundBin, soundBins}
-use Rattle.grid.specs.Sampled.{entries, sampleOf, laidSample, laidDrawing, Short, pushed, pushedOn, soundChild, DrawsAs}
+use Rattle.grid.specs.Sampled.{laidSample, laidDrawing, Short, pushed, soundChild, tracedOf, TracesAxes, Traces}
 use Rattle.grid.proofs.Judges.{stretch-one, part, fit-stands}
 use Rattle.grid.proofs.Sounds.{numbers-upto, sound-axes, sound-more, sound-bins}
 
@@ -72,56 +71,44 @@ reach-end r sum cs i h k = let z = reached-last r sum cs i h in omega arith
 
 -- ---- samples
 
-pub no-weight : (ws : List Float) (n : ℕ) → n ≡ 0 → one64 ≡ weightAt (entries nan ws 0 n)
-unfolding weightAt entries
-no-weight ws n e = rw e
+-- a store before a run of stores
+pub set-before : {A : Type 0} (xs : List A) (i : ℕ) (v : A) (d : ℕ) (vs : List A) → i < d → set (sets xs d vs) i v ≡ sets (set xs i v) d vs
+set-before xs i v d [] h = refl
+set-before xs i v d (x ∷ vs) h = set-before (set xs d x) i v (suc d) vs (omega arith) ∙ ap (λ (l : List _). sets l (suc d) vs) (set-comm xs d i x v (λ e. omega (arith, e)))
 
-pub first-weight : (ws : List Float) (n : ℕ) → (n ≡ 0 → ⊥) → getD ws 0 nan ≡ weightAt (entries nan ws 0 n)
-unfolding weightAt entries
-first-weight ws zero h = absurd (h refl)
-first-weight ws (suc n) h = refl
-
--- what is put in front of a sample
-pad-path : (i : ℕ) (ps : List ℕ) → length ps ≤ 3
-    → i ∷ (getD (padded 4 0 ps) 0 0 ∷ (getD (padded 4 0 ps) 1 0 ∷ (getD (padded 4 0 ps) 2 0 ∷ []))) ≡ padded 4 0 (i ∷ ps)
+-- what is written over values that are all alike is padded with them
+written-padded : {A : Type 0} (n : ℕ) (d : A) (vs : List A) → length vs ≤ n → sets (replicate n d) 0 vs ≡ padded n d vs
 unfolding padded
-pad-path i [] h = refl
-pad-path i (a ∷ []) h = refl
-pad-path i (a ∷ (b ∷ [])) h = refl
-pad-path i (a ∷ (b ∷ (c ∷ []))) h = refl
-pad-path i (a ∷ (b ∷ (c ∷ (d ∷ ps)))) h = absurd (omega arith)
+written-padded {A} n d vs h =
+    let k = n - length vs in
+    let m : n ≡ length vs + k = omega arith in
+    let z : 0 + length vs ≡ length vs = omega arith in
+    let e : n ≡ k + length vs = omega arith in
+    let r : length (replicate n d) ≡ n = length-replicate n d in
+    let back : drop (length vs) (replicate n d) ≡ replicate k d =
+    ap (λ (j : ℕ). drop (length vs) (replicate j d)) m ∙ ap (drop (length vs)) (sym (replicate-append-replicate (length vs) k d))
+    ∙ drop-at (replicate (length vs) d) (replicate k d) (length vs) (length-replicate (length vs) d) in
+    let front : take k (replicate n d) ≡ replicate k d =
+    ap (λ (j : ℕ). take k (replicate j d)) e ∙ ap (take k) (sym (replicate-append-replicate k (length vs) d))
+    ∙ take-at (replicate k d) (replicate (length vs) d) k (length-replicate k d) in
+    sets-eq vs (replicate n d) 0 (omega (arith, r))
+    ∙ ap (λ (j : ℕ). vs ++ drop j (replicate n d)) z
+    ∙ ap (λ (l : List A). vs ++ l) (back ∙ sym front)
+    ∙ sym (take-append-add vs (replicate n d) k)
+    ∙ ap (λ (j : ℕ). take j (vs ++ replicate n d)) (sym m)
 
-pad-weights : (w : Float) (ws : List Float) → length ws ≤ 4
-    → w ∷ (getD (padded 5 zero64 ws) 0 nan ∷ (getD (padded 5 zero64 ws) 1 nan ∷ (getD (padded 5 zero64 ws) 2 nan ∷ (getD (padded 5 zero64 ws) 3 nan ∷ [])))) ≡ padded 5 zero64 (w ∷ ws)
-unfolding padded
-pad-weights w [] h = refl
-pad-weights w (a ∷ []) h = refl
-pad-weights w (a ∷ (b ∷ [])) h = refl
-pad-weights w (a ∷ (b ∷ (c ∷ []))) h = refl
-pad-weights w (a ∷ (b ∷ (c ∷ (d ∷ [])))) h = refl
-pad-weights w (a ∷ (b ∷ (c ∷ (d ∷ (e ∷ ws))))) h = absurd (omega arith)
-
-pub push-laid : (i : ℕ) (w : Float) (m : Sample) → length (m .path) ≤ 3 → length (m .weights) ≤ 4 → pushedOn i w (laidSample m) ≡ laidSample (pushed i w m)
-unfolding pushedOn laidSample pushed
-push-laid i w m h k =
-    let e : length (m .path) + 1 ≡ suc (length (m .path)) = omega arith in
-    let f : length (m .weights) + 1 ≡ suc (length (m .weights)) = omega arith in
-    rw (pad-path i (m .path) h, pad-weights w (m .weights) k, e, f)
-
--- the weights of a sample that was laid
-laid-entries : (ws : List Float) → length ws ≤ 5 → entries nan (padded 5 zero64 ws) 0 (length ws) ≡ ws
-unfolding entries padded
-laid-entries [] h = refl
-laid-entries (a ∷ []) h = refl
-laid-entries (a ∷ (b ∷ [])) h = refl
-laid-entries (a ∷ (b ∷ (c ∷ []))) h = refl
-laid-entries (a ∷ (b ∷ (c ∷ (d ∷ [])))) h = refl
-laid-entries (a ∷ (b ∷ (c ∷ (d ∷ (e ∷ []))))) h = refl
-laid-entries (a ∷ (b ∷ (c ∷ (d ∷ (e ∷ (f ∷ ws)))))) h = absurd (omega arith)
-
-pub laid-weights : (m : Sample) → length (m .weights) ≤ 5 → sampleOf (laidSample m) .weights ≡ m .weights
-unfolding sampleOf laidSample
-laid-weights m h = laid-entries (m .weights) h
+-- a draw below no level, written over zeros
+pub root-made : (m : Drawing) (t : Traced) (ps : List ℕ) (ws xs : List Float)
+    → Traces 4 0 m t (replicate 4 0) ps (replicate 5 zero64) ws (replicate 8 zero64) xs
+    → record { sample = record { path = ps; levels = t .levels; weights = ws; given = t .given; coordinates = xs; axes = t .axes }; stream = t .stream } ≡ laidDrawing m
+unfolding laidDrawing laidSample tracedOf
+root-made m t ps ws xs q =
+    let p : ps ≡ padded 4 0 (m .sample .path) = q .1 ∙ written-padded 4 0 (m .sample .path) (q .4 .levels) in
+    let w : ws ≡ padded 5 zero64 (m .sample .weights) = q .2 ∙ written-padded 5 zero64 (m .sample .weights) (q .4 .given) in
+    let x : xs ≡ padded 8 zero64 (m .sample .coordinates) = q .3 ∙ written-padded 8 zero64 (m .sample .coordinates) (q .4 .axes) in
+    let e : 0 + length (m .sample .path) ≡ length (m .sample .path) = omega arith in
+    let f : 0 + length (m .sample .weights) ≡ length (m .sample .weights) = omega arith in
+    rw (q .0, p, w, x, e, f)
 
 -- ---- a draw from a bin
 
@@ -202,45 +189,26 @@ alone-short : (p : Placed) → length (p .coordinates) ≤ 8 → Short 0 (alone 
 unfolding alone
 alone-short p h = record { levels = omega arith; given = omega arith; axes = h }
 
-placed-size : (k : ℕ) (v : Walked) → k ≤ 8 → Filled k v → length (placedBy k v .coordinates) ≤ 8
-unfolding placedBy
-placed-size k v h f = omega (arith, f .1)
-
 axes-drawn : (table : List ℕ) (reals : List Float) (counts : List ℕ) (w : ℕ) (start : MonteCarloRng) (p : Placed) (g : AxesAt) → g ≡ axesPlace table w
     → p ≡ underFloor (g .floor) (placedFrom (g .floor) (axesAt reals counts g) start) → alone p ≡ drawAxes (axesGridAt table reals counts w) start
 unfolding alone drawAxes placedOf axesGridAt axesPlanAt axesPlace underFloor
 axes-drawn table reals counts w start p g e d = ap alone (d ∙ ap (λ (h : AxesAt). underFloor (h .floor) (placedFrom (h .floor) (axesAt reals counts h) start)) e)
 
--- the struct that the code makes of a walk
-unfoldable pub structOf : ℕ → Walked → drawn.Drawing
-structOf k v =
-    record {
-      sample =
-          record {
-            path = 0 ∷ (0 ∷ (0 ∷ (0 ∷ [])));
-            levels = 0;
-            weights = v .weight ∷ (zero64 ∷ (zero64 ∷ (zero64 ∷ (zero64 ∷ []))));
-            given = 1;
-            coordinates = v .coordinates;
-            axes = k;
-          };
-      stream = v .stream;
-    }
-
-walk-laid : (k : ℕ) (v : Walked) → Filled k v → structOf k v ≡ laidDrawing (alone (placedBy k v))
-unfolding structOf laidDrawing laidSample alone placedBy padded
-walk-laid k v f =
-    ap₂ (λ (cs : List Float) (n : ℕ). record {
-      sample = record { path = 0 ∷ (0 ∷ (0 ∷ (0 ∷ []))); levels = 0; weights = v .weight ∷ (zero64 ∷ (zero64 ∷ (zero64 ∷ (zero64 ∷ [])))); given = 1; coordinates = cs; axes = n };
-      stream = v .stream;
-    }) (f .0) (sym (f .1))
-
-pub axes-made : (table : List ℕ) (reals : List Float) (counts : List ℕ) (w : ℕ) (start : MonteCarloRng) (v : Walked) (g : AxesAt) → g ≡ axesPlace table w → g .axes ≤ 8
-    → placedBy (g .axes) v ≡ underFloor (g .floor) (placedFrom (g .floor) (axesAt reals counts g) start) → Filled (g .axes) v
-    → DrawsAs 0 (drawAxes (axesGridAt table reals counts w) start) (structOf (g .axes) v)
-axes-made table reals counts w start v g e h d f =
-    let m = axes-drawn table reals counts w start (placedBy (g .axes) v) g e d in
-    (walk-laid (g .axes) v f ∙ ap laidDrawing m, subst (λ (r : Drawing). Short 0 (r .sample)) m (alone-short (placedBy (g .axes) v) (placed-size (g .axes) v h f)))
+pub axes-made : (table : List ℕ) (reals : List Float) (counts : List ℕ) (w d : ℕ) (start : MonteCarloRng) (v : Walked) (g : AxesAt) (ws xs xs′ : List Float) → g ≡ axesPlace table w → g .axes ≤ 8
+    → Places (g .axes) (underFloor (g .floor) (placedFrom (g .floor) (axesAt reals counts g) start)) v xs xs′
+    → TracesAxes d (drawAxes (axesGridAt table reals counts w) start) (record { levels = d; given = d + 1; axes = g .axes; weight = v .weight; stream = v .stream }) ws (set ws d (v .weight)) xs xs′
+unfolding alone tracedOf weightAt
+axes-made table reals counts w d start v g ws xs xs′ e h q =
+    let p = underFloor (g .floor) (placedFrom (g .floor) (axesAt reals counts g) start) in
+    let m = axes-drawn table reals counts w start p g e refl in
+    let z : d + 0 ≡ d = omega arith in
+    subst (λ (r : Drawing). TracesAxes d r (record { levels = d; given = d + 1; axes = g .axes; weight = v .weight; stream = v .stream }) ws (set ws d (v .weight)) xs xs′) m (
+      ap₂ (λ (n : ℕ) (a : Walked). record { levels = n; given = d + 1; axes = g .axes; weight = a .weight; stream = a .stream }) (sym z) (q .0)
+          ∙ ap (λ (n : ℕ). record { levels = d + 0; given = d + 1; axes = n; weight = p .weight; stream = p .stream }) (sym (q .2)),
+      ap (λ (a : Walked). set ws d (a .weight)) (q .0),
+      q .1,
+      alone-short p (omega (arith, q .2)),
+    )
 
 -- ---- a draw from a bins grid, as the code makes it
 
@@ -278,30 +246,6 @@ module _ (f : ℕ → Grid) (table : List ℕ) (reals : List Float) (counts : Li
 pub shorter : (k l : ℕ) (s : Sample) → k ≤ l → Short k s → Short l s
 shorter k l s h q = record { levels = omega (arith, q .levels); given = omega (arith, q .given); axes = q .axes }
 
--- the numbers of a sample that was laid
-pub laid-levels : (l : ℕ) (m : Drawing) (d : drawn.Drawing) → DrawsAs l m d → (d .sample .levels ≤ l) × (d .sample .given ≤ l + 1)
-unfolding laidDrawing laidSample
-laid-levels l m d q =
-    let e : d .sample .levels ≡ length (m .sample .path) = ap (λ (x : drawn.Drawing). x .sample .levels) (q .0) in
-    let f : d .sample .given ≡ length (m .sample .weights) = ap (λ (x : drawn.Drawing). x .sample .given) (q .0) in
-    (omega (arith, e, q .1 .levels), omega (arith, f, q .1 .given))
-
-below-weights : (m : Drawing) → length (m .sample .weights) ≤ 5 → sampleOf (laidDrawing m .sample) .weights ≡ m .sample .weights
-unfolding laidDrawing
-below-weights m h = laid-weights (m .sample) h
-
-below-push : (i : ℕ) (x : Float) (m : Drawing) → length (m .sample .path) ≤ 3 → length (m .sample .weights) ≤ 4 → pushedOn i x (laidDrawing m .sample) ≡ laidSample (pushed i x (m .sample))
-unfolding laidDrawing
-below-push i x m h k = push-laid i x (m .sample) h k
-
-laid-stream : (m : Drawing) → laidDrawing m .stream ≡ m .stream
-unfolding laidDrawing
-laid-stream m = refl
-
-laid-again : (d : Drawing) → record { sample = laidSample (d .sample); stream = d .stream } ≡ laidDrawing d
-unfolding laidDrawing
-laid-again d = refl
-
 pushed-short : (l i : ℕ) (x : Float) (s : Sample) → Short l s → Short (l + 1) (pushed i x s)
 unfolding pushed
 pushed-short l i x s q = record { levels = omega (arith, q .levels); given = omega (arith, q .given); axes = q .axes }
@@ -313,22 +257,39 @@ module _ (f : ℕ → Grid) (table : List ℕ) (reals : List Float) (counts : Li
   abbrev begins : ℕ
   begins = getD table (w + 5) 0 + 14
 
-  -- the struct that the code makes of what was drawn below
-  pub bins-made : (l : ℕ) (start : MonteCarloRng) (u : Unit) (i : ℕ) (m : Drawing) (below : drawn.Drawing) (weighs inverse : Float) (made : given.Sample)
-      → begins + holds ≤ length reals → l ≤ 3 → u ≡ unitDrawnOf start
+  -- what was drawn below, with this bin and the weight before it
+  pub bins-made : (l d : ℕ) (start : MonteCarloRng) (u : Unit) (i : ℕ) (m : Drawing) (t : Traced) (inverse : Float) (ps ps′ : List ℕ) (ws ws′ xs xs′ : List Float)
+      → begins + holds ≤ length reals → u ≡ unitDrawnOf start
       → i ≡ reached (u .value) zero64 (take (begins + holds - begins) (drop begins reals)) → i < holds
-      → m ≡ drawChild (childIn f (getD table (w + 7 + i) 0)) (u .stream) → DrawsAs l m below
-      → inverse ≡ invOf (getD reals (begins + i) nan) → weighs ≡ weightAt (sampleOf (below .sample) .weights)
-      → made ≡ pushedOn i (mul binary64 inverse weighs) (below .sample)
-      → DrawsAs (l + 1) (drawGrid (bins h (binsIn f table reals counts w 0 holds)) start) (record { sample = made; stream = below .stream })
-  bins-made l start u i m below weighs inverse made room top taken at inside hung draws inv weight push =
-      let after : Drawing = record { sample = pushed i (mul binary64 inverse weighs) (m .sample); stream = m .stream } in
-      let q = draws .1 in
-      let w₁ : weighs ≡ weightAt (m .sample .weights) = weight ∙ ap (λ (d : drawn.Drawing). weightAt (sampleOf (d .sample) .weights)) (draws .0) ∙ ap weightAt (below-weights m (omega (arith, q .given))) in
-      let e = bins-drawn f table reals counts w h start u i m after (mul binary64 inverse weighs) room taken at inside hung (ap₂ (mul binary64) inv w₁) refl in
-      let s : made ≡ laidSample (after .sample) =
-      push ∙ ap (λ (d : drawn.Drawing). pushedOn i (mul binary64 inverse weighs) (d .sample)) (draws .0) ∙ below-push i (mul binary64 inverse weighs) m (omega (arith, q .levels)) (omega (arith, q .given)) in
-      subst (λ (d : Drawing). DrawsAs (l + 1) d (record { sample = made; stream = below .stream })) e (
-        ap₂ (λ (a : given.Sample) (b : MonteCarloRng). record { sample = a; stream = b }) s (ap (λ (d : drawn.Drawing). d .stream) (draws .0) ∙ laid-stream m) ∙ laid-again after,
-        pushed-short l i (mul binary64 inverse weighs) (m .sample) q,
+      → m ≡ drawChild (childIn f (getD table (w + 7 + i) 0)) (u .stream) → Traces l (d + 1) m t (set ps d i) ps′ ws ws′ xs xs′
+      → inverse ≡ invOf (getD reals (begins + i) nan)
+      → Traces (l + 1) d (drawGrid (bins h (binsIn f table reals counts w 0 holds)) start)
+      (record { levels = t .levels; given = t .given; axes = t .axes; weight = mul binary64 inverse (t .weight); stream = t .stream }) ps ps′ ws (set ws′ d (mul binary64 inverse (t .weight))) xs xs′
+  unfolding tracedOf pushed weightAt
+  bins-made l d start u i m t inverse ps ps′ ws ws′ xs xs′ room taken at inside hung draws inv =
+      let x = mul binary64 inverse (t .weight) in
+      let after : Drawing = record { sample = pushed i x (m .sample); stream = m .stream } in
+      let weighs : t .weight ≡ weightAt (m .sample .weights) = ap (λ (a : Traced). a .weight) (draws .0) in
+      let e = bins-drawn f table reals counts w h start u i m after x room taken at inside hung (ap₂ (mul binary64) inv weighs) refl in
+      let n : d + 1 ≡ suc d = omega arith in
+      let a : d + 1 + length (m .sample .path) ≡ d + suc (length (m .sample .path)) = omega arith in
+      let b : d + 1 + length (m .sample .weights) ≡ d + suc (length (m .sample .weights)) = omega arith in
+      let told : record { levels = t .levels; given = t .given; axes = t .axes; weight = x; stream = t .stream } ≡ tracedOf d after =
+      ap (λ (a : Traced). record { levels = a .levels; given = a .given; axes = a .axes; weight = x; stream = a .stream }) (draws .0)
+      ∙ ap₂ (λ (j k : ℕ). record { levels = j; given = k; axes = length (m .sample .coordinates); weight = x; stream = m .stream }) a b in
+      subst (λ (r : Drawing). Traces (l + 1) d r (record { levels = t .levels; given = t .given; axes = t .axes; weight = x; stream = t .stream }) ps ps′ ws (set ws′ d x) xs xs′) e (
+        told,
+        draws .1 ∙ ap (λ (j : ℕ). sets (set ps d i) j (m .sample .path)) n,
+        ap (λ (l : List Float). set l d x) (draws .2) ∙ set-before ws d x (d + 1) (m .sample .weights) (omega arith) ∙ ap (λ (j : ℕ). sets (set ws d x) j (m .sample .weights)) n,
+        draws .3,
+        pushed-short l i x (m .sample) (draws .4),
       )
+
+-- nothing drawn: nothing is written
+pub nothing-made : (l d : ℕ) (start : MonteCarloRng) (m : Drawing) (ps : List ℕ) (ws xs : List Float) → drawNothing start ≡ m
+    → Traces l d m (record { levels = d; given = d; axes = 0; weight = one64; stream = start }) ps ps ws ws xs xs
+unfolding tracedOf weightAt drawNothing
+nothing-made l d start m ps ws xs e =
+    let z : d + 0 ≡ d = omega arith in
+    subst (λ (r : Drawing). Traces l d r (record { levels = d; given = d; axes = 0; weight = one64; stream = start }) ps ps ws ws xs xs) e
+    (rw z, refl, refl, refl, record { levels = omega arith; given = omega arith; axes = omega arith })

@@ -4,8 +4,8 @@ use mathlib.Core.Bool.{true}
 use Prim.Native.Nat.{ℕ, zero, suc, _+_, _≤_}
 use mathlib.Core.List.{List, _++_}
 use lib.ListN.{length, take, getD, replicate}
+use lib.Seq.{sets}
 use lib.Ieee.{Float}
-use Rattle.real.specs.Numbers.{zero64}
 use Rattle.axis.specs.Edges.{wellFormed}
 use Rattle.model.specs.Axes.{Axis}
 use Rattle.model.specs.Draw.{Placed, flooredOf}
@@ -13,17 +13,13 @@ use Rattle.grid.specs.declared.axes.AxesAt.{AxesAt}
 use Rattle.grid.specs.declared.axes.Walked.{Walked}
 use Rattle.grid.specs.Layout.{stretch, axisReals, axisCounts, axesFrom}
 
--- the coordinates that a walk over k axes has set, its weight and its stream
-unfoldable pub placedBy : ℕ → Walked → Placed
-placedBy k w = record { coordinates = take k (w .coordinates); weight = w .weight; stream = w .stream }
-
 -- n entries: those of a list, then others
 unfoldable pub padded : {A : Type 0} → ℕ → A → List A → List A
 padded n d xs = take n (xs ++ replicate n d)
 
--- a walk over k axes has set so many coordinates, and the others are 0
-abbrev pub Filled : ℕ → Walked → Type 0
-Filled k w = (w .coordinates ≡ padded 8 zero64 (take k (w .coordinates))) × (length (take k (w .coordinates)) ≡ k)
+-- a walk over k axes is this one of the model's: its weight and stream, and its coordinates written over those that were there
+abbrev pub Places : ℕ → Placed → Walked → List Float → List Float → Type 0
+Places k p w xs xs′ = (w ≡ record { weight = p .weight; stream = p .stream }) × (xs′ ≡ sets xs 0 (p .coordinates)) × (length (p .coordinates) ≡ k)
 
 -- a draw whose weight is put under a floor
 unfoldable pub underFloor : Float → Placed → Placed

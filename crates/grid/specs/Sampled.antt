@@ -5,15 +5,17 @@ use mathlib.Core.Logic.{_≢_}
 use mathlib.Core.Bool.{Bool, _&&_}
 use mathlib.Core.List.{List, [], _∷_}
 use lib.ListN.{length, getD}
+use lib.Seq.{sets}
 use lib.Ieee.{Float, nan}
 use Rattle.real.specs.Numbers.{zero64}
 use Rattle.model.specs.Grid.{Child}
 use Rattle.model.specs.Sound.{formedChild, keptChild}
-use Rattle.model.specs.Draw.{Sample, Drawing}
+use Rattle.model.specs.Draw.{Sample, Drawing, weightAt}
 use Rattle.grid.specs.Drawn.{padded}
 use Rattle.grid.specs.Tree.{Laid}
 use Rattle.grid.specs.declared.Sample as given
 use Rattle.grid.specs.declared.Drawing as drawn
+use Rattle.grid.specs.declared.sampling.Traced.{Traced}
 
 -- n entries of an array, from entry i on
 unfoldable pub entries : {A : Type 0} → A → List A → ℕ → ℕ → List A
@@ -27,18 +29,6 @@ sampleOf s =
 -- a bin and a weight in front
 unfoldable pub pushed : ℕ → Float → Sample → Sample
 pushed i w s = record { path = i ∷ s .path; weights = w ∷ s .weights; coordinates = s .coordinates }
-
--- the same on the struct: every entry moves one place on
-unfoldable pub pushedOn : ℕ → Float → given.Sample → given.Sample
-pushedOn i w s =
-    record {
-      path = i ∷ (getD (s .path) 0 0 ∷ (getD (s .path) 1 0 ∷ (getD (s .path) 2 0 ∷ [])));
-      levels = s .levels + 1;
-      weights = w ∷ (getD (s .weights) 0 nan ∷ (getD (s .weights) 1 nan ∷ (getD (s .weights) 2 nan ∷ (getD (s .weights) 3 nan ∷ []))));
-      given = s .given + 1;
-      coordinates = s .coordinates;
-      axes = s .axes;
-    }
 
 -- what hangs at a link lies there: nothing at 0, else a grid
 unfoldable pub ChildLaid : ℕ → List ℕ → ℕ → ℕ → ℕ → Type 0
@@ -69,6 +59,21 @@ pub record Short (l : ℕ) (s : Sample) : Type 0 where
   pub given : length (s .weights) ≤ l + 1
   pub axes : length (s .coordinates) ≤ 8
 
--- a drawing that is this one of the model's
-abbrev pub DrawsAs : ℕ → Drawing → drawn.Drawing → Type 0
-DrawsAs l m d = (d ≡ laidDrawing m) × Short l (m .sample)
+-- what a draw below d levels answers: how many levels, weights and coordinates are there now, its weight and its stream
+unfoldable pub tracedOf : ℕ → Drawing → Traced
+tracedOf d m =
+    record {
+      levels = d + length (m .sample .path);
+      given = d + length (m .sample .weights);
+      axes = length (m .sample .coordinates);
+      weight = weightAt (m .sample .weights);
+      stream = m .stream;
+    }
+
+-- a draw below d levels is this one of the model's: its answer, and its lists written over those that were there
+abbrev pub TracesAxes : ℕ → Drawing → Traced → List Float → List Float → List Float → List Float → Type 0
+TracesAxes d m t ws ws′ xs xs′ = (t ≡ tracedOf d m) × (ws′ ≡ sets ws d (m .sample .weights)) × (xs′ ≡ sets xs 0 (m .sample .coordinates)) × Short 0 (m .sample)
+
+abbrev pub Traces : ℕ → ℕ → Drawing → Traced → List ℕ → List ℕ → List Float → List Float → List Float → List Float → Type 0
+Traces l d m t ps ps′ ws ws′ xs xs′ =
+    (t ≡ tracedOf d m) × (ps′ ≡ sets ps d (m .sample .path)) × (ws′ ≡ sets ws d (m .sample .weights)) × (xs′ ≡ sets xs 0 (m .sample .coordinates)) × Short l (m .sample)

@@ -1,18 +1,16 @@
 // The axes of a grid: each works on its own stretch of the lent edges, wherever that begins.
 ghost use mathlib.Core.Path.{_≡_};
 ghost use mathlib.Core.Bool.{true};
+ghost use lib.ListN.{length};
 ghost use Rattle.real.specs.Numbers.{one64};
 ghost use Rattle.axis.specs.Edges.{wellFormed, inUnit};
 ghost use Rattle.model.specs.Draw.{placeOn, walked, placedFrom, flooredOf};
-ghost use Rattle.grid.specs.Drawn.{axesAt, placedBy, Filled, underFloor, Stands};
+ghost use Rattle.grid.specs.Drawn.{axesAt, Places, underFloor, Stands};
 use axis::Point;
 use stream::MonteCarloRng;
 
-// Coordinates, the weight, and the stream after them; and the bins that the coordinates were drawn from, as guesses for the search in
-// training, which takes any number.
+// The weight of the coordinates that a walk sets, and the stream after them.
 pub struct Walked {
-    pub coordinates: [f64; 8],
-    pub near: [usize; 8],
     pub weight: f64,
     pub stream: MonteCarloRng,
 }
@@ -40,13 +38,19 @@ fn place_on(edges: &[f64], unit: f64, evenly: bool) -> Point
     axis::edges::point_of(edges, unit)
 }
 
-// Draws a coordinate on each axis.
-fn walk_axes(reals: &[f64], counts: &[u64], g: AxesAt, evenly: bool, start: MonteCarloRng) -> Walked
-    requires { ⌜ Stands (now reals) (now counts) g ⌝ }
-    ensures { λ w. ⌜ (placedBy (g .axes) w ≡ walked evenly (axesAt (now (reals .entry)) (now (counts .entry)) g) one64 start) × Filled (g .axes) w ⌝ }
+// Draws a coordinate on each axis. The bins that they were drawn from are guesses for the search in training, which takes any number.
+fn walk_axes(
+    reals: &[f64],
+    counts: &[u64],
+    g: AxesAt,
+    evenly: bool,
+    start: MonteCarloRng,
+    coordinates: &mut [f64; 8],
+    near: &mut [usize; 8],
+) -> Walked
+    requires { ⌜ Stands (now reals) (now counts) g × (length (now coordinates) ≡ 8) ⌝ }
+    ensures { λ w. ⌜ Places (g .axes) (walked evenly (axesAt (now (reals .entry)) (now (counts .entry)) g) one64 start) w (now (coordinates .entry)) (now (coordinates .exit)) ⌝ }
 {
-    let mut coordinates = [0.0f64; 8];
-    let mut near = [0usize; 8];
     let mut weight = 1.0;
     let mut stream = start;
     let mut at = g.reals;
@@ -66,27 +70,30 @@ fn walk_axes(reals: &[f64], counts: &[u64], g: AxesAt, evenly: bool, start: Mont
         near[done] = axis::edges::drawn_bin(edges, unit.value);
         done += 1;
     }
-    Walked {
-        coordinates,
-        near,
-        weight,
-        stream,
-    }
+    Walked { weight, stream }
 }
 
 // The walk that the floor selects: 0 and 1 draw no choice word; between, a draw below the floor is for even sampling.
-fn place_axes(reals: &[f64], counts: &[u64], g: AxesAt, start: MonteCarloRng) -> Walked
-    requires { ⌜ Stands (now reals) (now counts) g ⌝ }
-    ensures { λ w. ⌜ (placedBy (g .axes) w ≡ placedFrom (g .floor) (axesAt (now (reals .entry)) (now (counts .entry)) g) start) × Filled (g .axes) w ⌝ }
+fn place_axes(
+    reals: &[f64],
+    counts: &[u64],
+    g: AxesAt,
+    start: MonteCarloRng,
+    coordinates: &mut [f64; 8],
+    near: &mut [usize; 8],
+) -> Walked
+    requires { ⌜ Stands (now reals) (now counts) g × (length (now coordinates) ≡ 8) ⌝ }
+    ensures { λ w. ⌜ Places (g .axes) (placedFrom (g .floor) (axesAt (now (reals .entry)) (now (counts .entry)) g) start) w (now (coordinates .entry)) (now (coordinates .exit)) ⌝ }
 {
     if g.floor == 0.0 {
-        return walk_axes(reals, counts, g, false, start);
+        return walk_axes(reals, counts, g, false, start, coordinates, near);
     }
     if g.floor == 1.0 {
-        return walk_axes(reals, counts, g, true, start);
+        return walk_axes(reals, counts, g, true, start, coordinates, near);
     }
     let choice = start.unit();
-    walk_axes(reals, counts, g, choice.value < g.floor, choice.stream)
+    let evenly = choice.value < g.floor;
+    walk_axes(reals, counts, g, evenly, choice.stream, coordinates, near)
 }
 
 // The weight under a floor.
@@ -106,11 +113,18 @@ pub fn floored(floor: f64, weight: f64) -> f64
 }
 
 // A draw from an axes grid: the walk that its floor selects, its weight under the floor.
-pub fn draw_axes(reals: &[f64], counts: &[u64], g: AxesAt, start: MonteCarloRng) -> Walked
-    requires { ⌜ Stands (now reals) (now counts) g ⌝ }
-    ensures { λ w. ⌜ (placedBy (g .axes) w ≡ underFloor (g .floor) (placedFrom (g .floor) (axesAt (now (reals .entry)) (now (counts .entry)) g) start)) × Filled (g .axes) w ⌝ }
+pub fn draw_axes(
+    reals: &[f64],
+    counts: &[u64],
+    g: AxesAt,
+    start: MonteCarloRng,
+    coordinates: &mut [f64; 8],
+    near: &mut [usize; 8],
+) -> Walked
+    requires { ⌜ Stands (now reals) (now counts) g × (length (now coordinates) ≡ 8) ⌝ }
+    ensures { λ w. ⌜ Places (g .axes) (underFloor (g .floor) (placedFrom (g .floor) (axesAt (now (reals .entry)) (now (counts .entry)) g) start)) w (now (coordinates .entry)) (now (coordinates .exit)) ⌝ }
 {
-    let mut walked = place_axes(reals, counts, g, start);
+    let mut walked = place_axes(reals, counts, g, start, coordinates, near);
     walked.weight = floored(g.floor, walked.weight);
     walked
 }

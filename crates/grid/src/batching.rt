@@ -28,9 +28,8 @@ fn step(
     ensures { λ r. ⌜ stepEnd (r .refused) (r .stream) (memory (now (reals .exit)) (now (counts .exit))) ≡
         stepOf (now (table .entry)) (memory (now (reals .entry)) (now (counts .entry))) start evaluation number ⌝ }
 {
-    let traced = sampling::draw_grid(table, reals, counts, 4, 0, start);
-    let near = traced.near;
-    let drawing = traced.drawing;
+    let mut near = [0usize; 8];
+    let drawing = sampling::draw_root(table, reals, counts, start, &mut near);
     let sample = drawing.sample;
     let refused = acceptance::objection(table, reals, counts, sample, evaluation, number, near);
     if refused != 0 {

@@ -96,8 +96,8 @@ pub fn draw(table: &[u64], reals: &[f64], counts: &[u64], start: stream::MonteCa
         let drawing = sampling::draw_nothing(start);
         return Drawn { refused, drawing };
     }
-    let traced = sampling::draw_grid(table, reals, counts, 4, 0, start);
-    let drawing = traced.drawing;
+    let mut near = [0usize; 8];
+    let drawing = sampling::draw_root(table, reals, counts, start, &mut near);
     Drawn { refused, drawing }
 }
 

@@ -6,19 +6,23 @@ ghost use lib.ListN.{length, getD};
 ghost use Rattle.real.specs.Numbers.{zero64};
 ghost use Rattle.model.specs.Grid.{axes, bins};
 ghost use Rattle.model.specs.Sound.{sound};
-ghost use Rattle.model.specs.Draw.{weightAt, reached, drawAxes, drawNothing, drawGrid, drawChild};
+ghost use Rattle.model.specs.Draw.{reached, drawAxes, drawNothing, drawGrid, drawChild};
 ghost use Rattle.grid.specs.Tree.{axesGridAt, headAt, childIn, binsIn, gridAt, AxesLaid, BinsLaid, Laid};
-ghost use Rattle.grid.specs.Sampled.{sampleOf, pushedOn, ChildLaid, soundChild, DrawsAs};
+ghost use Rattle.grid.specs.Sampled.{laidDrawing, ChildLaid, soundChild, TracesAxes, Traces};
 use crate::Drawing;
 use crate::Sample;
 use crate::axes;
 use crate::layout;
 use stream::MonteCarloRng;
 
-// A draw, and the bins that its coordinates were drawn from, as guesses: they may be any numbers.
+// What a draw answers beside the bins, weights and coordinates that it writes: how many of them are there now, its weight, and the
+// stream after it.
 pub struct Traced {
-    pub drawing: Drawing,
-    pub near: [usize; 8],
+    pub levels: usize,
+    pub given: usize,
+    pub axes: usize,
+    pub weight: f64,
+    pub stream: MonteCarloRng,
 }
 
 // The first bin whose running sum of probabilities is at least the draw; if none, the last.
@@ -38,40 +42,9 @@ fn reach(chances: &[f64], r: f64) -> usize
     i
 }
 
-// A sample's weight: that of its first level, 1 where it has none.
-pub fn weight_of(s: Sample) -> f64
-    ensures { λ w. ⌜ w ≡ weightAt (sampleOf s .weights) ⌝ }
-{
-    if s.given == 0 {
-        return 1.0;
-    }
-    s.weights[0]
-}
-
-// A bin and a weight in front of a sample.
-fn push(s: Sample, bin: usize, weight: f64) -> Sample
-    requires { ⌜ (s .levels ≤ 3) × (s .given ≤ 4) ⌝ }
-    ensures { λ r. ⌜ r ≡ pushedOn bin weight s ⌝ }
-{
-    Sample {
-        path: [bin, s.path[0], s.path[1], s.path[2]],
-        levels: s.levels + 1,
-        weights: [
-            weight,
-            s.weights[0],
-            s.weights[1],
-            s.weights[2],
-            s.weights[3],
-        ],
-        given: s.given + 1,
-        coordinates: s.coordinates,
-        axes: s.axes,
-    }
-}
-
 // Nothing drawn: no child hangs there.
 pub fn draw_nothing(start: MonteCarloRng) -> Drawing
-    ensures { λ d. ⌜ DrawsAs 0 (drawNothing start) d ⌝ }
+    ensures { λ d. ⌜ d ≡ laidDrawing (drawNothing start) ⌝ }
 {
     Drawing {
         sample: Sample {
@@ -86,36 +59,36 @@ pub fn draw_nothing(start: MonteCarloRng) -> Drawing
     }
 }
 
-// A draw from the axes grid at word w.
+// A draw from the axes grid at word w, below `depth` bins grids.
 fn draw_from_axes(
     table: &[u64],
     reals: &[f64],
     counts: &[u64],
     w: usize,
     start: MonteCarloRng,
+    weights: &mut [f64; 5],
+    coordinates: &mut [f64; 8],
+    near: &mut [usize; 8],
+    depth: usize,
 ) -> Traced
-    requires { ⌜ AxesLaid (now table) (length (now reals)) (length (now counts)) w × (sound (axes (axesGridAt (now table) (now reals) (now counts) w)) ≡ true) ⌝ }
-    ensures { λ d. ⌜ DrawsAs 0 (drawAxes (axesGridAt (now (table .entry)) (now (reals .entry)) (now (counts .entry)) w) start) (d .drawing) ⌝ }
+    requires { ⌜ AxesLaid (now table) (length (now reals)) (length (now counts)) w × (sound (axes (axesGridAt (now table) (now reals) (now counts) w)) ≡ true) × (depth ≤ 4) × (length (now coordinates) ≡ 8) ⌝ }
+    ensures { λ t. ⌜ TracesAxes depth (drawAxes (axesGridAt (now (table .entry)) (now (reals .entry)) (now (counts .entry)) w) start) t
+        (now (weights .entry)) (now (weights .exit)) (now (coordinates .entry)) (now (coordinates .exit)) ⌝ }
 {
     let g = layout::axes_place(table, w);
-    let walked = axes::draw_axes(reals, counts, g, start);
-    let coordinates = walked.coordinates;
-    let near = walked.near;
+    let walked = axes::draw_axes(reals, counts, g, start, coordinates, near);
+    weights[depth] = walked.weight;
     let stream = walked.stream;
-    let weights = [walked.weight, 0.0, 0.0, 0.0, 0.0];
-    let sample = Sample {
-        path: [0usize; 4],
-        levels: 0,
-        weights,
-        given: 1,
-        coordinates,
+    Traced {
+        levels: depth,
+        given: depth + 1,
         axes: g.axes,
-    };
-    let drawing = Drawing { sample, stream };
-    Traced { drawing, near }
+        weight: walked.weight,
+        stream,
+    }
 }
 
-// A draw from what hangs at a link.
+// A draw from what hangs at a link, below `depth` bins grids.
 fn draw_child(
     table: &[u64],
     reals: &[f64],
@@ -123,16 +96,38 @@ fn draw_child(
     level: usize,
     link: usize,
     start: MonteCarloRng,
+    path: &mut [usize; 4],
+    weights: &mut [f64; 5],
+    coordinates: &mut [f64; 8],
+    near: &mut [usize; 8],
+    depth: usize,
 ) -> Traced
-    requires { ⌜ ChildLaid level (now table) (length (now reals)) (length (now counts)) link × (level ≤ 4) × (soundChild (childIn (gridAt level (now table) (now reals) (now counts)) link) ≡ true) ⌝ }
-    ensures { λ d. ⌜ DrawsAs level (drawChild (childIn (gridAt level (now (table .entry)) (now (reals .entry)) (now (counts .entry))) link) start) (d .drawing) ⌝ }
+    requires { ⌜ ChildLaid level (now table) (length (now reals)) (length (now counts)) link × (depth + level ≤ 4) × (soundChild (childIn (gridAt level (now table) (now reals) (now counts)) link) ≡ true) × (length (now coordinates) ≡ 8) ⌝ }
+    ensures { λ t. ⌜ Traces level depth (drawChild (childIn (gridAt level (now (table .entry)) (now (reals .entry)) (now (counts .entry))) link) start) t
+        (now (path .entry)) (now (path .exit)) (now (weights .entry)) (now (weights .exit)) (now (coordinates .entry)) (now (coordinates .exit)) ⌝ }
 {
     if link == 0 {
-        let drawing = draw_nothing(start);
-        let near = [0usize; 8];
-        return Traced { drawing, near };
+        return Traced {
+            levels: depth,
+            given: depth,
+            axes: 0,
+            weight: 1.0,
+            stream: start,
+        };
     }
-    draw_grid(table, reals, counts, level, link, start)
+    draw_grid(
+        table,
+        reals,
+        counts,
+        level,
+        link,
+        start,
+        path,
+        weights,
+        coordinates,
+        near,
+        depth,
+    )
 }
 
 // A draw from the bins grid at word w, whose children have so many levels left.
@@ -143,11 +138,17 @@ fn draw_from_bins(
     level: usize,
     w: usize,
     start: MonteCarloRng,
+    path: &mut [usize; 4],
+    weights: &mut [f64; 5],
+    coordinates: &mut [f64; 8],
+    near: &mut [usize; 8],
+    depth: usize,
 ) -> Traced
-    requires { ⌜ BinsLaid (Laid level (now table) (length (now reals)) (length (now counts))) (now table) (length (now reals)) (length (now counts)) w × (level ≤ 3)
-        × (sound (bins (headAt (now table) (now reals) (now counts) w) (binsIn (gridAt level (now table) (now reals) (now counts)) (now table) (now reals) (now counts) w 0 (getD (now table) (w + 2) 0))) ≡ true) ⌝ }
-    ensures { λ d. ⌜ DrawsAs (level + 1) (drawGrid (bins (headAt (now (table .entry)) (now (reals .entry)) (now (counts .entry)) w)
-        (binsIn (gridAt level (now (table .entry)) (now (reals .entry)) (now (counts .entry))) (now (table .entry)) (now (reals .entry)) (now (counts .entry)) w 0 (getD (now (table .entry)) (w + 2) 0))) start) (d .drawing) ⌝ }
+    requires { ⌜ BinsLaid (Laid level (now table) (length (now reals)) (length (now counts))) (now table) (length (now reals)) (length (now counts)) w × (depth + level ≤ 3)
+        × (sound (bins (headAt (now table) (now reals) (now counts) w) (binsIn (gridAt level (now table) (now reals) (now counts)) (now table) (now reals) (now counts) w 0 (getD (now table) (w + 2) 0))) ≡ true) × (length (now coordinates) ≡ 8) ⌝ }
+    ensures { λ t. ⌜ Traces (level + 1) depth (drawGrid (bins (headAt (now (table .entry)) (now (reals .entry)) (now (counts .entry)) w)
+        (binsIn (gridAt level (now (table .entry)) (now (reals .entry)) (now (counts .entry))) (now (table .entry)) (now (reals .entry)) (now (counts .entry)) w 0 (getD (now (table .entry)) (w + 2) 0))) start) t
+        (now (path .entry)) (now (path .exit)) (now (weights .entry)) (now (weights .exit)) (now (coordinates .entry)) (now (coordinates .exit)) ⌝ }
 {
     let unit = start.unit();
     let next = unit.stream;
@@ -156,18 +157,27 @@ fn draw_from_bins(
     let bin = reach(&reals[first..past], unit.value);
     let chance = reals[first + bin];
     let link = table[w + 7 + bin] as usize;
-    let below = draw_child(table, reals, counts, level, link, next);
-    let near = below.near;
-    let drawn = below.drawing;
-    let inner = drawn.sample;
-    let stream = drawn.stream;
-    let weight = real::inv(chance) * weight_of(inner);
-    let sample = push(inner, bin, weight);
-    let drawing = Drawing { sample, stream };
-    Traced { drawing, near }
+    path[depth] = bin;
+    let mut traced = draw_child(
+        table,
+        reals,
+        counts,
+        level,
+        link,
+        next,
+        path,
+        weights,
+        coordinates,
+        near,
+        depth + 1,
+    );
+    let weight = real::inv(chance) * traced.weight;
+    weights[depth] = weight;
+    traced.weight = weight;
+    traced
 }
 
-// A draw from the grid whose run begins at word w.
+// A draw from the grid whose run begins at word w, below `depth` bins grids.
 pub fn draw_grid(
     table: &[u64],
     reals: &[f64],
@@ -175,12 +185,79 @@ pub fn draw_grid(
     level: usize,
     w: usize,
     start: MonteCarloRng,
+    path: &mut [usize; 4],
+    weights: &mut [f64; 5],
+    coordinates: &mut [f64; 8],
+    near: &mut [usize; 8],
+    depth: usize,
 ) -> Traced
-    requires { ⌜ Laid level (now table) (length (now reals)) (length (now counts)) w × (level ≤ 4) × (sound (gridAt level (now table) (now reals) (now counts) w) ≡ true) ⌝ }
-    ensures { λ d. ⌜ DrawsAs level (drawGrid (gridAt level (now (table .entry)) (now (reals .entry)) (now (counts .entry)) w) start) (d .drawing) ⌝ }
+    requires { ⌜ Laid level (now table) (length (now reals)) (length (now counts)) w × (depth + level ≤ 4) × (sound (gridAt level (now table) (now reals) (now counts) w) ≡ true) × (length (now coordinates) ≡ 8) ⌝ }
+    ensures { λ t. ⌜ Traces level depth (drawGrid (gridAt level (now (table .entry)) (now (reals .entry)) (now (counts .entry)) w) start) t
+        (now (path .entry)) (now (path .exit)) (now (weights .entry)) (now (weights .exit)) (now (coordinates .entry)) (now (coordinates .exit)) ⌝ }
 {
     if table[w] == 1 {
-        return draw_from_axes(table, reals, counts, w, start);
+        return draw_from_axes(
+            table,
+            reals,
+            counts,
+            w,
+            start,
+            weights,
+            coordinates,
+            near,
+            depth,
+        );
     }
-    draw_from_bins(table, reals, counts, level - 1, w, start)
+    draw_from_bins(
+        table,
+        reals,
+        counts,
+        level - 1,
+        w,
+        start,
+        path,
+        weights,
+        coordinates,
+        near,
+        depth,
+    )
+}
+
+// A draw from the whole grid.
+pub fn draw_root(
+    table: &[u64],
+    reals: &[f64],
+    counts: &[u64],
+    start: MonteCarloRng,
+    near: &mut [usize; 8],
+) -> Drawing
+    requires { ⌜ Laid 4 (now table) (length (now reals)) (length (now counts)) 0 × (sound (gridAt 4 (now table) (now reals) (now counts) 0) ≡ true) ⌝ }
+    ensures { λ d. ⌜ d ≡ laidDrawing (drawGrid (gridAt 4 (now (table .entry)) (now (reals .entry)) (now (counts .entry)) 0) start) ⌝ }
+{
+    let mut path = [0usize; 4];
+    let mut weights = [0.0f64; 5];
+    let mut coordinates = [0.0f64; 8];
+    let traced = draw_grid(
+        table,
+        reals,
+        counts,
+        4,
+        0,
+        start,
+        &mut path,
+        &mut weights,
+        &mut coordinates,
+        near,
+        0,
+    );
+    let stream = traced.stream;
+    let sample = Sample {
+        path,
+        levels: traced.levels,
+        weights,
+        given: traced.given,
+        coordinates,
+        axes: traced.axes,
+    };
+    Drawing { sample, stream }
 }

@@ -1,5 +1,8 @@
-use mathlib.Core.Path.{ap}
-use Rattle.grid.specs.Drawn.{placedBy, underFloor}
+use mathlib.Core.Path.{ap, _∙_}
+use lib.Ieee.{Float}
+use Rattle.model.specs.Draw.{flooredOf}
+use Rattle.grid.specs.declared.axes.Walked.{Walked}
+use Rattle.grid.specs.Drawn.{underFloor}
 use borrow.Author.Needs.{needs}
 use Rattle.grid.proofs.axes.draw_axes.Statement.{statement}
 use Rattle.grid.proofs.axes.draw_axes.Tie as tie
@@ -8,18 +11,23 @@ use Rattle.grid.proofs.axes.draw_axes.Lts as lts
 use Rattle.grid.proofs.axes.floored.Reads as floored-reads
 use Rattle.grid.proofs.axes.place_axes.Reads as place-axes-reads
 
--- src/axes.rt:107:9
+-- src/axes.rt:126:9
 place-axes-requires : tie.Need-place-axes-requires
 place-axes-requires c κs = search needs
 
--- src/axes.rt:108:5
+-- src/axes.rt:127:5
 floored-requires : tie.Need-floored-requires
 floored-requires c κs = search needs
 
--- src/axes.rt:103:1
+-- src/axes.rt:115:1
 returns : tie.Need-returns
-unfolding placedBy underFloor
-returns c = (rw (c .floored .ensures) (ap (underFloor (c .before .before .before .before .args .g .floor)) (c .before .place-axes .ensures .0)), c .before .place-axes .ensures .1)
+unfolding underFloor
+returns c = (
+  ap (λ (x : Float). record { weight = x; stream = c .before .place-axes .result .stream }) (c .floored .ensures)
+      ∙ ap (λ (v : Walked). record { weight = flooredOf (c .before .before .before .before .before .before .args .g .floor) (v .weight); stream = v .stream }) (c .before .place-axes .ensures .0),
+  c .before .place-axes .ensures .1,
+  c .before .place-axes .ensures .2,
+)
 
 pub draw-axes-spec : {M : Type 1} → statement M
 draw-axes-spec = tie.close (tie.spec place-axes-requires floored-requires returns)

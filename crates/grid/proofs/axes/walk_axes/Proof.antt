@@ -2,13 +2,13 @@ use borrow.Author.Needs.{needs}
 use native.Mathlib.Omega.{arith}
 use mathlib.Core.Path.{_≡_, refl, sym, _∙_}
 use Prim.Native.Nat.{_-_, _≤_}
-use lib.ListN.{length, take, drop, getD, replicate, length-set}
-use Rattle.real.specs.Numbers.{zero64, one64}
+use lib.ListN.{length, take, drop, getD, length-set}
+use Rattle.real.specs.Numbers.{one64}
 use Rattle.model.specs.Draw.{walked}
 use Rattle.grid.specs.Layout.{axesFrom}
-use Rattle.grid.specs.Drawn.{placedBy, Standing}
+use Rattle.grid.specs.Drawn.{Standing}
 use Rattle.grid.proofs.Standing.{next}
-use Rattle.grid.proofs.Draws.{behind, drawn-on, drawn-out, asked-part, asked-unit, zeros-on, zeros-out}
+use Rattle.grid.proofs.Draws.{behind, drawn-on, drawn-out, asked-part, asked-unit, kept-on, walk-made}
 use Rattle.grid.proofs.axes.walk_axes.Statement.{statement}
 use Rattle.grid.proofs.axes.walk_axes.Tie as tie
 use Rattle.grid.proofs.axes.walk_axes.Reads as reads
@@ -21,7 +21,7 @@ abbrev Inv-loop : tie.InvT-loop
 Inv-loop reals counts g evenly coordinates₀ near₀ weight₀ stream₀ at₀ place₀ done₀ coordinates near weight stream at place done =
     (done ≤ g .axes) × (length coordinates ≡ 8) × Standing (g .most) reals counts (g .axes - done) at place
     × (behind (take done coordinates) (walked evenly (axesFrom (g .most) reals counts (g .axes - done) at place) weight stream) ≡ walked evenly (axesFrom (g .most) reals counts (g .axes) (g .reals) (g .counts)) one64 stream₀)
-    × (drop done coordinates ≡ replicate (8 - done) zero64) × (length near ≡ 8)
+    × (drop done coordinates ≡ drop done coordinates₀)
 
 abbrev μ-loop : tie.MeasureT-loop
 μ-loop reals counts g evenly coordinates₀ near₀ weight₀ stream₀ at₀ place₀ done₀ coordinates near weight stream at place done =
@@ -29,7 +29,7 @@ abbrev μ-loop : tie.MeasureT-loop
 
 -- src/axes.rt:28:5
 loop-holds : tie.Need-loop-holds Inv-loop μ-loop
-loop-holds c = let e : c .before .before .args .g .axes - 0 ≡ c .before .before .args .g .axes = omega arith in (omega arith, refl, rw e (c .before .before .pre .2), rw e, refl, refl)
+loop-holds c = let e : c .before .before .args .g .axes - 0 ≡ c .before .before .args .g .axes = omega arith in (omega arith, c .before .before .pre .1, rw e (c .before .before .pre .0 .2), rw e, refl)
 
 -- src/axes.rt:29:20
 mul-held : tie.Need-mul-held Inv-loop μ-loop
@@ -74,47 +74,47 @@ place-on-requires c κs = let n = next (c .before .before .before .before .befor
 
 -- src/axes.rt:33:9
 mul-coordinates : tie.Need-mul-coordinates Inv-loop μ-loop
-mul-coordinates c = omega (arith, c .before .before .before .before .before .before .before .before .before .pre .0, c .before .before .before .before .if1 .taken)
+mul-coordinates c = omega (arith, c .before .before .before .before .before .before .before .before .before .pre .0 .0, c .before .before .before .before .if1 .taken)
 
 -- src/axes.rt:33:9
-array-write-coordinates : tie.Need-array-write-coordinates Inv-loop μ-loop
-array-write-coordinates c = omega (arith, c .before .before .before .before .before .before .before .before .before .pre .0, c .before .before .before .before .if1 .taken)
+element-write-coordinates : tie.Need-element-write-coordinates Inv-loop μ-loop
+element-write-coordinates c = omega (arith, c .before .before .before .before .before .before .before .before .before .pre .0 .0, c .before .before .before .before .if1 .taken)
 
 -- src/axes.rt:36:20
 mul-at : tie.Need-mul-at Inv-loop μ-loop
-mul-at c = let n = next (c .before .before .before .before .before .before .before .before .before .before .before .before .args .g .most) (c .before .before .before .before .before .before .before .before .before .before .before .before .args .reals .now) (c .before .before .before .before .before .before .before .before .before .before .before .before .args .counts .now) (c .before .before .before .before .before .before .before .before .before .before .before .before .args .g .axes) (c .before .before .before .before .before .before .before .before .before .loop .done) (c .before .before .before .before .before .before .before .before .before .loop .at) (c .before .before .before .before .before .before .before .before .before .loop .place) (c .before .before .before .before .before .before .before .if1 .taken) (c .before .before .before .before .before .before .before .before .before .loop .inv .2) in omega (arith, c .before .before .before .before .before .before .before .before .before .before .before .before .pre .1)
+mul-at c = let n = next (c .before .before .before .before .before .before .before .before .before .before .before .before .args .g .most) (c .before .before .before .before .before .before .before .before .before .before .before .before .args .reals .now) (c .before .before .before .before .before .before .before .before .before .before .before .before .args .counts .now) (c .before .before .before .before .before .before .before .before .before .before .before .before .args .g .axes) (c .before .before .before .before .before .before .before .before .before .loop .done) (c .before .before .before .before .before .before .before .before .before .loop .at) (c .before .before .before .before .before .before .before .before .before .loop .place) (c .before .before .before .before .before .before .before .if1 .taken) (c .before .before .before .before .before .before .before .before .before .loop .inv .2) in omega (arith, c .before .before .before .before .before .before .before .before .before .before .before .before .pre .0 .1)
 
 -- src/axes.rt:36:20
 add-at : tie.Need-add-at Inv-loop μ-loop
-add-at c = let n = next (c .before .before .before .before .before .before .before .before .before .before .before .before .args .g .most) (c .before .before .before .before .before .before .before .before .before .before .before .before .args .reals .now) (c .before .before .before .before .before .before .before .before .before .before .before .before .args .counts .now) (c .before .before .before .before .before .before .before .before .before .before .before .before .args .g .axes) (c .before .before .before .before .before .before .before .before .before .loop .done) (c .before .before .before .before .before .before .before .before .before .loop .at) (c .before .before .before .before .before .before .before .before .before .loop .place) (c .before .before .before .before .before .before .before .if1 .taken) (c .before .before .before .before .before .before .before .before .before .loop .inv .2) in omega (arith, c .before .before .before .before .before .before .before .before .before .before .before .before .pre .1)
+add-at c = let n = next (c .before .before .before .before .before .before .before .before .before .before .before .before .args .g .most) (c .before .before .before .before .before .before .before .before .before .before .before .before .args .reals .now) (c .before .before .before .before .before .before .before .before .before .before .before .before .args .counts .now) (c .before .before .before .before .before .before .before .before .before .before .before .before .args .g .axes) (c .before .before .before .before .before .before .before .before .before .loop .done) (c .before .before .before .before .before .before .before .before .before .loop .at) (c .before .before .before .before .before .before .before .before .before .loop .place) (c .before .before .before .before .before .before .before .if1 .taken) (c .before .before .before .before .before .before .before .before .before .loop .inv .2) in omega (arith, c .before .before .before .before .before .before .before .before .before .before .before .before .pre .0 .1)
 
 -- src/axes.rt:36:14
 add-at-2 : tie.Need-add-at-2 Inv-loop μ-loop
-add-at-2 c = let n = next (c .before .before .before .before .before .before .before .before .before .before .before .before .args .g .most) (c .before .before .before .before .before .before .before .before .before .before .before .before .args .reals .now) (c .before .before .before .before .before .before .before .before .before .before .before .before .args .counts .now) (c .before .before .before .before .before .before .before .before .before .before .before .before .args .g .axes) (c .before .before .before .before .before .before .before .before .before .loop .done) (c .before .before .before .before .before .before .before .before .before .loop .at) (c .before .before .before .before .before .before .before .before .before .loop .place) (c .before .before .before .before .before .before .before .if1 .taken) (c .before .before .before .before .before .before .before .before .before .loop .inv .2) in omega (arith, c .before .before .before .before .before .before .before .before .before .before .before .before .pre .1)
+add-at-2 c = let n = next (c .before .before .before .before .before .before .before .before .before .before .before .before .args .g .most) (c .before .before .before .before .before .before .before .before .before .before .before .before .args .reals .now) (c .before .before .before .before .before .before .before .before .before .before .before .before .args .counts .now) (c .before .before .before .before .before .before .before .before .before .before .before .before .args .g .axes) (c .before .before .before .before .before .before .before .before .before .loop .done) (c .before .before .before .before .before .before .before .before .before .loop .at) (c .before .before .before .before .before .before .before .before .before .loop .place) (c .before .before .before .before .before .before .before .if1 .taken) (c .before .before .before .before .before .before .before .before .before .loop .inv .2) in omega (arith, c .before .before .before .before .before .before .before .before .before .before .before .before .pre .0 .1)
 
 -- src/axes.rt:37:26
 mul-place : tie.Need-mul-place Inv-loop μ-loop
-mul-place c = let n = next (c .before .before .before .before .before .before .before .before .before .before .before .before .before .args .g .most) (c .before .before .before .before .before .before .before .before .before .before .before .before .before .args .reals .now) (c .before .before .before .before .before .before .before .before .before .before .before .before .before .args .counts .now) (c .before .before .before .before .before .before .before .before .before .before .before .before .before .args .g .axes) (c .before .before .before .before .before .before .before .before .before .before .loop .done) (c .before .before .before .before .before .before .before .before .before .before .loop .at) (c .before .before .before .before .before .before .before .before .before .before .loop .place) (c .before .before .before .before .before .before .before .before .if1 .taken) (c .before .before .before .before .before .before .before .before .before .before .loop .inv .2) in omega (arith, c .before .before .before .before .before .before .before .before .before .before .before .before .before .pre .1)
+mul-place c = let n = next (c .before .before .before .before .before .before .before .before .before .before .before .before .before .args .g .most) (c .before .before .before .before .before .before .before .before .before .before .before .before .before .args .reals .now) (c .before .before .before .before .before .before .before .before .before .before .before .before .before .args .counts .now) (c .before .before .before .before .before .before .before .before .before .before .before .before .before .args .g .axes) (c .before .before .before .before .before .before .before .before .before .before .loop .done) (c .before .before .before .before .before .before .before .before .before .before .loop .at) (c .before .before .before .before .before .before .before .before .before .before .loop .place) (c .before .before .before .before .before .before .before .before .if1 .taken) (c .before .before .before .before .before .before .before .before .before .before .loop .inv .2) in omega (arith, c .before .before .before .before .before .before .before .before .before .before .before .before .before .pre .0 .1)
 
 -- src/axes.rt:37:26
 add-place : tie.Need-add-place Inv-loop μ-loop
-add-place c = let n = next (c .before .before .before .before .before .before .before .before .before .before .before .before .before .args .g .most) (c .before .before .before .before .before .before .before .before .before .before .before .before .before .args .reals .now) (c .before .before .before .before .before .before .before .before .before .before .before .before .before .args .counts .now) (c .before .before .before .before .before .before .before .before .before .before .before .before .before .args .g .axes) (c .before .before .before .before .before .before .before .before .before .before .loop .done) (c .before .before .before .before .before .before .before .before .before .before .loop .at) (c .before .before .before .before .before .before .before .before .before .before .loop .place) (c .before .before .before .before .before .before .before .before .if1 .taken) (c .before .before .before .before .before .before .before .before .before .before .loop .inv .2) in omega (arith, c .before .before .before .before .before .before .before .before .before .before .before .before .before .pre .1)
+add-place c = let n = next (c .before .before .before .before .before .before .before .before .before .before .before .before .before .args .g .most) (c .before .before .before .before .before .before .before .before .before .before .before .before .before .args .reals .now) (c .before .before .before .before .before .before .before .before .before .before .before .before .before .args .counts .now) (c .before .before .before .before .before .before .before .before .before .before .before .before .before .args .g .axes) (c .before .before .before .before .before .before .before .before .before .before .loop .done) (c .before .before .before .before .before .before .before .before .before .before .loop .at) (c .before .before .before .before .before .before .before .before .before .before .loop .place) (c .before .before .before .before .before .before .before .before .if1 .taken) (c .before .before .before .before .before .before .before .before .before .before .loop .inv .2) in omega (arith, c .before .before .before .before .before .before .before .before .before .before .before .before .before .pre .0 .1)
 
 -- src/axes.rt:37:17
 add-place-2 : tie.Need-add-place-2 Inv-loop μ-loop
-add-place-2 c = let n = next (c .before .before .before .before .before .before .before .before .before .before .before .before .before .args .g .most) (c .before .before .before .before .before .before .before .before .before .before .before .before .before .args .reals .now) (c .before .before .before .before .before .before .before .before .before .before .before .before .before .args .counts .now) (c .before .before .before .before .before .before .before .before .before .before .before .before .before .args .g .axes) (c .before .before .before .before .before .before .before .before .before .before .loop .done) (c .before .before .before .before .before .before .before .before .before .before .loop .at) (c .before .before .before .before .before .before .before .before .before .before .loop .place) (c .before .before .before .before .before .before .before .before .if1 .taken) (c .before .before .before .before .before .before .before .before .before .before .loop .inv .2) in omega (arith, c .before .before .before .before .before .before .before .before .before .before .before .before .before .pre .1)
+add-place-2 c = let n = next (c .before .before .before .before .before .before .before .before .before .before .before .before .before .args .g .most) (c .before .before .before .before .before .before .before .before .before .before .before .before .before .args .reals .now) (c .before .before .before .before .before .before .before .before .before .before .before .before .before .args .counts .now) (c .before .before .before .before .before .before .before .before .before .before .before .before .before .args .g .axes) (c .before .before .before .before .before .before .before .before .before .before .loop .done) (c .before .before .before .before .before .before .before .before .before .before .loop .at) (c .before .before .before .before .before .before .before .before .before .before .loop .place) (c .before .before .before .before .before .before .before .before .if1 .taken) (c .before .before .before .before .before .before .before .before .before .before .loop .inv .2) in omega (arith, c .before .before .before .before .before .before .before .before .before .before .before .before .before .pre .0 .1)
 
 drawn-bin-requires : tie.Need-drawn-bin-requires Inv-loop μ-loop
 drawn-bin-requires c κs = search needs
 
 mul-near : tie.Need-mul-near Inv-loop μ-loop
-mul-near c = omega (arith, c .before .before .before .before .before .before .before .before .before .before .before .before .before .before .pre .0, c .before .before .before .before .before .before .before .before .before .if1 .taken)
+mul-near c = omega (arith, c .before .before .before .before .before .before .before .before .before .before .before .before .before .before .pre .0 .0, c .before .before .before .before .before .before .before .before .before .if1 .taken)
 
-array-write-near : tie.Need-array-write-near Inv-loop μ-loop
-array-write-near c = omega (arith, c .before .before .before .before .before .before .before .before .before .before .before .before .before .before .pre .0, c .before .before .before .before .before .before .before .before .before .if1 .taken)
+element-write-near : tie.Need-element-write-near Inv-loop μ-loop
+element-write-near c = omega (arith, c .before .before .before .before .before .before .before .before .before .before .before .before .before .before .pre .0 .0, c .before .before .before .before .before .before .before .before .before .if1 .taken)
 
 add-done : tie.Need-add-done Inv-loop μ-loop
-add-done c = omega (arith, c .before .before .before .before .before .before .before .before .before .before .before .before .before .before .pre .0, c .before .before .before .before .before .before .before .before .before .if1 .taken)
+add-done c = omega (arith, c .before .before .before .before .before .before .before .before .before .before .before .before .before .before .pre .0 .0, c .before .before .before .before .before .before .before .before .before .if1 .taken)
 
 loop-less : tie.Need-loop-less Inv-loop μ-loop
 loop-less c = omega (arith, c .before .before .before .before .before .before .before .before .before .if1 .taken)
@@ -124,17 +124,16 @@ loop-again c = let n = next (c .before .before .before .before .before .before .
   omega (arith, c .before .before .before .before .before .before .before .before .before .if1 .taken),
   simp length-set (c .before .before .before .before .before .before .before .before .before .before .before .loop .inv .1),
   n .rest,
-  drawn-on (c .before .before .before .before .before .before .before .before .before .before .before .before .before .before .args .g .most) (c .before .before .before .before .before .before .before .before .before .before .before .before .before .before .args .reals .now) (c .before .before .before .before .before .before .before .before .before .before .before .before .before .before .args .counts .now) (c .before .before .before .before .before .before .before .before .before .before .before .before .before .before .args .evenly) (c .before .before .before .before .before .before .before .before .before .before .before .before .before .before .args .g .axes) (c .before .before .before .before .before .before .before .before .before .before .before .loop .done) (c .before .before .before .before .before .before .before .before .before .before .before .loop .at) (c .before .before .before .before .before .before .before .before .before .before .before .loop .place) (c .before .before .before .before .before .before .before .before .before .before .before .loop .coordinates) (c .before .before .before .before .before .before .before .before .before .before .before .loop .weight) (c .before .before .before .before .before .before .before .before .before .before .before .loop .stream) (c .before .before .before .before .before .before .before .unit .result) (c .before .before .before .before .before .place-on .result) (c .before .before .before .before .before .before .before .before .before .if1 .taken) (omega (arith, c .before .before .before .before .before .before .before .before .before .before .before .before .before .before .pre .0, c .before .before .before .before .before .before .before .before .before .before .before .loop .inv .1, c .before .before .before .before .before .before .before .before .before .if1 .taken)) (c .before .before .before .before .before .before .before .unit .ensures) (c .before .before .before .before .before .place-on .ensures) ∙ c .before .before .before .before .before .before .before .before .before .before .before .loop .inv .3,
-  zeros-on (c .before .before .before .before .before .before .before .before .before .before .before .loop .coordinates) (c .before .before .before .before .before .before .before .before .before .before .before .loop .done) (c .before .before .before .before .before .place-on .result .at) (omega (arith, c .before .before .before .before .before .before .before .before .before .if1 .taken, c .before .before .before .before .before .before .before .before .before .before .before .before .before .before .pre .0)) (c .before .before .before .before .before .before .before .before .before .before .before .loop .inv .4),
-  simp length-set (c .before .before .before .before .before .before .before .before .before .before .before .loop .inv .5),
+  drawn-on (c .before .before .before .before .before .before .before .before .before .before .before .before .before .before .args .g .most) (c .before .before .before .before .before .before .before .before .before .before .before .before .before .before .args .reals .now) (c .before .before .before .before .before .before .before .before .before .before .before .before .before .before .args .counts .now) (c .before .before .before .before .before .before .before .before .before .before .before .before .before .before .args .evenly) (c .before .before .before .before .before .before .before .before .before .before .before .before .before .before .args .g .axes) (c .before .before .before .before .before .before .before .before .before .before .before .loop .done) (c .before .before .before .before .before .before .before .before .before .before .before .loop .at) (c .before .before .before .before .before .before .before .before .before .before .before .loop .place) (c .before .before .before .before .before .before .before .before .before .before .before .loop .coordinates) (c .before .before .before .before .before .before .before .before .before .before .before .loop .weight) (c .before .before .before .before .before .before .before .before .before .before .before .loop .stream) (c .before .before .before .before .before .before .before .unit .result) (c .before .before .before .before .before .place-on .result) (c .before .before .before .before .before .before .before .before .before .if1 .taken) (omega (arith, c .before .before .before .before .before .before .before .before .before .before .before .before .before .before .pre .0 .0, c .before .before .before .before .before .before .before .before .before .before .before .loop .inv .1, c .before .before .before .before .before .before .before .before .before .if1 .taken)) (c .before .before .before .before .before .before .before .unit .ensures) (c .before .before .before .before .before .place-on .ensures) ∙ c .before .before .before .before .before .before .before .before .before .before .before .loop .inv .3,
+  kept-on (c .before .before .before .before .before .before .before .before .before .before .before .before .before .before .args .coordinates .now) (c .before .before .before .before .before .before .before .before .before .before .before .loop .coordinates) (c .before .before .before .before .before .before .before .before .before .before .before .loop .done) (c .before .before .before .before .before .place-on .result .at) (c .before .before .before .before .before .before .before .before .before .before .before .loop .inv .4),
 )
 
 -- src/axes.rt:18:1
 returns : tie.Need-returns Inv-loop μ-loop
-unfolding placedBy
 returns c =
     let same : c .before .before .loop .done ≡ (c .before .before .before .before .before .args .g .axes) = omega (arith, c .before .before .loop .inv .0, c .if1 .left) in
-    (sym (drawn-out (c .before .before .before .before .before .args .g .most) (c .before .before .before .before .before .args .reals .now) (c .before .before .before .before .before .args .counts .now) (c .before .before .before .before .before .args .evenly) (c .before .before .before .before .before .args .g .axes) (c .before .before .loop .done) (c .before .before .loop .at) (c .before .before .loop .place) (c .before .before .loop .coordinates) (c .before .before .loop .weight) (c .before .before .loop .stream) (c .before .before .loop .inv .0) (c .if1 .left)) ∙ c .before .before .loop .inv .3, zeros-out (c .before .before .loop .coordinates) (c .before .before .before .before .before .args .g .axes) (c .before .before .loop .done) same (c .before .before .before .before .before .pre .0) (c .before .before .loop .inv .1) (c .before .before .loop .inv .4))
+    walk-made (c .before .before .before .before .before .args .coordinates .now) (c .before .before .loop .coordinates) (c .before .before .before .before .before .args .g .axes) (c .before .before .loop .done) (c .before .before .loop .weight) (c .before .before .loop .stream) _ same (c .before .before .before .before .before .pre .0 .0) (c .before .before .loop .inv .1) (c .before .before .before .before .before .pre .1) (c .before .before .loop .inv .4)
+    (sym (drawn-out (c .before .before .before .before .before .args .g .most) (c .before .before .before .before .before .args .reals .now) (c .before .before .before .before .before .args .counts .now) (c .before .before .before .before .before .args .evenly) (c .before .before .before .before .before .args .g .axes) (c .before .before .loop .done) (c .before .before .loop .at) (c .before .before .loop .place) (c .before .before .loop .coordinates) (c .before .before .loop .weight) (c .before .before .loop .stream) (c .before .before .loop .inv .0) (c .if1 .left)) ∙ c .before .before .loop .inv .3)
 
 pub walk-axes-spec : {M : Type 1} → statement M
 walk-axes-spec =
@@ -154,7 +153,7 @@ walk-axes-spec =
     part-edges-end
     place-on-requires
     mul-coordinates
-    array-write-coordinates
+    element-write-coordinates
     mul-at
     add-at
     add-at-2
@@ -163,7 +162,7 @@ walk-axes-spec =
     add-place-2
     drawn-bin-requires
     mul-near
-    array-write-near
+    element-write-near
     add-done
     loop-less
     loop-again

@@ -1,7 +1,6 @@
 use Rattle.grid.specs.Drawn.{padded}
 use Rattle.grid.specs.Sampled.{laidSample, laidDrawing}
 use mathlib.Core.Path.{refl}
-use native.Mathlib.Omega.{arith}
 use Rattle.model.specs.Draw.{drawNothing}
 use Rattle.grid.proofs.sampling.draw_nothing.Statement.{statement}
 use Rattle.grid.proofs.sampling.draw_nothing.Tie as tie
@@ -11,7 +10,7 @@ use Rattle.grid.proofs.sampling.draw_nothing.Lts as lts
 -- src/sampling.rt:61:1
 returns : tie.Need-returns
 unfolding laidDrawing laidSample drawNothing padded
-returns c = (refl, record { levels = omega arith; given = omega arith; axes = omega arith })
+returns c = refl
 
 pub draw-nothing-spec : {M : Type 1} → statement M
 draw-nothing-spec = tie.close (tie.spec returns)
