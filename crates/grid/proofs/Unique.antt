@@ -5,6 +5,7 @@ use contract.Lifetimes.{Lfts}
 use borrow.Fn.Kinds.{Dens, endedOf}
 use denote.Triple.Clauses.{AtExit}
 use denote.Ref.{now}
+use lib.Ieee.{Float}
 use Rattle.axis.specs.declared.Probed.{Probed}
 use Rattle.axis.proofs.Unique.{probed-one}
 use Rattle.grid.specs.declared.Drawn.{Drawn}
@@ -38,8 +39,17 @@ use Rattle.grid.proofs.probe.Kinds as probe-kinds
 use Rattle.grid.proofs.update.Kinds as update-kinds
 use Rattle.grid.proofs.update.Reads as update-reads
 use Rattle.grid.proofs.probe.Reads as probe-reads
+use Rattle.grid.proofs.weight_of.Kinds as weight-of-kinds
+use Rattle.grid.proofs.weight_of.Reads as weight-of-reads
 use Rattle.grid.proofs.train.Kinds as train-kinds
 use Rattle.grid.proofs.train.Reads as train-reads
+
+pub weight-of-total : (κs : Lfts 0) (a : Dens κs weight-of-kinds.ps) → weight-of-reads.Pre κs a
+weight-of-total κs a = tt
+
+pub weight-of-unique : (κs : Lfts 0) (a : Dens κs weight-of-kinds.ps) (r r′ : Float) (s s′ : AtExit (endedOf 0 weight-of-kinds.ps weight-of-kinds.r) κs)
+    → weight-of-reads.Post κs a r s → weight-of-reads.Post κs a r′ s′ → r ≡ r′
+weight-of-unique κs a r r′ s s′ p q = p ∙ sym q
 
 pub draw-total : (κs : Lfts 3) (a : Dens κs draw-kinds.ps) → draw-reads.Pre κs a
 draw-total κs a = tt

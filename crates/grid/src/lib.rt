@@ -33,7 +33,9 @@ ghost use lib.ListN.{length};
 ghost use Rattle.accumulator.specs.Calls.{paperEstimated, paperSummed};
 ghost use Rattle.plan.specs.Paper.{gives, planRead, paperRead};
 ghost use Rattle.plan.specs.Calls.{measureOf};
+ghost use Rattle.model.specs.Draw.{weightAt};
 ghost use Rattle.grid.specs.Memory.{memory};
+ghost use Rattle.grid.specs.Sampled.{sampleOf};
 ghost use Rattle.axis.specs.Calls.{paperProbed};
 ghost use Rattle.grid.specs.Calls.{drawnAs, drawOf, probeOf, summaryOf, liveOf, liveOfBin, freshEnd, foundedOf, freshOf, cloneEnd, cloneOf, stateEnd, updateOf, trainCallOf, mergeableOf, mergeIntoOf};
 ghost use Rattle.grid.specs.Batched.{batchEnd, batchOf};
@@ -85,6 +87,16 @@ pub struct Batched {
     pub refused: u64,
     pub done: usize,
     pub stream: stream::MonteCarloRng,
+}
+
+// A sample's weight: that of its first level, 1 where it has none.
+pub fn weight_of(s: Sample) -> f64
+    ensures { λ w. ⌜ w ≡ weightAt (sampleOf s .weights) ⌝ }
+{
+    if s.given == 0 {
+        return 1.0;
+    }
+    s.weights[0]
 }
 
 // Draws a sample. Refused: 10, 12.

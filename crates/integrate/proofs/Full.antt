@@ -12,7 +12,7 @@ use Rattle.real.specs.Paper as real
 use Rattle.plan.specs.Bounds.{Bytes}
 use Rattle.plan.specs.Numbers.{numberAt}
 use Rattle.plan.specs.Paper as plan
-use Rattle.plan.specs.Calls.{readPrefixOf}
+use Rattle.plan.specs.Calls.{measurePrefixOf}
 use Rattle.plan.proofs.Here.{pick}
 use Rattle.stream.specs.declared.MonteCarloRng.{MonteCarloRng}
 use Rattle.stream.specs.Calls.{newOf}
@@ -81,11 +81,11 @@ unfolding unreadOf
 unread-short bs run last n at =
     pick (Short bs) (not (allIn bs last) && eqb n 1) (λ e t d. all-out bs last (eqb n 1) e) (λ e. refusing-short bs (waiting run) n at)
 
-plan-short : (bs xs : List ℕ) (run : Run) (last : Bool) (m : Memory) (p : plan.Paper plan.PlanRead) (table : List ℕ) → Bytes bs → readPrefixOf bs xs .answer ≡ p → ShortEnd bs (planBy run bs (allIn bs last) m p table)
+plan-short : (bs : List ℕ) (run : Run) (last : Bool) (table : List ℕ) (m : Memory) (p : plan.Paper plan.PlanRead) → Bytes bs → measurePrefixOf bs ≡ p → ShortEnd bs (planBy run bs (allIn bs last) table m p)
 unfolding planBy
-plan-short bs xs run last m (plan.gives r) table small e = found-short bs run last r table m (prefix-some bs xs r small e)
-plan-short bs xs run last m (plan.refuses n) table small e = refused-short bs (waiting run) n
-plan-short bs xs run last m (plan.refusesAt n at) table small e = unread-short bs run last n at
+plan-short bs run last table m (plan.gives r) small e = found-short bs run last r table m (prefix-some bs r small e)
+plan-short bs run last table m (plan.refuses n) small e = refused-short bs (waiting run) n
+plan-short bs run last table m (plan.refusesAt n at) small e = unread-short bs run last n at
 
 -- ---- a field behind it: a waiting one lacks bytes
 
@@ -159,7 +159,7 @@ samples-short bs run last table m R C =
 
 by-phase : (p : Phase) (bs : List ℕ) (run : Run) (last : Bool) (table : List ℕ) (m : Memory) (R C : ℕ) → Bytes bs → run .phase ≡ p → ShortEnd bs (turnBy p run bs last table m R C)
 unfolding turnBy planTurn streamTurn waiting isOverOf isOverIn
-by-phase phase.Plan bs run last table m R C small e = plan-short bs table run last m (readPrefixOf bs table .answer) (readPrefixOf bs table .table) small refl
+by-phase phase.Plan bs run last table m R C small e = plan-short bs run last table m (measurePrefixOf bs) small refl
 by-phase phase.Stream bs run last table m R C small e = stream-short bs run last (standingOf bs 0x10 10 last) refl
 by-phase phase.Samples bs run last table m R C small e = samples-short bs run last table m R C
 by-phase phase.Over bs run last table m R C small e = λ t d. let k : isOverIn phase.Over ≡ false = rw e at d in let z : _≡_ {A = ℕ} 0 1 = cc in absurd (omega arith)
