@@ -7,6 +7,7 @@ mod grid;
 mod histories;
 mod lent;
 mod plan;
+mod program;
 mod real;
 mod stream;
 mod tree;
@@ -26,6 +27,7 @@ pub fn list(kind: &str, seed: u64, count: usize) -> Option<Vec<Vec<u64>>> {
         "axis" => Some(axis::list(dice, count)),
         "tree" => Some(tree::list(dice, count)),
         "grid" => Some(grid::list(dice, count)),
+        "program" => Some(program::list(dice, count)),
         _ => None,
     }
 }

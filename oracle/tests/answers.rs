@@ -279,6 +279,20 @@ fn grid(c: &mut Cursor) {
     }
 }
 
+fn program(c: &mut Cursor) {
+    assert_eq!(c.word() as usize, c.rest.len());
+    c.bytes();
+    for _ in 0..c.word() {
+        if c.answered() {
+            c.skip(5);
+        } else {
+            c.skip(1);
+            assert_eq!(c.skip(4), [0; 4]);
+            assert!(c.rest.is_empty(), "lines behind a refusal");
+        }
+    }
+}
+
 /// Reads a list and holds it to the refusals it must show.
 fn check(kind: &str, count: usize, read: fn(&mut Cursor), expected: &[u64]) {
     let records = list(kind, 5, count).expect("a known kind");
@@ -329,6 +343,11 @@ fn trees() {
 #[test]
 fn grids() {
     check("grid", 300, grid, &[0, 3, 4, 5, 6, 7, 8, 9, 11, 12]);
+}
+
+#[test]
+fn programs() {
+    check("program", 300, program, &[0, 1, 2, 3, 7, 8, 9, 10]);
 }
 
 #[test]

@@ -1,20 +1,21 @@
 -- The program's rooms: a plan of at most 128 bins needs at most 16,832 words, 2,816 reals and 1,344 counts, so that with rooms of these lengths
 -- no such plan is refused with 10.
 use mathlib.Core.Path.{_≡_, refl, sym, ap, _∙_}
-use mathlib.Core.Bool.{Bool, true, false, cond}
-use mathlib.Core.List.{List}
+use mathlib.Core.Bool.{Bool, true, false, not, _&&_, cond}
+use mathlib.Core.List.{List, [], append-nil}
 use Prim.Native.Nat.{ℕ, _+_, _-_, _*_, _≤_, _<_}
 use native.Mathlib.Nat.{mul-le-mul, mul-add, mul-one, mul-left-comm}
 use native.Mathlib.Omega.{arith}
 use borrow.Author.Tests.{le-ltb}
-use lib.Dec.{ltb}
-use lib.ListN.{length}
+use lib.Dec.{eqb, ltb}
+use lib.ListN.{length, take}
+use lib.Seq.{take-append-seam}
 use Rattle.plan.specs.declared.AxesPlan.{AxesPlan}
 use Rattle.plan.specs.declared.BinsPlan.{BinsPlan}
 use Rattle.plan.specs.declared.Needs.{Needs}
 use Rattle.plan.specs.declared.Tally.{Tally}
 use Rattle.plan.specs.Bounds.{Bytes}
-use Rattle.plan.specs.Bytes.{valid, validAll}
+use Rattle.plan.specs.Bytes.{encode, valid, validAll}
 use Rattle.plan.specs.Needs.{axesReals, axesCounts, binsReals, binsCounts, axesTaken, binsTaken, untaken, needsOf, after, afterAll}
 use Rattle.plan.specs.Paper as plan
 use Rattle.plan.specs.Plan.{Tree, Trees, nothing, axes, bins, none, more}
@@ -24,10 +25,15 @@ use Rattle.plan.proofs.Flags.{at-least}
 use Rattle.plan.proofs.Ranges.{most-least}
 use Rattle.plan.proofs.Faults.{axes-free, bins-free}
 use Rattle.plan.proofs.Trees.{AxesValid, axes-valid, bins-valid, more-valid, start-roomy, roomy-after}
-use Rattle.plan.proofs.Plans.{Plan, accepted-is-encoded}
+use Rattle.plan.proofs.Plans.{Plan, accepted-is-encoded, encoded-is-accepted}
 use Rattle.grid.specs.Memory.{Memory}
 use Rattle.grid.specs.Founded.{laidGrid}
 use Rattle.grid.specs.Calls.{freshEnd, foundedOf, freshOf}
+use Rattle.feed.specs.declared.Phase.{Phase}
+use Rattle.feed.specs.declared.Phase.the-variants as phase
+use Rattle.feed.specs.declared.Run.{Run}
+use Rattle.feed.specs.Said.{going}
+use Rattle.feed.specs.Turns.{allIn, freshSaid, freshEnds, foundOf, planBy, planTurn, turnBy, turnOf}
 use Rattle.feed.proofs.Prefixes.{measured-is-plan}
 
 -- ---- of each grid at most 14 reals and 7 counts, and of each of its bins at most 15 and 7
@@ -123,13 +129,37 @@ measured-roomed bs r small e h = go (gridOf bs) refl e
         needs-roomed t (r .needs) (d .plan) (sym (ap (λ (p : plan.PlanRead). p .needs) k) ∙ ap needsOf (d .taken)) h
 
 -- so a grid is laid
-pub rooms-hold : (bs table : List ℕ) (m : Memory) (r : plan.PlanRead) → Bytes bs → measureOf bs ≡ plan.gives r → r .needs .bins ≤ 128
-    → 16832 ≤ length table → 2816 ≤ length (m .reals) → 1344 ≤ length (m .counts)
+roomed-lays : (bs table : List ℕ) (m : Memory) (r : plan.PlanRead) → measureOf bs ≡ plan.gives r → Roomed (r .needs) → 16832 ≤ length table → 2816 ≤ length (m .reals) → 1344 ≤ length (m .counts)
     → freshOf bs table m ≡ freshEnd (plan.gives r) (readPlanOf bs table .table) (laidGrid 4 (readPlanOf bs table .table) 0 m)
 unfolding freshOf foundedOf
-rooms-hold bs table m r small e h words reals counts =
-    let k = measured-roomed bs r small e h in
+roomed-lays bs table m r e k words reals counts =
     let w : r .needs .words ≤ length table = omega (arith, k .words) in
     let x : r .needs .reals ≤ length (m .reals) = omega (arith, k .reals) in
     let c : r .needs .counts ≤ length (m .counts) = omega (arith, k .counts) in
     rw (e, le-ltb _ _ w, le-ltb _ _ x, le-ltb _ _ c)
+
+pub rooms-hold : (bs table : List ℕ) (m : Memory) (r : plan.PlanRead) → Bytes bs → measureOf bs ≡ plan.gives r → r .needs .bins ≤ 128 → 16832 ≤ length table → 2816 ≤ length (m .reals) → 1344 ≤ length (m .counts)
+    → freshOf bs table m ≡ freshEnd (plan.gives r) (readPlanOf bs table .table) (laidGrid 4 (readPlanOf bs table .table) 0 m)
+rooms-hold bs table m r small e h = roomed-lays bs table m r e (measured-roomed bs r small e h)
+
+-- ---- the plan's turn
+
+-- a plan at the front is the plan that the bytes up to its end are
+prefix-measures : (bs : List ℕ) (r : plan.PlanRead) → Bytes bs → measurePrefixOf bs ≡ plan.gives r → measureOf (take (r .end) bs) ≡ plan.gives r
+unfolding measureOf
+prefix-measures bs r small e =
+    let k = measured-is-plan bs r small e in
+    let enc = encode (k .tree) in
+    let front : take (r .end) bs ≡ enc = ap (λ (n : ℕ). take n bs) (k .end) ∙ ap (take (length enc)) (k .bytes) ∙ take-append-seam enc (k .rest) in
+    let read : gridOf enc ≡ Out.reads (k .tree) (record { at = length enc; tally = after (k .tree) untaken }) = rw append-nil at (encoded-is-accepted (k .tree) [] (k .plan) (λ z. absurd (omega arith))) in
+    let same : plan.planRead (length enc) (needsOf (after (k .tree) untaken)) ≡ r = ap (λ (n : ℕ). plan.planRead n (needsOf (after (k .tree) untaken))) (sym (k .end)) ∙ ap (λ (n : Needs). plan.planRead (r .end) n) (sym (k .needs)) in
+    rw (front, read, le-ltb (length enc) (length enc) (omega arith)) (ap plan.gives same)
+
+-- so with these rooms a plan of at most 128 bins is laid, once no 02 can follow, and its stream is due
+pub rooms-serve : (run : Run) (bs : List ℕ) (last : Bool) (table : List ℕ) (m : Memory) (R C : ℕ) (r : plan.PlanRead) → Bytes bs → run .phase ≡ phase.Plan → measurePrefixOf bs ≡ plan.gives r
+    → r .needs .bins ≤ 128 → 16832 ≤ length table → 2816 ≤ length (m .reals) → 1344 ≤ length (m .counts) → (not (allIn bs last) && eqb (r .end) (length bs)) ≡ false
+    → turnOf run bs last table m R C .answer ≡ going run phase.Stream (run .stream) 0 (r .end)
+unfolding turnOf turnBy planTurn planBy foundOf freshEnds freshSaid
+rooms-serve run bs last table m R C r small p e h words reals counts w =
+    ap (λ (x : Phase). turnBy x run bs last table m R C .answer) p
+    ∙ rw (e, w, le-ltb 128 (r .needs .bins) h, roomed-lays (take (r .end) bs) table m r (prefix-measures bs r small e) (prefix-roomed bs r small e h) words reals counts)

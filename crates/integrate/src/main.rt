@@ -268,7 +268,8 @@ fn run(
     integrate(text, table, reals, counts, spare_reals, spare_counts);
 }
 
-// 131,072 bytes decide any plan. A table of 16,832 words holds any plan; 128 bins in 64 grids need at most 2,816 reals and 1,344 counts.
+// 131,072 bytes decide any plan, so that a text full of them is never waited on. A table of 16,832 words holds any plan; 128 bins in 64 grids
+// need at most 2,816 reals and 1,344 counts (`rooms-hold` in feed's proofs/Rooms.antt).
 fn main() {
     let mut text = [0u8; 131072];
     let mut table = [0u64; 16832];

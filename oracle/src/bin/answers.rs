@@ -10,7 +10,7 @@ fn main() -> std::io::Result<()> {
         _ => None,
     };
     let Some(records) = records else {
-        eprintln!("usage: answers stream|real|plan|accumulator|axis|tree|grid SEED COUNT");
+        eprintln!("usage: answers stream|real|plan|accumulator|axis|tree|grid|program SEED COUNT");
         std::process::exit(2);
     };
     let mut output = BufWriter::new(stdout().lock());
