@@ -22,6 +22,10 @@ unfoldable pub entries : {A : Type 0} → A → List A → ℕ → ℕ → List 
 entries d xs i zero = []
 entries d xs i (suc n) = getD xs i d ∷ entries d xs (i + 1) n
 
+-- a sample whose lists lie apart
+abbrev pub sampleIn : List ℕ → ℕ → List Float → ℕ → List Float → ℕ → given.Sample
+sampleIn p l w g x n = record { path = p; levels = l; weights = w; given = g; coordinates = x; axes = n }
+
 unfoldable pub sampleOf : given.Sample → Sample
 sampleOf s =
     record { path = entries 0 (s .path) 0 (s .levels); weights = entries nan (s .weights) 0 (s .given); coordinates = entries nan (s .coordinates) 0 (s .axes) }

@@ -5,9 +5,8 @@ ghost use lib.ListN.{length, getD};
 ghost use Rattle.model.specs.Grid.{axes, bins};
 ghost use Rattle.grid.specs.Memory.{memory};
 ghost use Rattle.grid.specs.Tree.{axesGridAt, headAt, childIn, binsIn, gridAt, AxesLaid, BinsLaid, Laid};
-ghost use Rattle.grid.specs.Sampled.{ChildLaid};
+ghost use Rattle.grid.specs.Sampled.{sampleIn, ChildLaid};
 ghost use Rattle.grid.specs.Absorbed.{Takes, TakesChild, absorbedAxes, absorbedChild, absorbedBins, absorbed};
-use crate::Sample;
 use crate::accounts;
 use crate::adding;
 use crate::layout;
@@ -19,22 +18,27 @@ fn absorb_axes(
     reals: &mut [f64],
     counts: &mut [u64],
     w: usize,
-    s: Sample,
+    path: &[usize; 4],
+    weights: &[f64; 5],
+    coordinates: &[f64; 8],
     depth: usize,
     evaluation: f64,
     number: u64,
-    near: [usize; 8],
+    near: &[usize; 8],
+    levels: usize,
+    weighed: usize,
+    many: usize,
 )
-    requires { ⌜ AxesLaid (now table) (length (now reals)) (length (now counts)) w × (depth ≤ 4) × Takes (axes (axesGridAt (now table) (now reals) (now counts) w)) s depth number ⌝ }
-    ensures { λ _. ⌜ memory (now (reals .exit)) (now (counts .exit)) ≡ absorbedAxes (now (table .entry)) s evaluation number w depth (memory (now (reals .entry)) (now (counts .entry))) ⌝ }
+    requires { ⌜ AxesLaid (now table) (length (now reals)) (length (now counts)) w × (depth ≤ 4) × Takes (axes (axesGridAt (now table) (now reals) (now counts) w)) (sampleIn (now path) levels (now weights) weighed (now coordinates) many) depth number ⌝ }
+    ensures { λ _. ⌜ memory (now (reals .exit)) (now (counts .exit)) ≡ absorbedAxes (now (table .entry)) (sampleIn (now (path .entry)) levels (now (weights .entry)) weighed (now (coordinates .entry)) many) evaluation number w depth (memory (now (reals .entry)) (now (counts .entry))) ⌝ }
 {
-    let weights = s.weights;
     let weight = weights[depth];
-    let xs = s.coordinates;
     let g = layout::axes_place(table, w);
     let r = table[w + 9] as usize;
     let c = table[w + 10] as usize;
-    let spots = training::locate(reals, counts, g, xs, near);
+    let xs = *coordinates;
+    let guesses = *near;
+    let spots = training::locate(reals, counts, g, xs, guesses);
     let own = adding::with_sample(reals, counts, r, c, evaluation * weight, number);
     training::train_axes(reals, counts, g, spots, weight * evaluation);
     accounts::store(reals, counts, r, c, own);
@@ -47,14 +51,19 @@ fn absorb_child(
     counts: &mut [u64],
     level: usize,
     link: usize,
-    s: Sample,
+    path: &[usize; 4],
+    weights: &[f64; 5],
+    coordinates: &[f64; 8],
     depth: usize,
     evaluation: f64,
     number: u64,
-    near: [usize; 8],
+    near: &[usize; 8],
+    levels: usize,
+    weighed: usize,
+    many: usize,
 )
-    requires { ⌜ ChildLaid level (now table) (length (now reals)) (length (now counts)) link × (depth + level ≤ 4) × TakesChild (childIn (gridAt level (now table) (now reals) (now counts)) link) s depth number ⌝ }
-    ensures { λ _. ⌜ memory (now (reals .exit)) (now (counts .exit)) ≡ absorbedChild (absorbed level (now (table .entry)) s evaluation number) link depth (memory (now (reals .entry)) (now (counts .entry))) ⌝ }
+    requires { ⌜ ChildLaid level (now table) (length (now reals)) (length (now counts)) link × (depth + level ≤ 4) × TakesChild (childIn (gridAt level (now table) (now reals) (now counts)) link) (sampleIn (now path) levels (now weights) weighed (now coordinates) many) depth number ⌝ }
+    ensures { λ _. ⌜ memory (now (reals .exit)) (now (counts .exit)) ≡ absorbedChild (absorbed level (now (table .entry)) (sampleIn (now (path .entry)) levels (now (weights .entry)) weighed (now (coordinates .entry)) many) evaluation number) link depth (memory (now (reals .entry)) (now (counts .entry))) ⌝ }
 {
     if link == 0 {
         return;
@@ -65,11 +74,16 @@ fn absorb_child(
         counts,
         level,
         link,
-        s,
+        path,
+        weights,
+        coordinates,
         depth,
         evaluation,
         number,
         near,
+        levels,
+        weighed,
+        many,
     );
 }
 
@@ -80,19 +94,22 @@ fn absorb_bins(
     counts: &mut [u64],
     level: usize,
     w: usize,
-    s: Sample,
+    path: &[usize; 4],
+    weights: &[f64; 5],
+    coordinates: &[f64; 8],
     depth: usize,
     evaluation: f64,
     number: u64,
-    near: [usize; 8],
+    near: &[usize; 8],
+    levels: usize,
+    weighed: usize,
+    many: usize,
 )
     requires { ⌜ BinsLaid (Laid level (now table) (length (now reals)) (length (now counts))) (now table) (length (now reals)) (length (now counts)) w × (depth + level ≤ 3)
-        × Takes (bins (headAt (now table) (now reals) (now counts) w) (binsIn (gridAt level (now table) (now reals) (now counts)) (now table) (now reals) (now counts) w 0 (getD (now table) (w + 2) 0))) s depth number ⌝ }
-    ensures { λ _. ⌜ memory (now (reals .exit)) (now (counts .exit)) ≡ absorbedBins (absorbed level (now (table .entry)) s evaluation number) (now (table .entry)) s evaluation number w depth (memory (now (reals .entry)) (now (counts .entry))) ⌝ }
+        × Takes (bins (headAt (now table) (now reals) (now counts) w) (binsIn (gridAt level (now table) (now reals) (now counts)) (now table) (now reals) (now counts) w 0 (getD (now table) (w + 2) 0))) (sampleIn (now path) levels (now weights) weighed (now coordinates) many) depth number ⌝ }
+    ensures { λ _. ⌜ memory (now (reals .exit)) (now (counts .exit)) ≡ absorbedBins (absorbed level (now (table .entry)) (sampleIn (now (path .entry)) levels (now (weights .entry)) weighed (now (coordinates .entry)) many) evaluation number) (now (table .entry)) (sampleIn (now (path .entry)) levels (now (weights .entry)) weighed (now (coordinates .entry)) many) evaluation number w depth (memory (now (reals .entry)) (now (counts .entry))) ⌝ }
 {
-    let path = s.path;
     let bin = path[depth];
-    let weights = s.weights;
     let weight = weights[depth];
     let n = table[w + 2] as usize;
     let r = table[w + 5] as usize;
@@ -109,11 +126,16 @@ fn absorb_bins(
         counts,
         level,
         link,
-        s,
+        path,
+        weights,
+        coordinates,
         depth + 1,
         evaluation,
         number,
         near,
+        levels,
+        weighed,
+        many,
     );
     accounts::store(reals, counts, inner_r, inner_c, inner);
     accounts::store(reals, counts, r, c, own);
@@ -126,17 +148,37 @@ pub fn absorb_grid(
     counts: &mut [u64],
     level: usize,
     w: usize,
-    s: Sample,
+    path: &[usize; 4],
+    weights: &[f64; 5],
+    coordinates: &[f64; 8],
     depth: usize,
     evaluation: f64,
     number: u64,
-    near: [usize; 8],
+    near: &[usize; 8],
+    levels: usize,
+    weighed: usize,
+    many: usize,
 )
-    requires { ⌜ Laid level (now table) (length (now reals)) (length (now counts)) w × (depth + level ≤ 4) × Takes (gridAt level (now table) (now reals) (now counts) w) s depth number ⌝ }
-    ensures { λ _. ⌜ memory (now (reals .exit)) (now (counts .exit)) ≡ absorbed level (now (table .entry)) s evaluation number w depth (memory (now (reals .entry)) (now (counts .entry))) ⌝ }
+    requires { ⌜ Laid level (now table) (length (now reals)) (length (now counts)) w × (depth + level ≤ 4) × Takes (gridAt level (now table) (now reals) (now counts) w) (sampleIn (now path) levels (now weights) weighed (now coordinates) many) depth number ⌝ }
+    ensures { λ _. ⌜ memory (now (reals .exit)) (now (counts .exit)) ≡ absorbed level (now (table .entry)) (sampleIn (now (path .entry)) levels (now (weights .entry)) weighed (now (coordinates .entry)) many) evaluation number w depth (memory (now (reals .entry)) (now (counts .entry))) ⌝ }
 {
     if table[w] == 1 {
-        absorb_axes(table, reals, counts, w, s, depth, evaluation, number, near);
+        absorb_axes(
+            table,
+            reals,
+            counts,
+            w,
+            path,
+            weights,
+            coordinates,
+            depth,
+            evaluation,
+            number,
+            near,
+            levels,
+            weighed,
+            many,
+        );
         return;
     }
     absorb_bins(
@@ -145,10 +187,15 @@ pub fn absorb_grid(
         counts,
         level - 1,
         w,
-        s,
+        path,
+        weights,
+        coordinates,
         depth,
         evaluation,
         number,
         near,
+        levels,
+        weighed,
+        many,
     );
 }

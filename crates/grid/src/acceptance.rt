@@ -7,10 +7,9 @@ ghost use Rattle.model.specs.Grid.{axes, bins};
 ghost use Rattle.model.specs.Sound.{sound, keptGrid, keptChild};
 ghost use Rattle.model.specs.Train.{trainGrid, trainChild, trainOf};
 ghost use Rattle.grid.specs.Tree.{axesGridAt, headAt, childIn, binsIn, gridAt, AxesLaid, BinsLaid, Laid};
-ghost use Rattle.grid.specs.Sampled.{sampleOf, ChildLaid};
+ghost use Rattle.grid.specs.Sampled.{sampleIn, sampleOf, ChildLaid};
 ghost use Rattle.grid.specs.State.{rootOf};
 ghost use Rattle.grid.specs.Absorbed.{pathLeft, weightsLeft, placesIn, Takes, TakesChild, objectionOf};
-use crate::Sample;
 use crate::adding;
 use crate::forms;
 use crate::layout;
@@ -22,20 +21,25 @@ fn axes_accept(
     reals: &[f64],
     counts: &[u64],
     w: usize,
-    s: Sample,
+    path: &[usize; 4],
+    weights: &[f64; 5],
+    coordinates: &[f64; 8],
     depth: usize,
     evaluation: f64,
     number: u64,
-    near: [usize; 8],
+    near: &[usize; 8],
+    levels: usize,
+    weighed: usize,
+    many: usize,
 ) -> bool
-    requires { ⌜ AxesLaid (now table) (length (now reals)) (length (now counts)) w × (depth ≤ 4) × Takes (axes (axesGridAt (now table) (now reals) (now counts) w)) s depth number ⌝ }
-    ensures { λ o. ⌜ o ≡ keptGrid (trainGrid (axes (axesGridAt (now (table .entry)) (now (reals .entry)) (now (counts .entry)) w)) (pathLeft s depth) (weightsLeft s depth) (placesIn s) evaluation number) ⌝ }
+    requires { ⌜ AxesLaid (now table) (length (now reals)) (length (now counts)) w × (depth ≤ 4) × Takes (axes (axesGridAt (now table) (now reals) (now counts) w)) (sampleIn (now path) levels (now weights) weighed (now coordinates) many) depth number ⌝ }
+    ensures { λ o. ⌜ o ≡ keptGrid (trainGrid (axes (axesGridAt (now (table .entry)) (now (reals .entry)) (now (counts .entry)) w)) (pathLeft (sampleIn (now (path .entry)) levels (now (weights .entry)) weighed (now (coordinates .entry)) many) depth) (weightsLeft (sampleIn (now (path .entry)) levels (now (weights .entry)) weighed (now (coordinates .entry)) many) depth) (placesIn (sampleIn (now (path .entry)) levels (now (weights .entry)) weighed (now (coordinates .entry)) many)) evaluation number) ⌝ }
 {
-    let weights = s.weights;
     let weight = weights[depth];
-    let xs = s.coordinates;
     let g = layout::axes_place(table, w);
-    let spots = training::locate(reals, counts, g, xs, near);
+    let xs = *coordinates;
+    let guesses = *near;
+    let spots = training::locate(reals, counts, g, xs, guesses);
     let fit = training::cells_fit(reals, counts, g, spots, weight * evaluation);
     let r = table[w + 9] as usize;
     let c = table[w + 10] as usize;
@@ -50,14 +54,19 @@ fn child_accepts(
     counts: &[u64],
     level: usize,
     link: usize,
-    s: Sample,
+    path: &[usize; 4],
+    weights: &[f64; 5],
+    coordinates: &[f64; 8],
     depth: usize,
     evaluation: f64,
     number: u64,
-    near: [usize; 8],
+    near: &[usize; 8],
+    levels: usize,
+    weighed: usize,
+    many: usize,
 ) -> bool
-    requires { ⌜ ChildLaid level (now table) (length (now reals)) (length (now counts)) link × (depth + level ≤ 4) × TakesChild (childIn (gridAt level (now table) (now reals) (now counts)) link) s depth number ⌝ }
-    ensures { λ o. ⌜ o ≡ keptChild (trainChild (childIn (gridAt level (now (table .entry)) (now (reals .entry)) (now (counts .entry))) link) (pathLeft s depth) (weightsLeft s depth) (placesIn s) evaluation number) ⌝ }
+    requires { ⌜ ChildLaid level (now table) (length (now reals)) (length (now counts)) link × (depth + level ≤ 4) × TakesChild (childIn (gridAt level (now table) (now reals) (now counts)) link) (sampleIn (now path) levels (now weights) weighed (now coordinates) many) depth number ⌝ }
+    ensures { λ o. ⌜ o ≡ keptChild (trainChild (childIn (gridAt level (now (table .entry)) (now (reals .entry)) (now (counts .entry))) link) (pathLeft (sampleIn (now (path .entry)) levels (now (weights .entry)) weighed (now (coordinates .entry)) many) depth) (weightsLeft (sampleIn (now (path .entry)) levels (now (weights .entry)) weighed (now (coordinates .entry)) many) depth) (placesIn (sampleIn (now (path .entry)) levels (now (weights .entry)) weighed (now (coordinates .entry)) many)) evaluation number) ⌝ }
 {
     if link == 0 {
         return true;
@@ -68,11 +77,16 @@ fn child_accepts(
         counts,
         level,
         link,
-        s,
+        path,
+        weights,
+        coordinates,
         depth,
         evaluation,
         number,
         near,
+        levels,
+        weighed,
+        many,
     )
 }
 
@@ -83,21 +97,24 @@ fn bins_accept(
     counts: &[u64],
     level: usize,
     w: usize,
-    s: Sample,
+    path: &[usize; 4],
+    weights: &[f64; 5],
+    coordinates: &[f64; 8],
     depth: usize,
     evaluation: f64,
     number: u64,
-    near: [usize; 8],
+    near: &[usize; 8],
+    levels: usize,
+    weighed: usize,
+    many: usize,
 ) -> bool
     requires { ⌜ BinsLaid (Laid level (now table) (length (now reals)) (length (now counts))) (now table) (length (now reals)) (length (now counts)) w × (depth + level ≤ 3)
-        × Takes (bins (headAt (now table) (now reals) (now counts) w) (binsIn (gridAt level (now table) (now reals) (now counts)) (now table) (now reals) (now counts) w 0 (getD (now table) (w + 2) 0))) s depth number ⌝ }
+        × Takes (bins (headAt (now table) (now reals) (now counts) w) (binsIn (gridAt level (now table) (now reals) (now counts)) (now table) (now reals) (now counts) w 0 (getD (now table) (w + 2) 0))) (sampleIn (now path) levels (now weights) weighed (now coordinates) many) depth number ⌝ }
     ensures { λ o. ⌜ o ≡ keptGrid (trainGrid (bins (headAt (now (table .entry)) (now (reals .entry)) (now (counts .entry)) w)
         (binsIn (gridAt level (now (table .entry)) (now (reals .entry)) (now (counts .entry))) (now (table .entry)) (now (reals .entry)) (now (counts .entry)) w 0 (getD (now (table .entry)) (w + 2) 0)))
-        (pathLeft s depth) (weightsLeft s depth) (placesIn s) evaluation number) ⌝ }
+        (pathLeft (sampleIn (now (path .entry)) levels (now (weights .entry)) weighed (now (coordinates .entry)) many) depth) (weightsLeft (sampleIn (now (path .entry)) levels (now (weights .entry)) weighed (now (coordinates .entry)) many) depth) (placesIn (sampleIn (now (path .entry)) levels (now (weights .entry)) weighed (now (coordinates .entry)) many)) evaluation number) ⌝ }
 {
-    let path = s.path;
     let bin = path[depth];
-    let weights = s.weights;
     let weight = weights[depth];
     let n = table[w + 2] as usize;
     let r = table[w + 5] as usize;
@@ -114,11 +131,16 @@ fn bins_accept(
         counts,
         level,
         link,
-        s,
+        path,
+        weights,
+        coordinates,
         depth + 1,
         evaluation,
         number,
         near,
+        levels,
+        weighed,
+        many,
     );
     own & (inner & below)
 }
@@ -130,17 +152,37 @@ pub fn grid_accepts(
     counts: &[u64],
     level: usize,
     w: usize,
-    s: Sample,
+    path: &[usize; 4],
+    weights: &[f64; 5],
+    coordinates: &[f64; 8],
     depth: usize,
     evaluation: f64,
     number: u64,
-    near: [usize; 8],
+    near: &[usize; 8],
+    levels: usize,
+    weighed: usize,
+    many: usize,
 ) -> bool
-    requires { ⌜ Laid level (now table) (length (now reals)) (length (now counts)) w × (depth + level ≤ 4) × Takes (gridAt level (now table) (now reals) (now counts) w) s depth number ⌝ }
-    ensures { λ o. ⌜ o ≡ keptGrid (trainGrid (gridAt level (now (table .entry)) (now (reals .entry)) (now (counts .entry)) w) (pathLeft s depth) (weightsLeft s depth) (placesIn s) evaluation number) ⌝ }
+    requires { ⌜ Laid level (now table) (length (now reals)) (length (now counts)) w × (depth + level ≤ 4) × Takes (gridAt level (now table) (now reals) (now counts) w) (sampleIn (now path) levels (now weights) weighed (now coordinates) many) depth number ⌝ }
+    ensures { λ o. ⌜ o ≡ keptGrid (trainGrid (gridAt level (now (table .entry)) (now (reals .entry)) (now (counts .entry)) w) (pathLeft (sampleIn (now (path .entry)) levels (now (weights .entry)) weighed (now (coordinates .entry)) many) depth) (weightsLeft (sampleIn (now (path .entry)) levels (now (weights .entry)) weighed (now (coordinates .entry)) many) depth) (placesIn (sampleIn (now (path .entry)) levels (now (weights .entry)) weighed (now (coordinates .entry)) many)) evaluation number) ⌝ }
 {
     if table[w] == 1 {
-        return axes_accept(table, reals, counts, w, s, depth, evaluation, number, near);
+        return axes_accept(
+            table,
+            reals,
+            counts,
+            w,
+            path,
+            weights,
+            coordinates,
+            depth,
+            evaluation,
+            number,
+            near,
+            levels,
+            weighed,
+            many,
+        );
     }
     bins_accept(
         table,
@@ -148,11 +190,16 @@ pub fn grid_accepts(
         counts,
         level - 1,
         w,
-        s,
+        path,
+        weights,
+        coordinates,
         depth,
         evaluation,
         number,
         near,
+        levels,
+        weighed,
+        many,
     )
 }
 
@@ -161,13 +208,18 @@ pub fn objection(
     table: &[u64],
     reals: &[f64],
     counts: &[u64],
-    s: Sample,
+    path: &[usize; 4],
+    weights: &[f64; 5],
+    coordinates: &[f64; 8],
     evaluation: f64,
     number: u64,
-    near: [usize; 8],
+    near: &[usize; 8],
+    levels: usize,
+    weighed: usize,
+    many: usize,
 ) -> u64
     requires { ⌜ Laid 4 (now table) (length (now reals)) (length (now counts)) 0 × (sound (rootOf (now table) (now reals) (now counts)) ≡ true) ⌝ }
-    ensures { λ n. ⌜ n ≡ objectionOf (trainOf (rootOf (now (table .entry)) (now (reals .entry)) (now (counts .entry))) (sampleOf s) evaluation number) ⌝ }
+    ensures { λ n. ⌜ n ≡ objectionOf (trainOf (rootOf (now (table .entry)) (now (reals .entry)) (now (counts .entry))) (sampleOf (sampleIn (now (path .entry)) levels (now (weights .entry)) weighed (now (coordinates .entry)) many)) evaluation number) ⌝ }
 {
     if number == 0 {
         return 3;
@@ -175,18 +227,47 @@ pub fn objection(
     if 9007199254740992 < number {
         return 3;
     }
-    let form = forms::grid_fault(table, reals, counts, 4, 0, s, 0);
+    let form = forms::grid_fault(
+        table,
+        reals,
+        counts,
+        4,
+        0,
+        path,
+        weights,
+        coordinates,
+        0,
+        levels,
+        weighed,
+        many,
+    );
     if form != 0 {
         return form;
     }
     if !real::finite(evaluation) {
         return 7;
     }
-    let weights = s.weights;
-    if !training::are_finite(weights, s.given) {
+    let ws = *weights;
+    if !training::are_finite(ws, weighed) {
         return 7;
     }
-    if !grid_accepts(table, reals, counts, 4, 0, s, 0, evaluation, number, near) {
+    if !grid_accepts(
+        table,
+        reals,
+        counts,
+        4,
+        0,
+        path,
+        weights,
+        coordinates,
+        0,
+        evaluation,
+        number,
+        near,
+        levels,
+        weighed,
+        many,
+    ) {
         return 8;
     }
     0

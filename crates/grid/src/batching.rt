@@ -29,9 +29,36 @@ fn step(
         stepOf (now (table .entry)) (memory (now (reals .entry)) (now (counts .entry))) start evaluation number ⌝ }
 {
     let mut near = [0usize; 8];
-    let drawing = sampling::draw_root(table, reals, counts, start, &mut near);
-    let sample = drawing.sample;
-    let refused = acceptance::objection(table, reals, counts, sample, evaluation, number, near);
+    let mut path = [0usize; 4];
+    let mut weights = [0.0f64; 5];
+    let mut coordinates = [0.0f64; 8];
+    let drawn = sampling::draw_grid(
+        table,
+        reals,
+        counts,
+        4,
+        0,
+        start,
+        &mut path,
+        &mut weights,
+        &mut coordinates,
+        &mut near,
+        0,
+    );
+    let refused = acceptance::objection(
+        table,
+        reals,
+        counts,
+        &path,
+        &weights,
+        &coordinates,
+        evaluation,
+        number,
+        &near,
+        drawn.levels,
+        drawn.given,
+        drawn.axes,
+    );
     if refused != 0 {
         return Stepped {
             refused,
@@ -44,13 +71,18 @@ fn step(
         counts,
         4,
         0,
-        sample,
+        &path,
+        &weights,
+        &coordinates,
         0,
         evaluation,
         number,
-        near,
+        &near,
+        drawn.levels,
+        drawn.given,
+        drawn.axes,
     );
-    let stream = drawing.stream;
+    let stream = drawn.stream;
     Stepped { refused, stream }
 }
 

@@ -8,41 +8,58 @@ ghost use Rattle.model.specs.Grid.{bins};
 ghost use Rattle.grid.specs.Tree.{childIn, headAt, binsIn, gridAt, BinsLaid, Laid};
 ghost use Rattle.grid.specs.Sampled.{entries, ChildLaid};
 ghost use Rattle.grid.specs.Trained.{formFault, nothingFault};
-use crate::Sample;
 use crate::training;
 
 // At an axes grid: no path is left, one weight, and a coordinate in [0, 1] for each axis.
-fn axes_fault(table: &[u64], w: usize, s: Sample, depth: usize) -> u64
+fn axes_fault(
+    table: &[u64],
+    w: usize,
+    path: &[usize; 4],
+    weights: &[f64; 5],
+    coordinates: &[f64; 8],
+    depth: usize,
+    levels: usize,
+    weighed: usize,
+    many: usize,
+) -> u64
     requires { ⌜ (w + 11 ≤ length (now table)) × (getD (now table) (w + 2) 0 ≤ 8) × (depth ≤ 4) ⌝ }
-    ensures { λ n. ⌜ n ≡ formFault (getD (now (table .entry)) (w + 2) 0) (entries 0 (s .path) depth (s .levels - depth)) (entries nan (s .weights) depth (s .given - depth)) (entries nan (s .coordinates) 0 (s .axes)) ⌝ }
+    ensures { λ n. ⌜ n ≡ formFault (getD (now (table .entry)) (w + 2) 0) (entries 0 (now (path .entry)) depth (levels - depth)) (entries nan (now (weights .entry)) depth (weighed - depth)) (entries nan (now (coordinates .entry)) 0 many) ⌝ }
 {
-    if depth < s.levels {
+    if depth < levels {
         return 4;
     }
-    if s.given != depth + 1 {
+    if weighed != depth + 1 {
         return 4;
     }
-    if s.axes != table[w + 2] as usize {
+    if many != table[w + 2] as usize {
         return 4;
     }
-    let xs = s.coordinates;
-    if !training::are_in_unit(xs, s.axes) {
+    let xs = *coordinates;
+    if !training::are_in_unit(xs, many) {
         return 5;
     }
     0
 }
 
 // At nothing: nothing is left of the sample.
-fn nothing_fault(s: Sample, depth: usize) -> u64
-    ensures { λ n. ⌜ n ≡ nothingFault (entries 0 (s .path) depth (s .levels - depth)) (entries nan (s .weights) depth (s .given - depth)) (entries nan (s .coordinates) 0 (s .axes)) ⌝ }
+fn nothing_fault(
+    path: &[usize; 4],
+    weights: &[f64; 5],
+    coordinates: &[f64; 8],
+    depth: usize,
+    levels: usize,
+    weighed: usize,
+    many: usize,
+) -> u64
+    ensures { λ n. ⌜ n ≡ nothingFault (entries 0 (now (path .entry)) depth (levels - depth)) (entries nan (now (weights .entry)) depth (weighed - depth)) (entries nan (now (coordinates .entry)) 0 many) ⌝ }
 {
-    if depth < s.levels {
+    if depth < levels {
         return 4;
     }
-    if depth < s.given {
+    if depth < weighed {
         return 4;
     }
-    if 0 < s.axes {
+    if 0 < many {
         return 4;
     }
     0
@@ -55,16 +72,34 @@ fn child_fault(
     counts: &[u64],
     level: usize,
     link: usize,
-    s: Sample,
+    path: &[usize; 4],
+    weights: &[f64; 5],
+    coordinates: &[f64; 8],
     depth: usize,
+    levels: usize,
+    weighed: usize,
+    many: usize,
 ) -> u64
     requires { ⌜ ChildLaid level (now table) (length (now reals)) (length (now counts)) link × (depth + level ≤ 4) ⌝ }
-    ensures { λ n. ⌜ n ≡ faultOfChild (childIn (gridAt level (now (table .entry)) (now (reals .entry)) (now (counts .entry))) link) (entries 0 (s .path) depth (s .levels - depth)) (entries nan (s .weights) depth (s .given - depth)) (entries nan (s .coordinates) 0 (s .axes)) ⌝ }
+    ensures { λ n. ⌜ n ≡ faultOfChild (childIn (gridAt level (now (table .entry)) (now (reals .entry)) (now (counts .entry))) link) (entries 0 (now (path .entry)) depth (levels - depth)) (entries nan (now (weights .entry)) depth (weighed - depth)) (entries nan (now (coordinates .entry)) 0 many) ⌝ }
 {
     if link == 0 {
-        return nothing_fault(s, depth);
+        return nothing_fault(path, weights, coordinates, depth, levels, weighed, many);
     }
-    grid_fault(table, reals, counts, level, link, s, depth)
+    grid_fault(
+        table,
+        reals,
+        counts,
+        level,
+        link,
+        path,
+        weights,
+        coordinates,
+        depth,
+        levels,
+        weighed,
+        many,
+    )
 }
 
 // At a bins grid: an index is left (4), it is a bin's (6), a weight is left (4); then what hangs there.
@@ -74,26 +109,44 @@ fn bins_fault(
     counts: &[u64],
     level: usize,
     w: usize,
-    s: Sample,
+    path: &[usize; 4],
+    weights: &[f64; 5],
+    coordinates: &[f64; 8],
     depth: usize,
+    levels: usize,
+    weighed: usize,
+    many: usize,
 ) -> u64
     requires { ⌜ BinsLaid (Laid level (now table) (length (now reals)) (length (now counts))) (now table) (length (now reals)) (length (now counts)) w × (depth + level ≤ 3) ⌝ }
     ensures { λ n. ⌜ n ≡ faultOf (bins (headAt (now (table .entry)) (now (reals .entry)) (now (counts .entry)) w)
         (binsIn (gridAt level (now (table .entry)) (now (reals .entry)) (now (counts .entry))) (now (table .entry)) (now (reals .entry)) (now (counts .entry)) w 0 (getD (now (table .entry)) (w + 2) 0)))
-        (entries 0 (s .path) depth (s .levels - depth)) (entries nan (s .weights) depth (s .given - depth)) (entries nan (s .coordinates) 0 (s .axes)) ⌝ }
+        (entries 0 (now (path .entry)) depth (levels - depth)) (entries nan (now (weights .entry)) depth (weighed - depth)) (entries nan (now (coordinates .entry)) 0 many) ⌝ }
 {
-    if s.levels <= depth {
+    if levels <= depth {
         return 4;
     }
-    let bin = s.path[depth];
+    let bin = path[depth];
     if table[w + 2] as usize <= bin {
         return 6;
     }
-    if s.given <= depth {
+    if weighed <= depth {
         return 4;
     }
     let link = table[w + 7 + bin] as usize;
-    child_fault(table, reals, counts, level, link, s, depth + 1)
+    child_fault(
+        table,
+        reals,
+        counts,
+        level,
+        link,
+        path,
+        weights,
+        coordinates,
+        depth + 1,
+        levels,
+        weighed,
+        many,
+    )
 }
 
 // At the grid whose run begins at word w, below `depth` bins grids: 0, or 4, 5 or 6.
@@ -103,14 +156,42 @@ pub fn grid_fault(
     counts: &[u64],
     level: usize,
     w: usize,
-    s: Sample,
+    path: &[usize; 4],
+    weights: &[f64; 5],
+    coordinates: &[f64; 8],
     depth: usize,
+    levels: usize,
+    weighed: usize,
+    many: usize,
 ) -> u64
     requires { ⌜ Laid level (now table) (length (now reals)) (length (now counts)) w × (depth + level ≤ 4) ⌝ }
-    ensures { λ n. ⌜ n ≡ faultOf (gridAt level (now (table .entry)) (now (reals .entry)) (now (counts .entry)) w) (entries 0 (s .path) depth (s .levels - depth)) (entries nan (s .weights) depth (s .given - depth)) (entries nan (s .coordinates) 0 (s .axes)) ⌝ }
+    ensures { λ n. ⌜ n ≡ faultOf (gridAt level (now (table .entry)) (now (reals .entry)) (now (counts .entry)) w) (entries 0 (now (path .entry)) depth (levels - depth)) (entries nan (now (weights .entry)) depth (weighed - depth)) (entries nan (now (coordinates .entry)) 0 many) ⌝ }
 {
     if table[w] == 1 {
-        return axes_fault(table, w, s, depth);
+        return axes_fault(
+            table,
+            w,
+            path,
+            weights,
+            coordinates,
+            depth,
+            levels,
+            weighed,
+            many,
+        );
     }
-    bins_fault(table, reals, counts, level - 1, w, s, depth)
+    bins_fault(
+        table,
+        reals,
+        counts,
+        level - 1,
+        w,
+        path,
+        weights,
+        coordinates,
+        depth,
+        levels,
+        weighed,
+        many,
+    )
 }

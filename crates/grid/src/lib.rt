@@ -243,11 +243,43 @@ pub fn train(
         return refused;
     }
     let near = [0usize; 8];
-    let objection = acceptance::objection(table, reals, counts, s, evaluation, number, near);
+    let path = s.path;
+    let weights = s.weights;
+    let coordinates = s.coordinates;
+    let objection = acceptance::objection(
+        table,
+        reals,
+        counts,
+        &path,
+        &weights,
+        &coordinates,
+        evaluation,
+        number,
+        &near,
+        s.levels,
+        s.given,
+        s.axes,
+    );
     if objection != 0 {
         return objection;
     }
-    absorbing::absorb_grid(table, reals, counts, 4, 0, s, 0, evaluation, number, near);
+    absorbing::absorb_grid(
+        table,
+        reals,
+        counts,
+        4,
+        0,
+        &path,
+        &weights,
+        &coordinates,
+        0,
+        evaluation,
+        number,
+        &near,
+        s.levels,
+        s.given,
+        s.axes,
+    );
     0
 }
 

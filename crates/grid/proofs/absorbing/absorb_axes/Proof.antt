@@ -3,6 +3,7 @@ use native.Mathlib.Omega.{arith}
 use Rattle.grid.specs.Memory.{memory}
 use Rattle.grid.proofs.Accepts.{axes-placed, spots-found, cells-of}
 use Rattle.grid.proofs.Absorbs.{axes-absorbed}
+use Rattle.grid.specs.Sampled.{sampleIn}
 use borrow.Author.Needs.{needs}
 use Rattle.grid.proofs.absorbing.absorb_axes.Statement.{statement}
 use Rattle.grid.proofs.absorbing.absorb_axes.Tie as tie
@@ -14,76 +15,76 @@ use Rattle.grid.proofs.layout.axes_place.Reads as axes-place-reads
 use Rattle.grid.proofs.training.locate.Reads as locate-reads
 use Rattle.grid.proofs.training.train_axes.Reads as train-axes-reads
 
--- src/absorbing.rt:31:18
+-- src/absorbing.rt:35:18
 mul-weight : tie.Need-mul-weight
 mul-weight c = search needs
 
--- src/absorbing.rt:31:18
-array-read-weight : tie.Need-array-read-weight
-array-read-weight c = search needs
+-- src/absorbing.rt:35:18
+element-copy-out-weight : tie.Need-element-copy-out-weight
+element-copy-out-weight c = search needs
 
--- src/absorbing.rt:33:9
+-- src/absorbing.rt:36:9
 axes-place-requires : tie.Need-axes-place-requires
 axes-place-requires c κs = search needs
 
--- src/absorbing.rt:34:19
+-- src/absorbing.rt:37:19
 add-r : tie.Need-add-r
 add-r c = search needs
 
--- src/absorbing.rt:34:13
+-- src/absorbing.rt:37:13
 mul-r : tie.Need-mul-r
 mul-r c = search needs
 
--- src/absorbing.rt:34:13
+-- src/absorbing.rt:37:13
 shared-slice-read-r : tie.Need-shared-slice-read-r
 shared-slice-read-r c = search needs
 
--- src/absorbing.rt:35:19
+-- src/absorbing.rt:38:19
 add-c : tie.Need-add-c
 add-c c = search needs
 
--- src/absorbing.rt:35:13
+-- src/absorbing.rt:38:13
 mul-c : tie.Need-mul-c
 mul-c c = search needs
 
--- src/absorbing.rt:35:13
+-- src/absorbing.rt:38:13
 shared-slice-read-c : tie.Need-shared-slice-read-c
 shared-slice-read-c c = search needs
 
--- src/absorbing.rt:36:9
+-- src/absorbing.rt:39:9
 locate-requires : tie.Need-locate-requires
-locate-requires c κs = axes-placed (c .before .before .before .before .before .before .before .before .before .before .args .table .now) (c .before .before .before .before .before .before .before .before .before .before .args .reals .now) (c .before .before .before .before .before .before .before .before .before .before .args .counts .now) (c .before .before .before .before .before .before .before .before .before .before .args .w) (c .before .before .before .before .before .before .before .before .before .before .args .s) (c .before .before .before .before .before .before .before .before .before .before .args .depth) (c .before .before .before .before .before .before .before .before .before .before .args .number) (c .before .before .before .before .before .before .before .before .before .before .pre .0) (c .before .before .before .before .before .before .before .before .before .before .pre .2) (c .before .before .before .before .axes-place .result) (c .before .before .before .before .axes-place .ensures)
+locate-requires c κs = axes-placed (c .before .before .before .before .before .before .before .before .before .before .before .args .table .now) (c .before .before .before .before .before .before .before .before .before .before .before .args .reals .now) (c .before .before .before .before .before .before .before .before .before .before .before .args .counts .now) (c .before .before .before .before .before .before .before .before .before .before .before .args .w) (sampleIn (c .before .before .before .before .before .before .before .before .before .before .before .args .path .now) (c .before .before .before .before .before .before .before .before .before .before .before .args .levels) (c .before .before .before .before .before .before .before .before .before .before .before .args .weights .now) (c .before .before .before .before .before .before .before .before .before .before .before .args .weighed) (c .before .before .before .before .before .before .before .before .before .before .before .args .coordinates .now) (c .before .before .before .before .before .before .before .before .before .before .before .args .many)) (c .before .before .before .before .before .before .before .before .before .before .before .args .depth) (c .before .before .before .before .before .before .before .before .before .before .before .args .number) (c .before .before .before .before .before .before .before .before .before .before .before .pre .0) (c .before .before .before .before .before .before .before .before .before .before .before .pre .2) (c .before .before .before .before .before .before .axes-place .result) (c .before .before .before .before .before .before .axes-place .ensures)
 
--- src/absorbing.rt:37:9
+-- src/absorbing.rt:40:9
 with-sample-requires : tie.Need-with-sample-requires
 with-sample-requires c κs = search needs
 
--- src/absorbing.rt:38:5
+-- src/absorbing.rt:41:5
 train-axes-requires : tie.Need-train-axes-requires
-train-axes-requires c κs = cells-of (c .before .before .before .before .before .before .before .before .before .before .before .before .before .before .before .before .args .table .now) (c .before .before .before .before .before .before .before .before .before .before .before .before .before .before .before .before .args .reals .now) (c .before .before .before .before .before .before .before .before .before .before .before .before .before .before .before .before .args .counts .now) (c .before .before .before .before .before .before .before .before .before .before .before .before .before .before .before .before .args .w) (c .before .before .before .before .before .before .before .before .before .before .before .before .before .before .before .before .args .s) (c .before .before .before .before .before .before .before .before .before .before .before .before .before .before .before .before .args .depth) (c .before .before .before .before .before .before .before .before .before .before .before .before .before .before .before .before .args .number) (c .before .before .before .before .before .before .before .before .before .before .before .before .before .before .before .before .pre .0) (c .before .before .before .before .before .before .before .before .before .before .before .before .before .before .before .before .pre .2) (c .before .before .before .before .before .before .before .before .before .before .axes-place .result) (c .before .before .before .before .before .before .before .before .before .before .axes-place .ensures) (c .before .before .before .before .before .locate .result) (c .before .before .before .before .before .locate .ensures)
+train-axes-requires c κs = cells-of (c .before .before .before .before .before .before .before .before .before .before .before .before .before .before .before .before .before .args .table .now) (c .before .before .before .before .before .before .before .before .before .before .before .before .before .before .before .before .before .args .reals .now) (c .before .before .before .before .before .before .before .before .before .before .before .before .before .before .before .before .before .args .counts .now) (c .before .before .before .before .before .before .before .before .before .before .before .before .before .before .before .before .before .args .w) (sampleIn (c .before .before .before .before .before .before .before .before .before .before .before .before .before .before .before .before .before .args .path .now) (c .before .before .before .before .before .before .before .before .before .before .before .before .before .before .before .before .before .args .levels) (c .before .before .before .before .before .before .before .before .before .before .before .before .before .before .before .before .before .args .weights .now) (c .before .before .before .before .before .before .before .before .before .before .before .before .before .before .before .before .before .args .weighed) (c .before .before .before .before .before .before .before .before .before .before .before .before .before .before .before .before .before .args .coordinates .now) (c .before .before .before .before .before .before .before .before .before .before .before .before .before .before .before .before .before .args .many)) (c .before .before .before .before .before .before .before .before .before .before .before .before .before .before .before .before .before .args .depth) (c .before .before .before .before .before .before .before .before .before .before .before .before .before .before .before .before .before .args .number) (c .before .before .before .before .before .before .before .before .before .before .before .before .before .before .before .before .before .pre .0) (c .before .before .before .before .before .before .before .before .before .before .before .before .before .before .before .before .before .pre .2) (c .before .before .before .before .before .before .before .before .before .before .before .before .axes-place .result) (c .before .before .before .before .before .before .before .before .before .before .before .before .axes-place .ensures) (c .before .before .before .before .before .locate .result) (c .before .before .before .before .before .locate .ensures)
 
--- src/absorbing.rt:39:5
+-- src/absorbing.rt:42:5
 store-requires : tie.Need-store-requires
-store-requires c κs = (omega (arith, c .before .before .before .before .before .before .before .before .before .before .before .before .before .before .before .before .before .before .before .before .before .before .before .pre .0, c .before .before .before .before .before .before .train-axes .kept .0), omega (arith, c .before .before .before .before .before .before .before .before .before .before .before .before .before .before .before .before .before .before .before .before .before .before .before .pre .0, c .before .before .before .before .before .before .train-axes .kept .1 .0))
+store-requires c κs = (omega (arith, c .before .before .before .before .before .before .before .before .before .before .before .before .before .before .before .before .before .before .before .before .before .before .before .before .pre .0, c .before .before .before .before .before .before .train-axes .kept .0), omega (arith, c .before .before .before .before .before .before .before .before .before .before .before .before .before .before .before .before .before .before .before .before .before .before .before .before .pre .0, c .before .before .before .before .before .before .train-axes .kept .1 .0))
 
--- src/absorbing.rt:17:1
+-- src/absorbing.rt:16:1
 same-length : tie.Need-same-length
 same-length c = search needs
 
--- src/absorbing.rt:17:1
+-- src/absorbing.rt:16:1
 same-length-2 : tie.Need-same-length-2
 same-length-2 c = search needs
 
--- src/absorbing.rt:17:1
+-- src/absorbing.rt:16:1
 returns : tie.Need-returns
-returns c = axes-absorbed (c .before .before .before .before .before .before .before .before .before .before .before .before .before .before .before .before .before .before .before .before .before .before .before .before .before .before .before .before .args .table .now) (c .before .before .before .before .before .before .before .before .before .before .before .before .before .before .before .before .before .before .before .before .before .before .before .before .before .before .before .before .args .s) (c .before .before .before .before .before .before .before .before .before .before .before .before .before .before .before .before .before .before .before .before .before .before .before .before .before .before .before .before .args .evaluation) (c .before .before .before .before .before .before .before .before .before .before .before .before .before .before .before .before .before .before .before .before .before .before .before .before .before .before .before .before .args .number) (c .before .before .before .before .before .before .before .before .before .before .before .before .before .before .before .before .before .before .before .before .before .before .before .before .before .before .before .before .args .w) (c .before .before .before .before .before .before .before .before .before .before .before .before .before .before .before .before .before .before .before .before .before .before .before .before .before .before .before .before .args .depth) (memory (c .before .before .before .before .before .before .before .before .before .before .before .before .before .before .before .before .before .before .before .before .before .before .before .before .before .before .before .before .args .reals .now) (c .before .before .before .before .before .before .before .before .before .before .before .before .before .before .before .before .before .before .before .before .before .before .before .before .before .before .before .before .args .counts .now)) (memory (c .before .before .before .before .before .before .before .before .before .before .before .train-axes .last .0) (c .before .before .before .before .before .before .before .before .before .before .before .train-axes .last .1 .0)) (memory (c .before .before .before .before .store .last .0) (c .before .before .before .before .store .last .1 .0)) (c .before .before .before .before .before .before .before .before .before .before .before .before .before .before .before .before .before .before .before .before .before .before .axes-place .result) (c .before .before .before .before .before .before .before .before .before .before .before .before .before .before .before .before .before .locate .result) (c .before .before .before .before .before .before .before .before .before .before .before .before .before .before .with-sample .result) (c .before .before .before .before .before .before .before .before .before .before .before .before .before .before .before .before .before .before .before .before .before .before .axes-place .ensures) (spots-found (c .before .before .before .before .before .before .before .before .before .before .before .before .before .before .before .before .before .before .before .before .before .before .before .before .before .before .before .before .args .table .now) (c .before .before .before .before .before .before .before .before .before .before .before .before .before .before .before .before .before .before .before .before .before .before .before .before .before .before .before .before .args .reals .now) (c .before .before .before .before .before .before .before .before .before .before .before .before .before .before .before .before .before .before .before .before .before .before .before .before .before .before .before .before .args .counts .now) (c .before .before .before .before .before .before .before .before .before .before .before .before .before .before .before .before .before .before .before .before .before .before .before .before .before .before .before .before .args .w) (c .before .before .before .before .before .before .before .before .before .before .before .before .before .before .before .before .before .before .before .before .before .before .before .before .before .before .before .before .args .s) (c .before .before .before .before .before .before .before .before .before .before .before .before .before .before .before .before .before .before .before .before .before .before .before .before .before .before .before .before .args .depth) (c .before .before .before .before .before .before .before .before .before .before .before .before .before .before .before .before .before .before .before .before .before .before .before .before .before .before .before .before .args .number) (c .before .before .before .before .before .before .before .before .before .before .before .before .before .before .before .before .before .before .before .before .before .before .before .before .before .before .before .before .pre .0) (c .before .before .before .before .before .before .before .before .before .before .before .before .before .before .before .before .before .before .before .before .before .before .before .before .before .before .before .before .pre .2) (c .before .before .before .before .before .before .before .before .before .before .before .before .before .before .before .before .before .before .before .before .before .before .axes-place .result) (c .before .before .before .before .before .before .before .before .before .before .before .before .before .before .before .before .before .before .before .before .before .before .axes-place .ensures) (c .before .before .before .before .before .before .before .before .before .before .before .before .before .before .before .before .before .locate .result) (c .before .before .before .before .before .before .before .before .before .before .before .before .before .before .before .before .before .locate .ensures)) (c .before .before .before .before .before .before .before .before .before .before .before .before .before .before .with-sample .ensures) (c .before .before .before .before .before .before .before .before .before .before .before .train-axes .ensures) (c .before .before .before .before .store .ensures)
+returns c = axes-absorbed (c .before .before .before .before .before .before .before .before .before .before .before .before .before .before .before .before .before .before .before .before .before .before .before .before .before .before .before .before .before .args .table .now) (sampleIn (c .before .before .before .before .before .before .before .before .before .before .before .before .before .before .before .before .before .before .before .before .before .before .before .before .before .before .before .before .before .args .path .now) (c .before .before .before .before .before .before .before .before .before .before .before .before .before .before .before .before .before .before .before .before .before .before .before .before .before .before .before .before .before .args .levels) (c .before .before .before .before .before .before .before .before .before .before .before .before .before .before .before .before .before .before .before .before .before .before .before .before .before .before .before .before .before .args .weights .now) (c .before .before .before .before .before .before .before .before .before .before .before .before .before .before .before .before .before .before .before .before .before .before .before .before .before .before .before .before .before .args .weighed) (c .before .before .before .before .before .before .before .before .before .before .before .before .before .before .before .before .before .before .before .before .before .before .before .before .before .before .before .before .before .args .coordinates .now) (c .before .before .before .before .before .before .before .before .before .before .before .before .before .before .before .before .before .before .before .before .before .before .before .before .before .before .before .before .before .args .many)) (c .before .before .before .before .before .before .before .before .before .before .before .before .before .before .before .before .before .before .before .before .before .before .before .before .before .before .before .before .before .args .evaluation) (c .before .before .before .before .before .before .before .before .before .before .before .before .before .before .before .before .before .before .before .before .before .before .before .before .before .before .before .before .before .args .number) (c .before .before .before .before .before .before .before .before .before .before .before .before .before .before .before .before .before .before .before .before .before .before .before .before .before .before .before .before .before .args .w) (c .before .before .before .before .before .before .before .before .before .before .before .before .before .before .before .before .before .before .before .before .before .before .before .before .before .before .before .before .before .args .depth) (memory (c .before .before .before .before .before .before .before .before .before .before .before .before .before .before .before .before .before .before .before .before .before .before .before .before .before .before .before .before .before .args .reals .now) (c .before .before .before .before .before .before .before .before .before .before .before .before .before .before .before .before .before .before .before .before .before .before .before .before .before .before .before .before .before .args .counts .now)) (memory (c .before .before .before .before .before .before .before .before .before .before .before .train-axes .last .0) (c .before .before .before .before .before .before .before .before .before .before .before .train-axes .last .1 .0)) (memory (c .before .before .before .before .store .last .0) (c .before .before .before .before .store .last .1 .0)) (c .before .before .before .before .before .before .before .before .before .before .before .before .before .before .before .before .before .before .before .before .before .before .before .before .axes-place .result) (c .before .before .before .before .before .before .before .before .before .before .before .before .before .before .before .before .before .locate .result) (c .before .before .before .before .before .before .before .before .before .before .before .before .before .before .with-sample .result) (c .before .before .before .before .before .before .before .before .before .before .before .before .before .before .before .before .before .before .before .before .before .before .before .before .axes-place .ensures) (spots-found (c .before .before .before .before .before .before .before .before .before .before .before .before .before .before .before .before .before .before .before .before .before .before .before .before .before .before .before .before .before .args .table .now) (c .before .before .before .before .before .before .before .before .before .before .before .before .before .before .before .before .before .before .before .before .before .before .before .before .before .before .before .before .before .args .reals .now) (c .before .before .before .before .before .before .before .before .before .before .before .before .before .before .before .before .before .before .before .before .before .before .before .before .before .before .before .before .before .args .counts .now) (c .before .before .before .before .before .before .before .before .before .before .before .before .before .before .before .before .before .before .before .before .before .before .before .before .before .before .before .before .before .args .w) (sampleIn (c .before .before .before .before .before .before .before .before .before .before .before .before .before .before .before .before .before .before .before .before .before .before .before .before .before .before .before .before .before .args .path .now) (c .before .before .before .before .before .before .before .before .before .before .before .before .before .before .before .before .before .before .before .before .before .before .before .before .before .before .before .before .before .args .levels) (c .before .before .before .before .before .before .before .before .before .before .before .before .before .before .before .before .before .before .before .before .before .before .before .before .before .before .before .before .before .args .weights .now) (c .before .before .before .before .before .before .before .before .before .before .before .before .before .before .before .before .before .before .before .before .before .before .before .before .before .before .before .before .before .args .weighed) (c .before .before .before .before .before .before .before .before .before .before .before .before .before .before .before .before .before .before .before .before .before .before .before .before .before .before .before .before .before .args .coordinates .now) (c .before .before .before .before .before .before .before .before .before .before .before .before .before .before .before .before .before .before .before .before .before .before .before .before .before .before .before .before .before .args .many)) (c .before .before .before .before .before .before .before .before .before .before .before .before .before .before .before .before .before .before .before .before .before .before .before .before .before .before .before .before .before .args .depth) (c .before .before .before .before .before .before .before .before .before .before .before .before .before .before .before .before .before .before .before .before .before .before .before .before .before .before .before .before .before .args .number) (c .before .before .before .before .before .before .before .before .before .before .before .before .before .before .before .before .before .before .before .before .before .before .before .before .before .before .before .before .before .pre .0) (c .before .before .before .before .before .before .before .before .before .before .before .before .before .before .before .before .before .before .before .before .before .before .before .before .before .before .before .before .before .pre .2) (c .before .before .before .before .before .before .before .before .before .before .before .before .before .before .before .before .before .before .before .before .before .before .before .before .axes-place .result) (c .before .before .before .before .before .before .before .before .before .before .before .before .before .before .before .before .before .before .before .before .before .before .before .before .axes-place .ensures) (c .before .before .before .before .before .before .before .before .before .before .before .before .before .before .before .before .before .locate .result) (c .before .before .before .before .before .before .before .before .before .before .before .before .before .before .before .before .before .locate .ensures)) (c .before .before .before .before .before .before .before .before .before .before .before .before .before .before .with-sample .ensures) (c .before .before .before .before .before .before .before .before .before .before .before .train-axes .ensures) (c .before .before .before .before .store .ensures)
 
 pub absorb-axes-spec : {M : Type 1} → statement M
 absorb-axes-spec =
     tie.close
     (tie.spec
     mul-weight
-    array-read-weight
+    element-copy-out-weight
     axes-place-requires
     add-r
     mul-r

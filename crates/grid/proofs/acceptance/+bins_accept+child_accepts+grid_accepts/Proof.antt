@@ -13,6 +13,7 @@ use Rattle.grid.specs.Absorbed.{pathLeft, weightsLeft, placesIn, Takes}
 use Rattle.grid.proofs.Laid.{laid-axes, laid-bins, laid-head}
 use Rattle.grid.proofs.Sounds.{node-axes, node-bins}
 use Rattle.grid.proofs.Accepts.{formed, head-sound, spot-sound, takes-below, bins-told, none-told, grid-told, takes-grid}
+use Rattle.grid.specs.Sampled.{sampleIn}
 use Prim.Native.Nat.{ℕ, _<_}
 use borrow.Fn.Kinds.{In}
 use borrow.Fn.PlainCycle.{Measures, is, falls, and}
@@ -30,84 +31,84 @@ use Rattle.grid.proofs.adding.fits_with.Reads as fits-with-reads
 use Rattle.grid.proofs.acceptance.+bins_accept+child_accepts+grid_accepts.{statement}
 use Rattle.grid.proofs.acceptance.+bins_accept+child_accepts+grid_accepts.Tie.{close}
 
-abbrev μ-bins-accept : Measures 3 bins-accept-kinds.ps ℕ
+abbrev μ-bins-accept : Measures 7 bins-accept-kinds.ps ℕ
 μ-bins-accept κs a = 3 * a .1 .1 .1 .0 + 2
 
-abbrev μ-child-accepts : Measures 3 child-accepts-kinds.ps ℕ
+abbrev μ-child-accepts : Measures 7 child-accepts-kinds.ps ℕ
 μ-child-accepts κs a = 3 * a .1 .1 .1 .0 + 1
 
-abbrev μ-grid-accepts : Measures 3 grid-accepts-kinds.ps ℕ
+abbrev μ-grid-accepts : Measures 7 grid-accepts-kinds.ps ℕ
 μ-grid-accepts κs a = 3 * a .1 .1 .1 .0
 
-abbrev bins-accept-at : ℕ → In 3 bins-accept-kinds.ps
+abbrev bins-accept-at : ℕ → In 7 bins-accept-kinds.ps
 bins-accept-at t =
-    and 3 bins-accept-kinds.ps (is 3 bins-accept-kinds.ps μ-bins-accept t) bins-accept.Pre
+    and 7 bins-accept-kinds.ps (is 7 bins-accept-kinds.ps μ-bins-accept t) bins-accept.Pre
 
-abbrev bins-accept-below : ℕ → In 3 bins-accept-kinds.ps
+abbrev bins-accept-below : ℕ → In 7 bins-accept-kinds.ps
 bins-accept-below t =
-    and 3 bins-accept-kinds.ps (falls 3 bins-accept-kinds.ps _<_ μ-bins-accept t) bins-accept.Pre
+    and 7 bins-accept-kinds.ps (falls 7 bins-accept-kinds.ps _<_ μ-bins-accept t) bins-accept.Pre
 
-abbrev child-accepts-at : ℕ → In 3 child-accepts-kinds.ps
+abbrev child-accepts-at : ℕ → In 7 child-accepts-kinds.ps
 child-accepts-at t =
-    and 3 child-accepts-kinds.ps (is 3 child-accepts-kinds.ps μ-child-accepts t) child-accepts.Pre
+    and 7 child-accepts-kinds.ps (is 7 child-accepts-kinds.ps μ-child-accepts t) child-accepts.Pre
 
-abbrev child-accepts-below : ℕ → In 3 child-accepts-kinds.ps
+abbrev child-accepts-below : ℕ → In 7 child-accepts-kinds.ps
 child-accepts-below t =
     and
-    3
+    7
     child-accepts-kinds.ps
-    (falls 3 child-accepts-kinds.ps _<_ μ-child-accepts t)
+    (falls 7 child-accepts-kinds.ps _<_ μ-child-accepts t)
     child-accepts.Pre
 
-abbrev grid-accepts-at : ℕ → In 3 grid-accepts-kinds.ps
+abbrev grid-accepts-at : ℕ → In 7 grid-accepts-kinds.ps
 grid-accepts-at t =
-    and 3 grid-accepts-kinds.ps (is 3 grid-accepts-kinds.ps μ-grid-accepts t) grid-accepts.Pre
+    and 7 grid-accepts-kinds.ps (is 7 grid-accepts-kinds.ps μ-grid-accepts t) grid-accepts.Pre
 
-abbrev grid-accepts-below : ℕ → In 3 grid-accepts-kinds.ps
+abbrev grid-accepts-below : ℕ → In 7 grid-accepts-kinds.ps
 grid-accepts-below t =
     and
-    3
+    7
     grid-accepts-kinds.ps
-    (falls 3 grid-accepts-kinds.ps _<_ μ-grid-accepts t)
+    (falls 7 grid-accepts-kinds.ps _<_ μ-grid-accepts t)
     grid-accepts.Pre
 
--- src/acceptance.rt:82:15
+-- src/acceptance.rt:115:15
 bins-accept-mul-bin : (t : ℕ) → bins-accept-lts.Need-mul-bin (
   fits-with-reads.Asked,
   fits-with-reads.Learnt,
   child-accepts-below t,
   child-accepts.Post,
 ) (bins-accept-at t) bins-accept.Post
-bins-accept-mul-bin t c = omega (arith, c .before .before .before .before .pre .1 .1)
+bins-accept-mul-bin t c = omega (arith, c .before .before .before .pre .1 .1)
 
--- src/acceptance.rt:82:15
-bins-accept-array-read-bin : (t : ℕ) → bins-accept-lts.Need-array-read-bin (
+-- src/acceptance.rt:115:15
+bins-accept-element-copy-out-bin : (t : ℕ) → bins-accept-lts.Need-element-copy-out-bin (
   fits-with-reads.Asked,
   fits-with-reads.Learnt,
   child-accepts-below t,
   child-accepts.Post,
 ) (bins-accept-at t) bins-accept.Post
-bins-accept-array-read-bin t c = omega (arith, c .before .before .before .before .pre .1 .1)
+bins-accept-element-copy-out-bin t c = omega (arith, c .before .before .before .pre .1 .1)
 
--- src/acceptance.rt:84:18
+-- src/acceptance.rt:116:18
 bins-accept-mul-weight : (t : ℕ) → bins-accept-lts.Need-mul-weight (
   fits-with-reads.Asked,
   fits-with-reads.Learnt,
   child-accepts-below t,
   child-accepts.Post,
 ) (bins-accept-at t) bins-accept.Post
-bins-accept-mul-weight t c = omega (arith, c .before .before .before .before .before .pre .1 .1)
+bins-accept-mul-weight t c = omega (arith, c .before .before .before .before .pre .1 .1)
 
--- src/acceptance.rt:84:18
-bins-accept-array-read-weight : (t : ℕ) → bins-accept-lts.Need-array-read-weight (
+-- src/acceptance.rt:116:18
+bins-accept-element-copy-out-weight : (t : ℕ) → bins-accept-lts.Need-element-copy-out-weight (
   fits-with-reads.Asked,
   fits-with-reads.Learnt,
   child-accepts-below t,
   child-accepts.Post,
 ) (bins-accept-at t) bins-accept.Post
-bins-accept-array-read-weight t c = omega (arith, c .before .before .before .before .before .pre .1 .1)
+bins-accept-element-copy-out-weight t c = omega (arith, c .before .before .before .before .pre .1 .1)
 
--- src/acceptance.rt:85:19
+-- src/acceptance.rt:117:19
 bins-accept-add-n : (t : ℕ) → bins-accept-lts.Need-add-n (
   fits-with-reads.Asked,
   fits-with-reads.Learnt,
@@ -116,7 +117,7 @@ bins-accept-add-n : (t : ℕ) → bins-accept-lts.Need-add-n (
 ) (bins-accept-at t) bins-accept.Post
 bins-accept-add-n t c = omega (arith, (c .before .before .before .before .before .pre .1 .0))
 
--- src/acceptance.rt:85:13
+-- src/acceptance.rt:117:13
 bins-accept-mul-n : (t : ℕ) → bins-accept-lts.Need-mul-n (
   fits-with-reads.Asked,
   fits-with-reads.Learnt,
@@ -125,7 +126,7 @@ bins-accept-mul-n : (t : ℕ) → bins-accept-lts.Need-mul-n (
 ) (bins-accept-at t) bins-accept.Post
 bins-accept-mul-n t c = omega (arith, (c .before .before .before .before .before .pre .1 .0))
 
--- src/acceptance.rt:85:13
+-- src/acceptance.rt:117:13
 bins-accept-shared-slice-read-n : (t : ℕ) → bins-accept-lts.Need-shared-slice-read-n (
   fits-with-reads.Asked,
   fits-with-reads.Learnt,
@@ -134,7 +135,7 @@ bins-accept-shared-slice-read-n : (t : ℕ) → bins-accept-lts.Need-shared-slic
 ) (bins-accept-at t) bins-accept.Post
 bins-accept-shared-slice-read-n t c = omega (arith, (c .before .before .before .before .before .before .pre .1 .0))
 
--- src/acceptance.rt:86:19
+-- src/acceptance.rt:118:19
 bins-accept-add-r : (t : ℕ) → bins-accept-lts.Need-add-r (
   fits-with-reads.Asked,
   fits-with-reads.Learnt,
@@ -143,7 +144,7 @@ bins-accept-add-r : (t : ℕ) → bins-accept-lts.Need-add-r (
 ) (bins-accept-at t) bins-accept.Post
 bins-accept-add-r t c = omega (arith, (c .before .before .before .before .before .before .pre .1 .0))
 
--- src/acceptance.rt:86:13
+-- src/acceptance.rt:118:13
 bins-accept-mul-r : (t : ℕ) → bins-accept-lts.Need-mul-r (
   fits-with-reads.Asked,
   fits-with-reads.Learnt,
@@ -152,7 +153,7 @@ bins-accept-mul-r : (t : ℕ) → bins-accept-lts.Need-mul-r (
 ) (bins-accept-at t) bins-accept.Post
 bins-accept-mul-r t c = omega (arith, (c .before .before .before .before .before .before .pre .1 .0))
 
--- src/acceptance.rt:86:13
+-- src/acceptance.rt:118:13
 bins-accept-shared-slice-read-r : (t : ℕ) → bins-accept-lts.Need-shared-slice-read-r (
   fits-with-reads.Asked,
   fits-with-reads.Learnt,
@@ -161,7 +162,7 @@ bins-accept-shared-slice-read-r : (t : ℕ) → bins-accept-lts.Need-shared-slic
 ) (bins-accept-at t) bins-accept.Post
 bins-accept-shared-slice-read-r t c = omega (arith, (c .before .before .before .before .before .before .before .pre .1 .0))
 
--- src/acceptance.rt:87:19
+-- src/acceptance.rt:119:19
 bins-accept-add-c : (t : ℕ) → bins-accept-lts.Need-add-c (
   fits-with-reads.Asked,
   fits-with-reads.Learnt,
@@ -170,7 +171,7 @@ bins-accept-add-c : (t : ℕ) → bins-accept-lts.Need-add-c (
 ) (bins-accept-at t) bins-accept.Post
 bins-accept-add-c t c = omega (arith, (c .before .before .before .before .before .before .before .pre .1 .0))
 
--- src/acceptance.rt:87:13
+-- src/acceptance.rt:119:13
 bins-accept-mul-c : (t : ℕ) → bins-accept-lts.Need-mul-c (
   fits-with-reads.Asked,
   fits-with-reads.Learnt,
@@ -179,7 +180,7 @@ bins-accept-mul-c : (t : ℕ) → bins-accept-lts.Need-mul-c (
 ) (bins-accept-at t) bins-accept.Post
 bins-accept-mul-c t c = omega (arith, (c .before .before .before .before .before .before .before .pre .1 .0))
 
--- src/acceptance.rt:87:13
+-- src/acceptance.rt:119:13
 bins-accept-shared-slice-read-c : (t : ℕ) → bins-accept-lts.Need-shared-slice-read-c (
   fits-with-reads.Asked,
   fits-with-reads.Learnt,
@@ -188,43 +189,43 @@ bins-accept-shared-slice-read-c : (t : ℕ) → bins-accept-lts.Need-shared-slic
 ) (bins-accept-at t) bins-accept.Post
 bins-accept-shared-slice-read-c t c = omega (arith, (c .before .before .before .before .before .before .before .before .pre .1 .0))
 
--- src/acceptance.rt:88:33
+-- src/acceptance.rt:120:33
 bins-accept-add-value : (t : ℕ) → bins-accept-lts.Need-add-value (
   fits-with-reads.Asked,
   fits-with-reads.Learnt,
   child-accepts-below t,
   child-accepts.Post,
 ) (bins-accept-at t) bins-accept.Post
-bins-accept-add-value t c = omega (arith, (c .before .before .before .before .before .before .before .before .pre .1 .0), (formed (gridAt (c .before .before .before .before .before .before .before .before .args .level) (c .before .before .before .before .before .before .before .before .args .table .now) (c .before .before .before .before .before .before .before .before .args .reals .now) (c .before .before .before .before .before .before .before .before .args .counts .now)) (c .before .before .before .before .before .before .before .before .args .table .now) (c .before .before .before .before .before .before .before .before .args .reals .now) (c .before .before .before .before .before .before .before .before .args .counts .now) (c .before .before .before .before .before .before .before .before .args .w) (getD (c .before .before .before .before .before .before .before .before .args .table .now) ((c .before .before .before .before .before .before .before .before .args .w) + 2) 0) (headAt (c .before .before .before .before .before .before .before .before .args .table .now) (c .before .before .before .before .before .before .before .before .args .reals .now) (c .before .before .before .before .before .before .before .before .args .counts .now) (c .before .before .before .before .before .before .before .before .args .w)) (c .before .before .before .before .before .before .before .before .args .s) (c .before .before .before .before .before .before .before .before .args .depth) (c .before .before .before .before .before .before .before .before .args .number) (c .before .before .before .before .before .before .before .before .pre .1 .2)) .bin)
+bins-accept-add-value t c = omega (arith, (c .before .before .before .before .before .before .before .before .pre .1 .0), (formed (gridAt (c .before .before .before .before .before .before .before .before .args .level) (c .before .before .before .before .before .before .before .before .args .table .now) (c .before .before .before .before .before .before .before .before .args .reals .now) (c .before .before .before .before .before .before .before .before .args .counts .now)) (c .before .before .before .before .before .before .before .before .args .table .now) (c .before .before .before .before .before .before .before .before .args .reals .now) (c .before .before .before .before .before .before .before .before .args .counts .now) (c .before .before .before .before .before .before .before .before .args .w) (getD (c .before .before .before .before .before .before .before .before .args .table .now) ((c .before .before .before .before .before .before .before .before .args .w) + 2) 0) (headAt (c .before .before .before .before .before .before .before .before .args .table .now) (c .before .before .before .before .before .before .before .before .args .reals .now) (c .before .before .before .before .before .before .before .before .args .counts .now) (c .before .before .before .before .before .before .before .before .args .w)) (sampleIn (c .before .before .before .before .before .before .before .before .args .path .now) (c .before .before .before .before .before .before .before .before .args .levels) (c .before .before .before .before .before .before .before .before .args .weights .now) (c .before .before .before .before .before .before .before .before .args .weighed) (c .before .before .before .before .before .before .before .before .args .coordinates .now) (c .before .before .before .before .before .before .before .before .args .many)) (c .before .before .before .before .before .before .before .before .args .depth) (c .before .before .before .before .before .before .before .before .args .number) (c .before .before .before .before .before .before .before .before .pre .1 .2)) .bin)
 
--- src/acceptance.rt:88:33
+-- src/acceptance.rt:120:33
 bins-accept-add-value-2 : (t : ℕ) → bins-accept-lts.Need-add-value-2 (
   fits-with-reads.Asked,
   fits-with-reads.Learnt,
   child-accepts-below t,
   child-accepts.Post,
 ) (bins-accept-at t) bins-accept.Post
-bins-accept-add-value-2 t c = omega (arith, (c .before .before .before .before .before .before .before .before .pre .1 .0), (formed (gridAt (c .before .before .before .before .before .before .before .before .args .level) (c .before .before .before .before .before .before .before .before .args .table .now) (c .before .before .before .before .before .before .before .before .args .reals .now) (c .before .before .before .before .before .before .before .before .args .counts .now)) (c .before .before .before .before .before .before .before .before .args .table .now) (c .before .before .before .before .before .before .before .before .args .reals .now) (c .before .before .before .before .before .before .before .before .args .counts .now) (c .before .before .before .before .before .before .before .before .args .w) (getD (c .before .before .before .before .before .before .before .before .args .table .now) ((c .before .before .before .before .before .before .before .before .args .w) + 2) 0) (headAt (c .before .before .before .before .before .before .before .before .args .table .now) (c .before .before .before .before .before .before .before .before .args .reals .now) (c .before .before .before .before .before .before .before .before .args .counts .now) (c .before .before .before .before .before .before .before .before .args .w)) (c .before .before .before .before .before .before .before .before .args .s) (c .before .before .before .before .before .before .before .before .args .depth) (c .before .before .before .before .before .before .before .before .args .number) (c .before .before .before .before .before .before .before .before .pre .1 .2)) .bin)
+bins-accept-add-value-2 t c = omega (arith, (c .before .before .before .before .before .before .before .before .pre .1 .0), (formed (gridAt (c .before .before .before .before .before .before .before .before .args .level) (c .before .before .before .before .before .before .before .before .args .table .now) (c .before .before .before .before .before .before .before .before .args .reals .now) (c .before .before .before .before .before .before .before .before .args .counts .now)) (c .before .before .before .before .before .before .before .before .args .table .now) (c .before .before .before .before .before .before .before .before .args .reals .now) (c .before .before .before .before .before .before .before .before .args .counts .now) (c .before .before .before .before .before .before .before .before .args .w) (getD (c .before .before .before .before .before .before .before .before .args .table .now) ((c .before .before .before .before .before .before .before .before .args .w) + 2) 0) (headAt (c .before .before .before .before .before .before .before .before .args .table .now) (c .before .before .before .before .before .before .before .before .args .reals .now) (c .before .before .before .before .before .before .before .before .args .counts .now) (c .before .before .before .before .before .before .before .before .args .w)) (sampleIn (c .before .before .before .before .before .before .before .before .args .path .now) (c .before .before .before .before .before .before .before .before .args .levels) (c .before .before .before .before .before .before .before .before .args .weights .now) (c .before .before .before .before .before .before .before .before .args .weighed) (c .before .before .before .before .before .before .before .before .args .coordinates .now) (c .before .before .before .before .before .before .before .before .args .many)) (c .before .before .before .before .before .before .before .before .args .depth) (c .before .before .before .before .before .before .before .before .args .number) (c .before .before .before .before .before .before .before .before .pre .1 .2)) .bin)
 
--- src/acceptance.rt:88:27
+-- src/acceptance.rt:120:27
 bins-accept-mul-value : (t : ℕ) → bins-accept-lts.Need-mul-value (
   fits-with-reads.Asked,
   fits-with-reads.Learnt,
   child-accepts-below t,
   child-accepts.Post,
 ) (bins-accept-at t) bins-accept.Post
-bins-accept-mul-value t c = omega (arith, (c .before .before .before .before .before .before .before .before .pre .1 .0), (formed (gridAt (c .before .before .before .before .before .before .before .before .args .level) (c .before .before .before .before .before .before .before .before .args .table .now) (c .before .before .before .before .before .before .before .before .args .reals .now) (c .before .before .before .before .before .before .before .before .args .counts .now)) (c .before .before .before .before .before .before .before .before .args .table .now) (c .before .before .before .before .before .before .before .before .args .reals .now) (c .before .before .before .before .before .before .before .before .args .counts .now) (c .before .before .before .before .before .before .before .before .args .w) (getD (c .before .before .before .before .before .before .before .before .args .table .now) ((c .before .before .before .before .before .before .before .before .args .w) + 2) 0) (headAt (c .before .before .before .before .before .before .before .before .args .table .now) (c .before .before .before .before .before .before .before .before .args .reals .now) (c .before .before .before .before .before .before .before .before .args .counts .now) (c .before .before .before .before .before .before .before .before .args .w)) (c .before .before .before .before .before .before .before .before .args .s) (c .before .before .before .before .before .before .before .before .args .depth) (c .before .before .before .before .before .before .before .before .args .number) (c .before .before .before .before .before .before .before .before .pre .1 .2)) .bin)
+bins-accept-mul-value t c = omega (arith, (c .before .before .before .before .before .before .before .before .pre .1 .0), (formed (gridAt (c .before .before .before .before .before .before .before .before .args .level) (c .before .before .before .before .before .before .before .before .args .table .now) (c .before .before .before .before .before .before .before .before .args .reals .now) (c .before .before .before .before .before .before .before .before .args .counts .now)) (c .before .before .before .before .before .before .before .before .args .table .now) (c .before .before .before .before .before .before .before .before .args .reals .now) (c .before .before .before .before .before .before .before .before .args .counts .now) (c .before .before .before .before .before .before .before .before .args .w) (getD (c .before .before .before .before .before .before .before .before .args .table .now) ((c .before .before .before .before .before .before .before .before .args .w) + 2) 0) (headAt (c .before .before .before .before .before .before .before .before .args .table .now) (c .before .before .before .before .before .before .before .before .args .reals .now) (c .before .before .before .before .before .before .before .before .args .counts .now) (c .before .before .before .before .before .before .before .before .args .w)) (sampleIn (c .before .before .before .before .before .before .before .before .args .path .now) (c .before .before .before .before .before .before .before .before .args .levels) (c .before .before .before .before .before .before .before .before .args .weights .now) (c .before .before .before .before .before .before .before .before .args .weighed) (c .before .before .before .before .before .before .before .before .args .coordinates .now) (c .before .before .before .before .before .before .before .before .args .many)) (c .before .before .before .before .before .before .before .before .args .depth) (c .before .before .before .before .before .before .before .before .args .number) (c .before .before .before .before .before .before .before .before .pre .1 .2)) .bin)
 
--- src/acceptance.rt:88:27
+-- src/acceptance.rt:120:27
 bins-accept-shared-slice-read-value : (t : ℕ) → bins-accept-lts.Need-shared-slice-read-value (
   fits-with-reads.Asked,
   fits-with-reads.Learnt,
   child-accepts-below t,
   child-accepts.Post,
 ) (bins-accept-at t) bins-accept.Post
-bins-accept-shared-slice-read-value t c = omega (arith, (c .before .before .before .before .before .before .before .before .before .pre .1 .0), (formed (gridAt (c .before .before .before .before .before .before .before .before .before .args .level) (c .before .before .before .before .before .before .before .before .before .args .table .now) (c .before .before .before .before .before .before .before .before .before .args .reals .now) (c .before .before .before .before .before .before .before .before .before .args .counts .now)) (c .before .before .before .before .before .before .before .before .before .args .table .now) (c .before .before .before .before .before .before .before .before .before .args .reals .now) (c .before .before .before .before .before .before .before .before .before .args .counts .now) (c .before .before .before .before .before .before .before .before .before .args .w) (getD (c .before .before .before .before .before .before .before .before .before .args .table .now) ((c .before .before .before .before .before .before .before .before .before .args .w) + 2) 0) (headAt (c .before .before .before .before .before .before .before .before .before .args .table .now) (c .before .before .before .before .before .before .before .before .before .args .reals .now) (c .before .before .before .before .before .before .before .before .before .args .counts .now) (c .before .before .before .before .before .before .before .before .before .args .w)) (c .before .before .before .before .before .before .before .before .before .args .s) (c .before .before .before .before .before .before .before .before .before .args .depth) (c .before .before .before .before .before .before .before .before .before .args .number) (c .before .before .before .before .before .before .before .before .before .pre .1 .2)) .bin)
+bins-accept-shared-slice-read-value t c = omega (arith, (c .before .before .before .before .before .before .before .before .before .pre .1 .0), (formed (gridAt (c .before .before .before .before .before .before .before .before .before .args .level) (c .before .before .before .before .before .before .before .before .before .args .table .now) (c .before .before .before .before .before .before .before .before .before .args .reals .now) (c .before .before .before .before .before .before .before .before .before .args .counts .now)) (c .before .before .before .before .before .before .before .before .before .args .table .now) (c .before .before .before .before .before .before .before .before .before .args .reals .now) (c .before .before .before .before .before .before .before .before .before .args .counts .now) (c .before .before .before .before .before .before .before .before .before .args .w) (getD (c .before .before .before .before .before .before .before .before .before .args .table .now) ((c .before .before .before .before .before .before .before .before .before .args .w) + 2) 0) (headAt (c .before .before .before .before .before .before .before .before .before .args .table .now) (c .before .before .before .before .before .before .before .before .before .args .reals .now) (c .before .before .before .before .before .before .before .before .before .args .counts .now) (c .before .before .before .before .before .before .before .before .before .args .w)) (sampleIn (c .before .before .before .before .before .before .before .before .before .args .path .now) (c .before .before .before .before .before .before .before .before .before .args .levels) (c .before .before .before .before .before .before .before .before .before .args .weights .now) (c .before .before .before .before .before .before .before .before .before .args .weighed) (c .before .before .before .before .before .before .before .before .before .args .coordinates .now) (c .before .before .before .before .before .before .before .before .before .args .many)) (c .before .before .before .before .before .before .before .before .before .args .depth) (c .before .before .before .before .before .before .before .before .before .args .number) (c .before .before .before .before .before .before .before .before .before .pre .1 .2)) .bin)
 
--- src/acceptance.rt:89:9
+-- src/acceptance.rt:121:9
 bins-accept-fits-with-requires : (t : ℕ) → bins-accept-lts.Need-fits-with-requires (
   fits-with-reads.Asked,
   fits-with-reads.Learnt,
@@ -232,72 +233,72 @@ bins-accept-fits-with-requires : (t : ℕ) → bins-accept-lts.Need-fits-with-re
   child-accepts.Post,
 ) (bins-accept-at t) bins-accept.Post
 unfolding headAt
-bins-accept-fits-with-requires t c κs = (omega (arith, (c .before .before .before .before .before .before .before .before .before .pre .1 .0)), omega (arith, (c .before .before .before .before .before .before .before .before .before .pre .1 .0)), head-sound (gridAt (c .before .before .before .before .before .before .before .before .before .args .level) (c .before .before .before .before .before .before .before .before .before .args .table .now) (c .before .before .before .before .before .before .before .before .before .args .reals .now) (c .before .before .before .before .before .before .before .before .before .args .counts .now)) (c .before .before .before .before .before .before .before .before .before .args .table .now) (c .before .before .before .before .before .before .before .before .before .args .reals .now) (c .before .before .before .before .before .before .before .before .before .args .counts .now) (c .before .before .before .before .before .before .before .before .before .args .w) (getD (c .before .before .before .before .before .before .before .before .before .args .table .now) ((c .before .before .before .before .before .before .before .before .before .args .w) + 2) 0) (headAt (c .before .before .before .before .before .before .before .before .before .args .table .now) (c .before .before .before .before .before .before .before .before .before .args .reals .now) (c .before .before .before .before .before .before .before .before .before .args .counts .now) (c .before .before .before .before .before .before .before .before .before .args .w)) (c .before .before .before .before .before .before .before .before .before .args .s) (c .before .before .before .before .before .before .before .before .before .args .depth) (c .before .before .before .before .before .before .before .before .before .args .number) (c .before .before .before .before .before .before .before .before .before .pre .1 .2), (c .before .before .before .before .before .before .before .before .before .pre .1 .2) .number)
+bins-accept-fits-with-requires t c κs = (omega (arith, (c .before .before .before .before .before .before .before .before .before .pre .1 .0)), omega (arith, (c .before .before .before .before .before .before .before .before .before .pre .1 .0)), head-sound (gridAt (c .before .before .before .before .before .before .before .before .before .args .level) (c .before .before .before .before .before .before .before .before .before .args .table .now) (c .before .before .before .before .before .before .before .before .before .args .reals .now) (c .before .before .before .before .before .before .before .before .before .args .counts .now)) (c .before .before .before .before .before .before .before .before .before .args .table .now) (c .before .before .before .before .before .before .before .before .before .args .reals .now) (c .before .before .before .before .before .before .before .before .before .args .counts .now) (c .before .before .before .before .before .before .before .before .before .args .w) (getD (c .before .before .before .before .before .before .before .before .before .args .table .now) ((c .before .before .before .before .before .before .before .before .before .args .w) + 2) 0) (headAt (c .before .before .before .before .before .before .before .before .before .args .table .now) (c .before .before .before .before .before .before .before .before .before .args .reals .now) (c .before .before .before .before .before .before .before .before .before .args .counts .now) (c .before .before .before .before .before .before .before .before .before .args .w)) (sampleIn (c .before .before .before .before .before .before .before .before .before .args .path .now) (c .before .before .before .before .before .before .before .before .before .args .levels) (c .before .before .before .before .before .before .before .before .before .args .weights .now) (c .before .before .before .before .before .before .before .before .before .args .weighed) (c .before .before .before .before .before .before .before .before .before .args .coordinates .now) (c .before .before .before .before .before .before .before .before .before .args .many)) (c .before .before .before .before .before .before .before .before .before .args .depth) (c .before .before .before .before .before .before .before .before .before .args .number) (c .before .before .before .before .before .before .before .before .before .pre .1 .2), (c .before .before .before .before .before .before .before .before .before .pre .1 .2) .number)
 
--- src/acceptance.rt:90:50
+-- src/acceptance.rt:122:19
 bins-accept-add-inner-r : (t : ℕ) → bins-accept-lts.Need-add-inner-r (
   fits-with-reads.Asked,
   fits-with-reads.Learnt,
   child-accepts-below t,
   child-accepts.Post,
 ) (bins-accept-at t) bins-accept.Post
-bins-accept-add-inner-r t c = omega (arith, (c .before .before .before .before .before .before .before .before .before .before .pre .1 .0), (formed (gridAt (c .before .before .before .before .before .before .before .before .before .before .args .level) (c .before .before .before .before .before .before .before .before .before .before .args .table .now) (c .before .before .before .before .before .before .before .before .before .before .args .reals .now) (c .before .before .before .before .before .before .before .before .before .before .args .counts .now)) (c .before .before .before .before .before .before .before .before .before .before .args .table .now) (c .before .before .before .before .before .before .before .before .before .before .args .reals .now) (c .before .before .before .before .before .before .before .before .before .before .args .counts .now) (c .before .before .before .before .before .before .before .before .before .before .args .w) (getD (c .before .before .before .before .before .before .before .before .before .before .args .table .now) ((c .before .before .before .before .before .before .before .before .before .before .args .w) + 2) 0) (headAt (c .before .before .before .before .before .before .before .before .before .before .args .table .now) (c .before .before .before .before .before .before .before .before .before .before .args .reals .now) (c .before .before .before .before .before .before .before .before .before .before .args .counts .now) (c .before .before .before .before .before .before .before .before .before .before .args .w)) (c .before .before .before .before .before .before .before .before .before .before .args .s) (c .before .before .before .before .before .before .before .before .before .before .args .depth) (c .before .before .before .before .before .before .before .before .before .before .args .number) (c .before .before .before .before .before .before .before .before .before .before .pre .1 .2)) .bin)
+bins-accept-add-inner-r t c = omega (arith, (c .before .before .before .before .before .before .before .before .before .before .pre .1 .0), (formed (gridAt (c .before .before .before .before .before .before .before .before .before .before .args .level) (c .before .before .before .before .before .before .before .before .before .before .args .table .now) (c .before .before .before .before .before .before .before .before .before .before .args .reals .now) (c .before .before .before .before .before .before .before .before .before .before .args .counts .now)) (c .before .before .before .before .before .before .before .before .before .before .args .table .now) (c .before .before .before .before .before .before .before .before .before .before .args .reals .now) (c .before .before .before .before .before .before .before .before .before .before .args .counts .now) (c .before .before .before .before .before .before .before .before .before .before .args .w) (getD (c .before .before .before .before .before .before .before .before .before .before .args .table .now) ((c .before .before .before .before .before .before .before .before .before .before .args .w) + 2) 0) (headAt (c .before .before .before .before .before .before .before .before .before .before .args .table .now) (c .before .before .before .before .before .before .before .before .before .before .args .reals .now) (c .before .before .before .before .before .before .before .before .before .before .args .counts .now) (c .before .before .before .before .before .before .before .before .before .before .args .w)) (sampleIn (c .before .before .before .before .before .before .before .before .before .before .args .path .now) (c .before .before .before .before .before .before .before .before .before .before .args .levels) (c .before .before .before .before .before .before .before .before .before .before .args .weights .now) (c .before .before .before .before .before .before .before .before .before .before .args .weighed) (c .before .before .before .before .before .before .before .before .before .before .args .coordinates .now) (c .before .before .before .before .before .before .before .before .before .before .args .many)) (c .before .before .before .before .before .before .before .before .before .before .args .depth) (c .before .before .before .before .before .before .before .before .before .before .args .number) (c .before .before .before .before .before .before .before .before .before .before .pre .1 .2)) .bin)
 
--- src/acceptance.rt:90:50
+-- src/acceptance.rt:122:19
 bins-accept-add-inner-r-2 : (t : ℕ) → bins-accept-lts.Need-add-inner-r-2 (
   fits-with-reads.Asked,
   fits-with-reads.Learnt,
   child-accepts-below t,
   child-accepts.Post,
 ) (bins-accept-at t) bins-accept.Post
-bins-accept-add-inner-r-2 t c = omega (arith, (c .before .before .before .before .before .before .before .before .before .before .pre .1 .0), (formed (gridAt (c .before .before .before .before .before .before .before .before .before .before .args .level) (c .before .before .before .before .before .before .before .before .before .before .args .table .now) (c .before .before .before .before .before .before .before .before .before .before .args .reals .now) (c .before .before .before .before .before .before .before .before .before .before .args .counts .now)) (c .before .before .before .before .before .before .before .before .before .before .args .table .now) (c .before .before .before .before .before .before .before .before .before .before .args .reals .now) (c .before .before .before .before .before .before .before .before .before .before .args .counts .now) (c .before .before .before .before .before .before .before .before .before .before .args .w) (getD (c .before .before .before .before .before .before .before .before .before .before .args .table .now) ((c .before .before .before .before .before .before .before .before .before .before .args .w) + 2) 0) (headAt (c .before .before .before .before .before .before .before .before .before .before .args .table .now) (c .before .before .before .before .before .before .before .before .before .before .args .reals .now) (c .before .before .before .before .before .before .before .before .before .before .args .counts .now) (c .before .before .before .before .before .before .before .before .before .before .args .w)) (c .before .before .before .before .before .before .before .before .before .before .args .s) (c .before .before .before .before .before .before .before .before .before .before .args .depth) (c .before .before .before .before .before .before .before .before .before .before .args .number) (c .before .before .before .before .before .before .before .before .before .before .pre .1 .2)) .bin)
+bins-accept-add-inner-r-2 t c = omega (arith, (c .before .before .before .before .before .before .before .before .before .before .pre .1 .0), (formed (gridAt (c .before .before .before .before .before .before .before .before .before .before .args .level) (c .before .before .before .before .before .before .before .before .before .before .args .table .now) (c .before .before .before .before .before .before .before .before .before .before .args .reals .now) (c .before .before .before .before .before .before .before .before .before .before .args .counts .now)) (c .before .before .before .before .before .before .before .before .before .before .args .table .now) (c .before .before .before .before .before .before .before .before .before .before .args .reals .now) (c .before .before .before .before .before .before .before .before .before .before .args .counts .now) (c .before .before .before .before .before .before .before .before .before .before .args .w) (getD (c .before .before .before .before .before .before .before .before .before .before .args .table .now) ((c .before .before .before .before .before .before .before .before .before .before .args .w) + 2) 0) (headAt (c .before .before .before .before .before .before .before .before .before .before .args .table .now) (c .before .before .before .before .before .before .before .before .before .before .args .reals .now) (c .before .before .before .before .before .before .before .before .before .before .args .counts .now) (c .before .before .before .before .before .before .before .before .before .before .args .w)) (sampleIn (c .before .before .before .before .before .before .before .before .before .before .args .path .now) (c .before .before .before .before .before .before .before .before .before .before .args .levels) (c .before .before .before .before .before .before .before .before .before .before .args .weights .now) (c .before .before .before .before .before .before .before .before .before .before .args .weighed) (c .before .before .before .before .before .before .before .before .before .before .args .coordinates .now) (c .before .before .before .before .before .before .before .before .before .before .args .many)) (c .before .before .before .before .before .before .before .before .before .before .args .depth) (c .before .before .before .before .before .before .before .before .before .before .args .number) (c .before .before .before .before .before .before .before .before .before .before .pre .1 .2)) .bin)
 
--- src/acceptance.rt:90:63
+-- src/acceptance.rt:122:32
 bins-accept-mul-inner-r : (t : ℕ) → bins-accept-lts.Need-mul-inner-r (
   fits-with-reads.Asked,
   fits-with-reads.Learnt,
   child-accepts-below t,
   child-accepts.Post,
 ) (bins-accept-at t) bins-accept.Post
-bins-accept-mul-inner-r t c = omega (arith, (c .before .before .before .before .before .before .before .before .before .before .pre .1 .0), (formed (gridAt (c .before .before .before .before .before .before .before .before .before .before .args .level) (c .before .before .before .before .before .before .before .before .before .before .args .table .now) (c .before .before .before .before .before .before .before .before .before .before .args .reals .now) (c .before .before .before .before .before .before .before .before .before .before .args .counts .now)) (c .before .before .before .before .before .before .before .before .before .before .args .table .now) (c .before .before .before .before .before .before .before .before .before .before .args .reals .now) (c .before .before .before .before .before .before .before .before .before .before .args .counts .now) (c .before .before .before .before .before .before .before .before .before .before .args .w) (getD (c .before .before .before .before .before .before .before .before .before .before .args .table .now) ((c .before .before .before .before .before .before .before .before .before .before .args .w) + 2) 0) (headAt (c .before .before .before .before .before .before .before .before .before .before .args .table .now) (c .before .before .before .before .before .before .before .before .before .before .args .reals .now) (c .before .before .before .before .before .before .before .before .before .before .args .counts .now) (c .before .before .before .before .before .before .before .before .before .before .args .w)) (c .before .before .before .before .before .before .before .before .before .before .args .s) (c .before .before .before .before .before .before .before .before .before .before .args .depth) (c .before .before .before .before .before .before .before .before .before .before .args .number) (c .before .before .before .before .before .before .before .before .before .before .pre .1 .2)) .bin)
+bins-accept-mul-inner-r t c = omega (arith, (c .before .before .before .before .before .before .before .before .before .before .pre .1 .0), (formed (gridAt (c .before .before .before .before .before .before .before .before .before .before .args .level) (c .before .before .before .before .before .before .before .before .before .before .args .table .now) (c .before .before .before .before .before .before .before .before .before .before .args .reals .now) (c .before .before .before .before .before .before .before .before .before .before .args .counts .now)) (c .before .before .before .before .before .before .before .before .before .before .args .table .now) (c .before .before .before .before .before .before .before .before .before .before .args .reals .now) (c .before .before .before .before .before .before .before .before .before .before .args .counts .now) (c .before .before .before .before .before .before .before .before .before .before .args .w) (getD (c .before .before .before .before .before .before .before .before .before .before .args .table .now) ((c .before .before .before .before .before .before .before .before .before .before .args .w) + 2) 0) (headAt (c .before .before .before .before .before .before .before .before .before .before .args .table .now) (c .before .before .before .before .before .before .before .before .before .before .args .reals .now) (c .before .before .before .before .before .before .before .before .before .before .args .counts .now) (c .before .before .before .before .before .before .before .before .before .before .args .w)) (sampleIn (c .before .before .before .before .before .before .before .before .before .before .args .path .now) (c .before .before .before .before .before .before .before .before .before .before .args .levels) (c .before .before .before .before .before .before .before .before .before .before .args .weights .now) (c .before .before .before .before .before .before .before .before .before .before .args .weighed) (c .before .before .before .before .before .before .before .before .before .before .args .coordinates .now) (c .before .before .before .before .before .before .before .before .before .before .args .many)) (c .before .before .before .before .before .before .before .before .before .before .args .depth) (c .before .before .before .before .before .before .before .before .before .before .args .number) (c .before .before .before .before .before .before .before .before .before .before .pre .1 .2)) .bin)
 
--- src/acceptance.rt:90:50
+-- src/acceptance.rt:122:19
 bins-accept-add-inner-r-3 : (t : ℕ) → bins-accept-lts.Need-add-inner-r-3 (
   fits-with-reads.Asked,
   fits-with-reads.Learnt,
   child-accepts-below t,
   child-accepts.Post,
 ) (bins-accept-at t) bins-accept.Post
-bins-accept-add-inner-r-3 t c = omega (arith, (c .before .before .before .before .before .before .before .before .before .before .pre .1 .0), (formed (gridAt (c .before .before .before .before .before .before .before .before .before .before .args .level) (c .before .before .before .before .before .before .before .before .before .before .args .table .now) (c .before .before .before .before .before .before .before .before .before .before .args .reals .now) (c .before .before .before .before .before .before .before .before .before .before .args .counts .now)) (c .before .before .before .before .before .before .before .before .before .before .args .table .now) (c .before .before .before .before .before .before .before .before .before .before .args .reals .now) (c .before .before .before .before .before .before .before .before .before .before .args .counts .now) (c .before .before .before .before .before .before .before .before .before .before .args .w) (getD (c .before .before .before .before .before .before .before .before .before .before .args .table .now) ((c .before .before .before .before .before .before .before .before .before .before .args .w) + 2) 0) (headAt (c .before .before .before .before .before .before .before .before .before .before .args .table .now) (c .before .before .before .before .before .before .before .before .before .before .args .reals .now) (c .before .before .before .before .before .before .before .before .before .before .args .counts .now) (c .before .before .before .before .before .before .before .before .before .before .args .w)) (c .before .before .before .before .before .before .before .before .before .before .args .s) (c .before .before .before .before .before .before .before .before .before .before .args .depth) (c .before .before .before .before .before .before .before .before .before .before .args .number) (c .before .before .before .before .before .before .before .before .before .before .pre .1 .2)) .bin)
+bins-accept-add-inner-r-3 t c = omega (arith, (c .before .before .before .before .before .before .before .before .before .before .pre .1 .0), (formed (gridAt (c .before .before .before .before .before .before .before .before .before .before .args .level) (c .before .before .before .before .before .before .before .before .before .before .args .table .now) (c .before .before .before .before .before .before .before .before .before .before .args .reals .now) (c .before .before .before .before .before .before .before .before .before .before .args .counts .now)) (c .before .before .before .before .before .before .before .before .before .before .args .table .now) (c .before .before .before .before .before .before .before .before .before .before .args .reals .now) (c .before .before .before .before .before .before .before .before .before .before .args .counts .now) (c .before .before .before .before .before .before .before .before .before .before .args .w) (getD (c .before .before .before .before .before .before .before .before .before .before .args .table .now) ((c .before .before .before .before .before .before .before .before .before .before .args .w) + 2) 0) (headAt (c .before .before .before .before .before .before .before .before .before .before .args .table .now) (c .before .before .before .before .before .before .before .before .before .before .args .reals .now) (c .before .before .before .before .before .before .before .before .before .before .args .counts .now) (c .before .before .before .before .before .before .before .before .before .before .args .w)) (sampleIn (c .before .before .before .before .before .before .before .before .before .before .args .path .now) (c .before .before .before .before .before .before .before .before .before .before .args .levels) (c .before .before .before .before .before .before .before .before .before .before .args .weights .now) (c .before .before .before .before .before .before .before .before .before .before .args .weighed) (c .before .before .before .before .before .before .before .before .before .before .args .coordinates .now) (c .before .before .before .before .before .before .before .before .before .before .args .many)) (c .before .before .before .before .before .before .before .before .before .before .args .depth) (c .before .before .before .before .before .before .before .before .before .before .args .number) (c .before .before .before .before .before .before .before .before .before .before .pre .1 .2)) .bin)
 
--- src/acceptance.rt:90:73
+-- src/acceptance.rt:123:19
 bins-accept-add-inner-c : (t : ℕ) → bins-accept-lts.Need-add-inner-c (
   fits-with-reads.Asked,
   fits-with-reads.Learnt,
   child-accepts-below t,
   child-accepts.Post,
 ) (bins-accept-at t) bins-accept.Post
-bins-accept-add-inner-c t c = omega (arith, (c .before .before .before .before .before .before .before .before .before .before .pre .1 .0), (formed (gridAt (c .before .before .before .before .before .before .before .before .before .before .args .level) (c .before .before .before .before .before .before .before .before .before .before .args .table .now) (c .before .before .before .before .before .before .before .before .before .before .args .reals .now) (c .before .before .before .before .before .before .before .before .before .before .args .counts .now)) (c .before .before .before .before .before .before .before .before .before .before .args .table .now) (c .before .before .before .before .before .before .before .before .before .before .args .reals .now) (c .before .before .before .before .before .before .before .before .before .before .args .counts .now) (c .before .before .before .before .before .before .before .before .before .before .args .w) (getD (c .before .before .before .before .before .before .before .before .before .before .args .table .now) ((c .before .before .before .before .before .before .before .before .before .before .args .w) + 2) 0) (headAt (c .before .before .before .before .before .before .before .before .before .before .args .table .now) (c .before .before .before .before .before .before .before .before .before .before .args .reals .now) (c .before .before .before .before .before .before .before .before .before .before .args .counts .now) (c .before .before .before .before .before .before .before .before .before .before .args .w)) (c .before .before .before .before .before .before .before .before .before .before .args .s) (c .before .before .before .before .before .before .before .before .before .before .args .depth) (c .before .before .before .before .before .before .before .before .before .before .args .number) (c .before .before .before .before .before .before .before .before .before .before .pre .1 .2)) .bin)
+bins-accept-add-inner-c t c = omega (arith, (c .before .before .before .before .before .before .before .before .before .before .pre .1 .0), (formed (gridAt (c .before .before .before .before .before .before .before .before .before .before .args .level) (c .before .before .before .before .before .before .before .before .before .before .args .table .now) (c .before .before .before .before .before .before .before .before .before .before .args .reals .now) (c .before .before .before .before .before .before .before .before .before .before .args .counts .now)) (c .before .before .before .before .before .before .before .before .before .before .args .table .now) (c .before .before .before .before .before .before .before .before .before .before .args .reals .now) (c .before .before .before .before .before .before .before .before .before .before .args .counts .now) (c .before .before .before .before .before .before .before .before .before .before .args .w) (getD (c .before .before .before .before .before .before .before .before .before .before .args .table .now) ((c .before .before .before .before .before .before .before .before .before .before .args .w) + 2) 0) (headAt (c .before .before .before .before .before .before .before .before .before .before .args .table .now) (c .before .before .before .before .before .before .before .before .before .before .args .reals .now) (c .before .before .before .before .before .before .before .before .before .before .args .counts .now) (c .before .before .before .before .before .before .before .before .before .before .args .w)) (sampleIn (c .before .before .before .before .before .before .before .before .before .before .args .path .now) (c .before .before .before .before .before .before .before .before .before .before .args .levels) (c .before .before .before .before .before .before .before .before .before .before .args .weights .now) (c .before .before .before .before .before .before .before .before .before .before .args .weighed) (c .before .before .before .before .before .before .before .before .before .before .args .coordinates .now) (c .before .before .before .before .before .before .before .before .before .before .args .many)) (c .before .before .before .before .before .before .before .before .before .before .args .depth) (c .before .before .before .before .before .before .before .before .before .before .args .number) (c .before .before .before .before .before .before .before .before .before .before .pre .1 .2)) .bin)
 
--- src/acceptance.rt:90:81
+-- src/acceptance.rt:123:27
 bins-accept-mul-inner-c : (t : ℕ) → bins-accept-lts.Need-mul-inner-c (
   fits-with-reads.Asked,
   fits-with-reads.Learnt,
   child-accepts-below t,
   child-accepts.Post,
 ) (bins-accept-at t) bins-accept.Post
-bins-accept-mul-inner-c t c = omega (arith, (c .before .before .before .before .before .before .before .before .before .before .pre .1 .0), (formed (gridAt (c .before .before .before .before .before .before .before .before .before .before .args .level) (c .before .before .before .before .before .before .before .before .before .before .args .table .now) (c .before .before .before .before .before .before .before .before .before .before .args .reals .now) (c .before .before .before .before .before .before .before .before .before .before .args .counts .now)) (c .before .before .before .before .before .before .before .before .before .before .args .table .now) (c .before .before .before .before .before .before .before .before .before .before .args .reals .now) (c .before .before .before .before .before .before .before .before .before .before .args .counts .now) (c .before .before .before .before .before .before .before .before .before .before .args .w) (getD (c .before .before .before .before .before .before .before .before .before .before .args .table .now) ((c .before .before .before .before .before .before .before .before .before .before .args .w) + 2) 0) (headAt (c .before .before .before .before .before .before .before .before .before .before .args .table .now) (c .before .before .before .before .before .before .before .before .before .before .args .reals .now) (c .before .before .before .before .before .before .before .before .before .before .args .counts .now) (c .before .before .before .before .before .before .before .before .before .before .args .w)) (c .before .before .before .before .before .before .before .before .before .before .args .s) (c .before .before .before .before .before .before .before .before .before .before .args .depth) (c .before .before .before .before .before .before .before .before .before .before .args .number) (c .before .before .before .before .before .before .before .before .before .before .pre .1 .2)) .bin)
+bins-accept-mul-inner-c t c = omega (arith, (c .before .before .before .before .before .before .before .before .before .before .pre .1 .0), (formed (gridAt (c .before .before .before .before .before .before .before .before .before .before .args .level) (c .before .before .before .before .before .before .before .before .before .before .args .table .now) (c .before .before .before .before .before .before .before .before .before .before .args .reals .now) (c .before .before .before .before .before .before .before .before .before .before .args .counts .now)) (c .before .before .before .before .before .before .before .before .before .before .args .table .now) (c .before .before .before .before .before .before .before .before .before .before .args .reals .now) (c .before .before .before .before .before .before .before .before .before .before .args .counts .now) (c .before .before .before .before .before .before .before .before .before .before .args .w) (getD (c .before .before .before .before .before .before .before .before .before .before .args .table .now) ((c .before .before .before .before .before .before .before .before .before .before .args .w) + 2) 0) (headAt (c .before .before .before .before .before .before .before .before .before .before .args .table .now) (c .before .before .before .before .before .before .before .before .before .before .args .reals .now) (c .before .before .before .before .before .before .before .before .before .before .args .counts .now) (c .before .before .before .before .before .before .before .before .before .before .args .w)) (sampleIn (c .before .before .before .before .before .before .before .before .before .before .args .path .now) (c .before .before .before .before .before .before .before .before .before .before .args .levels) (c .before .before .before .before .before .before .before .before .before .before .args .weights .now) (c .before .before .before .before .before .before .before .before .before .before .args .weighed) (c .before .before .before .before .before .before .before .before .before .before .args .coordinates .now) (c .before .before .before .before .before .before .before .before .before .before .args .many)) (c .before .before .before .before .before .before .before .before .before .before .args .depth) (c .before .before .before .before .before .before .before .before .before .before .args .number) (c .before .before .before .before .before .before .before .before .before .before .pre .1 .2)) .bin)
 
--- src/acceptance.rt:90:73
+-- src/acceptance.rt:123:19
 bins-accept-add-inner-c-2 : (t : ℕ) → bins-accept-lts.Need-add-inner-c-2 (
   fits-with-reads.Asked,
   fits-with-reads.Learnt,
   child-accepts-below t,
   child-accepts.Post,
 ) (bins-accept-at t) bins-accept.Post
-bins-accept-add-inner-c-2 t c = omega (arith, (c .before .before .before .before .before .before .before .before .before .before .pre .1 .0), (formed (gridAt (c .before .before .before .before .before .before .before .before .before .before .args .level) (c .before .before .before .before .before .before .before .before .before .before .args .table .now) (c .before .before .before .before .before .before .before .before .before .before .args .reals .now) (c .before .before .before .before .before .before .before .before .before .before .args .counts .now)) (c .before .before .before .before .before .before .before .before .before .before .args .table .now) (c .before .before .before .before .before .before .before .before .before .before .args .reals .now) (c .before .before .before .before .before .before .before .before .before .before .args .counts .now) (c .before .before .before .before .before .before .before .before .before .before .args .w) (getD (c .before .before .before .before .before .before .before .before .before .before .args .table .now) ((c .before .before .before .before .before .before .before .before .before .before .args .w) + 2) 0) (headAt (c .before .before .before .before .before .before .before .before .before .before .args .table .now) (c .before .before .before .before .before .before .before .before .before .before .args .reals .now) (c .before .before .before .before .before .before .before .before .before .before .args .counts .now) (c .before .before .before .before .before .before .before .before .before .before .args .w)) (c .before .before .before .before .before .before .before .before .before .before .args .s) (c .before .before .before .before .before .before .before .before .before .before .args .depth) (c .before .before .before .before .before .before .before .before .before .before .args .number) (c .before .before .before .before .before .before .before .before .before .before .pre .1 .2)) .bin)
+bins-accept-add-inner-c-2 t c = omega (arith, (c .before .before .before .before .before .before .before .before .before .before .pre .1 .0), (formed (gridAt (c .before .before .before .before .before .before .before .before .before .before .args .level) (c .before .before .before .before .before .before .before .before .before .before .args .table .now) (c .before .before .before .before .before .before .before .before .before .before .args .reals .now) (c .before .before .before .before .before .before .before .before .before .before .args .counts .now)) (c .before .before .before .before .before .before .before .before .before .before .args .table .now) (c .before .before .before .before .before .before .before .before .before .before .args .reals .now) (c .before .before .before .before .before .before .before .before .before .before .args .counts .now) (c .before .before .before .before .before .before .before .before .before .before .args .w) (getD (c .before .before .before .before .before .before .before .before .before .before .args .table .now) ((c .before .before .before .before .before .before .before .before .before .before .args .w) + 2) 0) (headAt (c .before .before .before .before .before .before .before .before .before .before .args .table .now) (c .before .before .before .before .before .before .before .before .before .before .args .reals .now) (c .before .before .before .before .before .before .before .before .before .before .args .counts .now) (c .before .before .before .before .before .before .before .before .before .before .args .w)) (sampleIn (c .before .before .before .before .before .before .before .before .before .before .args .path .now) (c .before .before .before .before .before .before .before .before .before .before .args .levels) (c .before .before .before .before .before .before .before .before .before .before .args .weights .now) (c .before .before .before .before .before .before .before .before .before .before .args .weighed) (c .before .before .before .before .before .before .before .before .before .before .args .coordinates .now) (c .before .before .before .before .before .before .before .before .before .before .args .many)) (c .before .before .before .before .before .before .before .before .before .before .args .depth) (c .before .before .before .before .before .before .before .before .before .before .args .number) (c .before .before .before .before .before .before .before .before .before .before .pre .1 .2)) .bin)
 
--- src/acceptance.rt:90:9
+-- src/acceptance.rt:124:9
 bins-accept-fits-with-requires-2 : (t : ℕ) → bins-accept-lts.Need-fits-with-requires-2 (
   fits-with-reads.Asked,
   fits-with-reads.Learnt,
@@ -305,45 +306,45 @@ bins-accept-fits-with-requires-2 : (t : ℕ) → bins-accept-lts.Need-fits-with-
   child-accepts.Post,
 ) (bins-accept-at t) bins-accept.Post
 unfolding binIn
-bins-accept-fits-with-requires-2 t c κs = (omega (arith, (c .before .before .before .before .before .before .before .before .before .before .pre .1 .0), (formed (gridAt (c .before .before .before .before .before .before .before .before .before .before .args .level) (c .before .before .before .before .before .before .before .before .before .before .args .table .now) (c .before .before .before .before .before .before .before .before .before .before .args .reals .now) (c .before .before .before .before .before .before .before .before .before .before .args .counts .now)) (c .before .before .before .before .before .before .before .before .before .before .args .table .now) (c .before .before .before .before .before .before .before .before .before .before .args .reals .now) (c .before .before .before .before .before .before .before .before .before .before .args .counts .now) (c .before .before .before .before .before .before .before .before .before .before .args .w) (getD (c .before .before .before .before .before .before .before .before .before .before .args .table .now) ((c .before .before .before .before .before .before .before .before .before .before .args .w) + 2) 0) (headAt (c .before .before .before .before .before .before .before .before .before .before .args .table .now) (c .before .before .before .before .before .before .before .before .before .before .args .reals .now) (c .before .before .before .before .before .before .before .before .before .before .args .counts .now) (c .before .before .before .before .before .before .before .before .before .before .args .w)) (c .before .before .before .before .before .before .before .before .before .before .args .s) (c .before .before .before .before .before .before .before .before .before .before .args .depth) (c .before .before .before .before .before .before .before .before .before .before .args .number) (c .before .before .before .before .before .before .before .before .before .before .pre .1 .2)) .bin), omega (arith, (c .before .before .before .before .before .before .before .before .before .before .pre .1 .0), (formed (gridAt (c .before .before .before .before .before .before .before .before .before .before .args .level) (c .before .before .before .before .before .before .before .before .before .before .args .table .now) (c .before .before .before .before .before .before .before .before .before .before .args .reals .now) (c .before .before .before .before .before .before .before .before .before .before .args .counts .now)) (c .before .before .before .before .before .before .before .before .before .before .args .table .now) (c .before .before .before .before .before .before .before .before .before .before .args .reals .now) (c .before .before .before .before .before .before .before .before .before .before .args .counts .now) (c .before .before .before .before .before .before .before .before .before .before .args .w) (getD (c .before .before .before .before .before .before .before .before .before .before .args .table .now) ((c .before .before .before .before .before .before .before .before .before .before .args .w) + 2) 0) (headAt (c .before .before .before .before .before .before .before .before .before .before .args .table .now) (c .before .before .before .before .before .before .before .before .before .before .args .reals .now) (c .before .before .before .before .before .before .before .before .before .before .args .counts .now) (c .before .before .before .before .before .before .before .before .before .before .args .w)) (c .before .before .before .before .before .before .before .before .before .before .args .s) (c .before .before .before .before .before .before .before .before .before .before .args .depth) (c .before .before .before .before .before .before .before .before .before .before .args .number) (c .before .before .before .before .before .before .before .before .before .before .pre .1 .2)) .bin), spot-sound (gridAt (c .before .before .before .before .before .before .before .before .before .before .args .level) (c .before .before .before .before .before .before .before .before .before .before .args .table .now) (c .before .before .before .before .before .before .before .before .before .before .args .reals .now) (c .before .before .before .before .before .before .before .before .before .before .args .counts .now)) (c .before .before .before .before .before .before .before .before .before .before .args .table .now) (c .before .before .before .before .before .before .before .before .before .before .args .reals .now) (c .before .before .before .before .before .before .before .before .before .before .args .counts .now) (c .before .before .before .before .before .before .before .before .before .before .args .w) (getD (c .before .before .before .before .before .before .before .before .before .before .args .table .now) ((c .before .before .before .before .before .before .before .before .before .before .args .w) + 2) 0) (headAt (c .before .before .before .before .before .before .before .before .before .before .args .table .now) (c .before .before .before .before .before .before .before .before .before .before .args .reals .now) (c .before .before .before .before .before .before .before .before .before .before .args .counts .now) (c .before .before .before .before .before .before .before .before .before .before .args .w)) (c .before .before .before .before .before .before .before .before .before .before .args .s) (c .before .before .before .before .before .before .before .before .before .before .args .depth) (c .before .before .before .before .before .before .before .before .before .before .args .number) (c .before .before .before .before .before .before .before .before .before .before .pre .1 .2), (c .before .before .before .before .before .before .before .before .before .before .pre .1 .2) .number)
+bins-accept-fits-with-requires-2 t c κs = (omega (arith, (c .before .before .before .before .before .before .before .before .before .before .pre .1 .0), (formed (gridAt (c .before .before .before .before .before .before .before .before .before .before .args .level) (c .before .before .before .before .before .before .before .before .before .before .args .table .now) (c .before .before .before .before .before .before .before .before .before .before .args .reals .now) (c .before .before .before .before .before .before .before .before .before .before .args .counts .now)) (c .before .before .before .before .before .before .before .before .before .before .args .table .now) (c .before .before .before .before .before .before .before .before .before .before .args .reals .now) (c .before .before .before .before .before .before .before .before .before .before .args .counts .now) (c .before .before .before .before .before .before .before .before .before .before .args .w) (getD (c .before .before .before .before .before .before .before .before .before .before .args .table .now) ((c .before .before .before .before .before .before .before .before .before .before .args .w) + 2) 0) (headAt (c .before .before .before .before .before .before .before .before .before .before .args .table .now) (c .before .before .before .before .before .before .before .before .before .before .args .reals .now) (c .before .before .before .before .before .before .before .before .before .before .args .counts .now) (c .before .before .before .before .before .before .before .before .before .before .args .w)) (sampleIn (c .before .before .before .before .before .before .before .before .before .before .args .path .now) (c .before .before .before .before .before .before .before .before .before .before .args .levels) (c .before .before .before .before .before .before .before .before .before .before .args .weights .now) (c .before .before .before .before .before .before .before .before .before .before .args .weighed) (c .before .before .before .before .before .before .before .before .before .before .args .coordinates .now) (c .before .before .before .before .before .before .before .before .before .before .args .many)) (c .before .before .before .before .before .before .before .before .before .before .args .depth) (c .before .before .before .before .before .before .before .before .before .before .args .number) (c .before .before .before .before .before .before .before .before .before .before .pre .1 .2)) .bin), omega (arith, (c .before .before .before .before .before .before .before .before .before .before .pre .1 .0), (formed (gridAt (c .before .before .before .before .before .before .before .before .before .before .args .level) (c .before .before .before .before .before .before .before .before .before .before .args .table .now) (c .before .before .before .before .before .before .before .before .before .before .args .reals .now) (c .before .before .before .before .before .before .before .before .before .before .args .counts .now)) (c .before .before .before .before .before .before .before .before .before .before .args .table .now) (c .before .before .before .before .before .before .before .before .before .before .args .reals .now) (c .before .before .before .before .before .before .before .before .before .before .args .counts .now) (c .before .before .before .before .before .before .before .before .before .before .args .w) (getD (c .before .before .before .before .before .before .before .before .before .before .args .table .now) ((c .before .before .before .before .before .before .before .before .before .before .args .w) + 2) 0) (headAt (c .before .before .before .before .before .before .before .before .before .before .args .table .now) (c .before .before .before .before .before .before .before .before .before .before .args .reals .now) (c .before .before .before .before .before .before .before .before .before .before .args .counts .now) (c .before .before .before .before .before .before .before .before .before .before .args .w)) (sampleIn (c .before .before .before .before .before .before .before .before .before .before .args .path .now) (c .before .before .before .before .before .before .before .before .before .before .args .levels) (c .before .before .before .before .before .before .before .before .before .before .args .weights .now) (c .before .before .before .before .before .before .before .before .before .before .args .weighed) (c .before .before .before .before .before .before .before .before .before .before .args .coordinates .now) (c .before .before .before .before .before .before .before .before .before .before .args .many)) (c .before .before .before .before .before .before .before .before .before .before .args .depth) (c .before .before .before .before .before .before .before .before .before .before .args .number) (c .before .before .before .before .before .before .before .before .before .before .pre .1 .2)) .bin), spot-sound (gridAt (c .before .before .before .before .before .before .before .before .before .before .args .level) (c .before .before .before .before .before .before .before .before .before .before .args .table .now) (c .before .before .before .before .before .before .before .before .before .before .args .reals .now) (c .before .before .before .before .before .before .before .before .before .before .args .counts .now)) (c .before .before .before .before .before .before .before .before .before .before .args .table .now) (c .before .before .before .before .before .before .before .before .before .before .args .reals .now) (c .before .before .before .before .before .before .before .before .before .before .args .counts .now) (c .before .before .before .before .before .before .before .before .before .before .args .w) (getD (c .before .before .before .before .before .before .before .before .before .before .args .table .now) ((c .before .before .before .before .before .before .before .before .before .before .args .w) + 2) 0) (headAt (c .before .before .before .before .before .before .before .before .before .before .args .table .now) (c .before .before .before .before .before .before .before .before .before .before .args .reals .now) (c .before .before .before .before .before .before .before .before .before .before .args .counts .now) (c .before .before .before .before .before .before .before .before .before .before .args .w)) (sampleIn (c .before .before .before .before .before .before .before .before .before .before .args .path .now) (c .before .before .before .before .before .before .before .before .before .before .args .levels) (c .before .before .before .before .before .before .before .before .before .before .args .weights .now) (c .before .before .before .before .before .before .before .before .before .before .args .weighed) (c .before .before .before .before .before .before .before .before .before .before .args .coordinates .now) (c .before .before .before .before .before .before .before .before .before .before .args .many)) (c .before .before .before .before .before .before .before .before .before .before .args .depth) (c .before .before .before .before .before .before .before .before .before .before .args .number) (c .before .before .before .before .before .before .before .before .before .before .pre .1 .2), (c .before .before .before .before .before .before .before .before .before .before .pre .1 .2) .number)
 
--- src/acceptance.rt:91:22
+-- src/acceptance.rt:125:22
 bins-accept-add-link : (t : ℕ) → bins-accept-lts.Need-add-link (
   fits-with-reads.Asked,
   fits-with-reads.Learnt,
   child-accepts-below t,
   child-accepts.Post,
 ) (bins-accept-at t) bins-accept.Post
-bins-accept-add-link t c = omega (arith, (c .before .before .before .before .before .before .before .before .before .before .before .pre .1 .0), (formed (gridAt (c .before .before .before .before .before .before .before .before .before .before .before .args .level) (c .before .before .before .before .before .before .before .before .before .before .before .args .table .now) (c .before .before .before .before .before .before .before .before .before .before .before .args .reals .now) (c .before .before .before .before .before .before .before .before .before .before .before .args .counts .now)) (c .before .before .before .before .before .before .before .before .before .before .before .args .table .now) (c .before .before .before .before .before .before .before .before .before .before .before .args .reals .now) (c .before .before .before .before .before .before .before .before .before .before .before .args .counts .now) (c .before .before .before .before .before .before .before .before .before .before .before .args .w) (getD (c .before .before .before .before .before .before .before .before .before .before .before .args .table .now) ((c .before .before .before .before .before .before .before .before .before .before .before .args .w) + 2) 0) (headAt (c .before .before .before .before .before .before .before .before .before .before .before .args .table .now) (c .before .before .before .before .before .before .before .before .before .before .before .args .reals .now) (c .before .before .before .before .before .before .before .before .before .before .before .args .counts .now) (c .before .before .before .before .before .before .before .before .before .before .before .args .w)) (c .before .before .before .before .before .before .before .before .before .before .before .args .s) (c .before .before .before .before .before .before .before .before .before .before .before .args .depth) (c .before .before .before .before .before .before .before .before .before .before .before .args .number) (c .before .before .before .before .before .before .before .before .before .before .before .pre .1 .2)) .bin)
+bins-accept-add-link t c = omega (arith, (c .before .before .before .before .before .before .before .before .before .before .before .pre .1 .0), (formed (gridAt (c .before .before .before .before .before .before .before .before .before .before .before .args .level) (c .before .before .before .before .before .before .before .before .before .before .before .args .table .now) (c .before .before .before .before .before .before .before .before .before .before .before .args .reals .now) (c .before .before .before .before .before .before .before .before .before .before .before .args .counts .now)) (c .before .before .before .before .before .before .before .before .before .before .before .args .table .now) (c .before .before .before .before .before .before .before .before .before .before .before .args .reals .now) (c .before .before .before .before .before .before .before .before .before .before .before .args .counts .now) (c .before .before .before .before .before .before .before .before .before .before .before .args .w) (getD (c .before .before .before .before .before .before .before .before .before .before .before .args .table .now) ((c .before .before .before .before .before .before .before .before .before .before .before .args .w) + 2) 0) (headAt (c .before .before .before .before .before .before .before .before .before .before .before .args .table .now) (c .before .before .before .before .before .before .before .before .before .before .before .args .reals .now) (c .before .before .before .before .before .before .before .before .before .before .before .args .counts .now) (c .before .before .before .before .before .before .before .before .before .before .before .args .w)) (sampleIn (c .before .before .before .before .before .before .before .before .before .before .before .args .path .now) (c .before .before .before .before .before .before .before .before .before .before .before .args .levels) (c .before .before .before .before .before .before .before .before .before .before .before .args .weights .now) (c .before .before .before .before .before .before .before .before .before .before .before .args .weighed) (c .before .before .before .before .before .before .before .before .before .before .before .args .coordinates .now) (c .before .before .before .before .before .before .before .before .before .before .before .args .many)) (c .before .before .before .before .before .before .before .before .before .before .before .args .depth) (c .before .before .before .before .before .before .before .before .before .before .before .args .number) (c .before .before .before .before .before .before .before .before .before .before .before .pre .1 .2)) .bin)
 
--- src/acceptance.rt:91:22
+-- src/acceptance.rt:125:22
 bins-accept-add-link-2 : (t : ℕ) → bins-accept-lts.Need-add-link-2 (
   fits-with-reads.Asked,
   fits-with-reads.Learnt,
   child-accepts-below t,
   child-accepts.Post,
 ) (bins-accept-at t) bins-accept.Post
-bins-accept-add-link-2 t c = omega (arith, (c .before .before .before .before .before .before .before .before .before .before .before .pre .1 .0), (formed (gridAt (c .before .before .before .before .before .before .before .before .before .before .before .args .level) (c .before .before .before .before .before .before .before .before .before .before .before .args .table .now) (c .before .before .before .before .before .before .before .before .before .before .before .args .reals .now) (c .before .before .before .before .before .before .before .before .before .before .before .args .counts .now)) (c .before .before .before .before .before .before .before .before .before .before .before .args .table .now) (c .before .before .before .before .before .before .before .before .before .before .before .args .reals .now) (c .before .before .before .before .before .before .before .before .before .before .before .args .counts .now) (c .before .before .before .before .before .before .before .before .before .before .before .args .w) (getD (c .before .before .before .before .before .before .before .before .before .before .before .args .table .now) ((c .before .before .before .before .before .before .before .before .before .before .before .args .w) + 2) 0) (headAt (c .before .before .before .before .before .before .before .before .before .before .before .args .table .now) (c .before .before .before .before .before .before .before .before .before .before .before .args .reals .now) (c .before .before .before .before .before .before .before .before .before .before .before .args .counts .now) (c .before .before .before .before .before .before .before .before .before .before .before .args .w)) (c .before .before .before .before .before .before .before .before .before .before .before .args .s) (c .before .before .before .before .before .before .before .before .before .before .before .args .depth) (c .before .before .before .before .before .before .before .before .before .before .before .args .number) (c .before .before .before .before .before .before .before .before .before .before .before .pre .1 .2)) .bin)
+bins-accept-add-link-2 t c = omega (arith, (c .before .before .before .before .before .before .before .before .before .before .before .pre .1 .0), (formed (gridAt (c .before .before .before .before .before .before .before .before .before .before .before .args .level) (c .before .before .before .before .before .before .before .before .before .before .before .args .table .now) (c .before .before .before .before .before .before .before .before .before .before .before .args .reals .now) (c .before .before .before .before .before .before .before .before .before .before .before .args .counts .now)) (c .before .before .before .before .before .before .before .before .before .before .before .args .table .now) (c .before .before .before .before .before .before .before .before .before .before .before .args .reals .now) (c .before .before .before .before .before .before .before .before .before .before .before .args .counts .now) (c .before .before .before .before .before .before .before .before .before .before .before .args .w) (getD (c .before .before .before .before .before .before .before .before .before .before .before .args .table .now) ((c .before .before .before .before .before .before .before .before .before .before .before .args .w) + 2) 0) (headAt (c .before .before .before .before .before .before .before .before .before .before .before .args .table .now) (c .before .before .before .before .before .before .before .before .before .before .before .args .reals .now) (c .before .before .before .before .before .before .before .before .before .before .before .args .counts .now) (c .before .before .before .before .before .before .before .before .before .before .before .args .w)) (sampleIn (c .before .before .before .before .before .before .before .before .before .before .before .args .path .now) (c .before .before .before .before .before .before .before .before .before .before .before .args .levels) (c .before .before .before .before .before .before .before .before .before .before .before .args .weights .now) (c .before .before .before .before .before .before .before .before .before .before .before .args .weighed) (c .before .before .before .before .before .before .before .before .before .before .before .args .coordinates .now) (c .before .before .before .before .before .before .before .before .before .before .before .args .many)) (c .before .before .before .before .before .before .before .before .before .before .before .args .depth) (c .before .before .before .before .before .before .before .before .before .before .before .args .number) (c .before .before .before .before .before .before .before .before .before .before .before .pre .1 .2)) .bin)
 
--- src/acceptance.rt:91:16
+-- src/acceptance.rt:125:16
 bins-accept-mul-link : (t : ℕ) → bins-accept-lts.Need-mul-link (
   fits-with-reads.Asked,
   fits-with-reads.Learnt,
   child-accepts-below t,
   child-accepts.Post,
 ) (bins-accept-at t) bins-accept.Post
-bins-accept-mul-link t c = omega (arith, (c .before .before .before .before .before .before .before .before .before .before .before .pre .1 .0), (formed (gridAt (c .before .before .before .before .before .before .before .before .before .before .before .args .level) (c .before .before .before .before .before .before .before .before .before .before .before .args .table .now) (c .before .before .before .before .before .before .before .before .before .before .before .args .reals .now) (c .before .before .before .before .before .before .before .before .before .before .before .args .counts .now)) (c .before .before .before .before .before .before .before .before .before .before .before .args .table .now) (c .before .before .before .before .before .before .before .before .before .before .before .args .reals .now) (c .before .before .before .before .before .before .before .before .before .before .before .args .counts .now) (c .before .before .before .before .before .before .before .before .before .before .before .args .w) (getD (c .before .before .before .before .before .before .before .before .before .before .before .args .table .now) ((c .before .before .before .before .before .before .before .before .before .before .before .args .w) + 2) 0) (headAt (c .before .before .before .before .before .before .before .before .before .before .before .args .table .now) (c .before .before .before .before .before .before .before .before .before .before .before .args .reals .now) (c .before .before .before .before .before .before .before .before .before .before .before .args .counts .now) (c .before .before .before .before .before .before .before .before .before .before .before .args .w)) (c .before .before .before .before .before .before .before .before .before .before .before .args .s) (c .before .before .before .before .before .before .before .before .before .before .before .args .depth) (c .before .before .before .before .before .before .before .before .before .before .before .args .number) (c .before .before .before .before .before .before .before .before .before .before .before .pre .1 .2)) .bin)
+bins-accept-mul-link t c = omega (arith, (c .before .before .before .before .before .before .before .before .before .before .before .pre .1 .0), (formed (gridAt (c .before .before .before .before .before .before .before .before .before .before .before .args .level) (c .before .before .before .before .before .before .before .before .before .before .before .args .table .now) (c .before .before .before .before .before .before .before .before .before .before .before .args .reals .now) (c .before .before .before .before .before .before .before .before .before .before .before .args .counts .now)) (c .before .before .before .before .before .before .before .before .before .before .before .args .table .now) (c .before .before .before .before .before .before .before .before .before .before .before .args .reals .now) (c .before .before .before .before .before .before .before .before .before .before .before .args .counts .now) (c .before .before .before .before .before .before .before .before .before .before .before .args .w) (getD (c .before .before .before .before .before .before .before .before .before .before .before .args .table .now) ((c .before .before .before .before .before .before .before .before .before .before .before .args .w) + 2) 0) (headAt (c .before .before .before .before .before .before .before .before .before .before .before .args .table .now) (c .before .before .before .before .before .before .before .before .before .before .before .args .reals .now) (c .before .before .before .before .before .before .before .before .before .before .before .args .counts .now) (c .before .before .before .before .before .before .before .before .before .before .before .args .w)) (sampleIn (c .before .before .before .before .before .before .before .before .before .before .before .args .path .now) (c .before .before .before .before .before .before .before .before .before .before .before .args .levels) (c .before .before .before .before .before .before .before .before .before .before .before .args .weights .now) (c .before .before .before .before .before .before .before .before .before .before .before .args .weighed) (c .before .before .before .before .before .before .before .before .before .before .before .args .coordinates .now) (c .before .before .before .before .before .before .before .before .before .before .before .args .many)) (c .before .before .before .before .before .before .before .before .before .before .before .args .depth) (c .before .before .before .before .before .before .before .before .before .before .before .args .number) (c .before .before .before .before .before .before .before .before .before .before .before .pre .1 .2)) .bin)
 
--- src/acceptance.rt:91:16
+-- src/acceptance.rt:125:16
 bins-accept-shared-slice-read-link : (t : ℕ) → bins-accept-lts.Need-shared-slice-read-link (
   fits-with-reads.Asked,
   fits-with-reads.Learnt,
   child-accepts-below t,
   child-accepts.Post,
 ) (bins-accept-at t) bins-accept.Post
-bins-accept-shared-slice-read-link t c = omega (arith, (c .before .before .before .before .before .before .before .before .before .before .before .before .pre .1 .0), (formed (gridAt (c .before .before .before .before .before .before .before .before .before .before .before .before .args .level) (c .before .before .before .before .before .before .before .before .before .before .before .before .args .table .now) (c .before .before .before .before .before .before .before .before .before .before .before .before .args .reals .now) (c .before .before .before .before .before .before .before .before .before .before .before .before .args .counts .now)) (c .before .before .before .before .before .before .before .before .before .before .before .before .args .table .now) (c .before .before .before .before .before .before .before .before .before .before .before .before .args .reals .now) (c .before .before .before .before .before .before .before .before .before .before .before .before .args .counts .now) (c .before .before .before .before .before .before .before .before .before .before .before .before .args .w) (getD (c .before .before .before .before .before .before .before .before .before .before .before .before .args .table .now) ((c .before .before .before .before .before .before .before .before .before .before .before .before .args .w) + 2) 0) (headAt (c .before .before .before .before .before .before .before .before .before .before .before .before .args .table .now) (c .before .before .before .before .before .before .before .before .before .before .before .before .args .reals .now) (c .before .before .before .before .before .before .before .before .before .before .before .before .args .counts .now) (c .before .before .before .before .before .before .before .before .before .before .before .before .args .w)) (c .before .before .before .before .before .before .before .before .before .before .before .before .args .s) (c .before .before .before .before .before .before .before .before .before .before .before .before .args .depth) (c .before .before .before .before .before .before .before .before .before .before .before .before .args .number) (c .before .before .before .before .before .before .before .before .before .before .before .before .pre .1 .2)) .bin)
+bins-accept-shared-slice-read-link t c = omega (arith, (c .before .before .before .before .before .before .before .before .before .before .before .before .pre .1 .0), (formed (gridAt (c .before .before .before .before .before .before .before .before .before .before .before .before .args .level) (c .before .before .before .before .before .before .before .before .before .before .before .before .args .table .now) (c .before .before .before .before .before .before .before .before .before .before .before .before .args .reals .now) (c .before .before .before .before .before .before .before .before .before .before .before .before .args .counts .now)) (c .before .before .before .before .before .before .before .before .before .before .before .before .args .table .now) (c .before .before .before .before .before .before .before .before .before .before .before .before .args .reals .now) (c .before .before .before .before .before .before .before .before .before .before .before .before .args .counts .now) (c .before .before .before .before .before .before .before .before .before .before .before .before .args .w) (getD (c .before .before .before .before .before .before .before .before .before .before .before .before .args .table .now) ((c .before .before .before .before .before .before .before .before .before .before .before .before .args .w) + 2) 0) (headAt (c .before .before .before .before .before .before .before .before .before .before .before .before .args .table .now) (c .before .before .before .before .before .before .before .before .before .before .before .before .args .reals .now) (c .before .before .before .before .before .before .before .before .before .before .before .before .args .counts .now) (c .before .before .before .before .before .before .before .before .before .before .before .before .args .w)) (sampleIn (c .before .before .before .before .before .before .before .before .before .before .before .before .args .path .now) (c .before .before .before .before .before .before .before .before .before .before .before .before .args .levels) (c .before .before .before .before .before .before .before .before .before .before .before .before .args .weights .now) (c .before .before .before .before .before .before .before .before .before .before .before .before .args .weighed) (c .before .before .before .before .before .before .before .before .before .before .before .before .args .coordinates .now) (c .before .before .before .before .before .before .before .before .before .before .before .before .args .many)) (c .before .before .before .before .before .before .before .before .before .before .before .before .args .depth) (c .before .before .before .before .before .before .before .before .before .before .before .before .args .number) (c .before .before .before .before .before .before .before .before .before .before .before .before .pre .1 .2)) .bin)
 
--- src/acceptance.rt:92:69
+-- src/acceptance.rt:135:9
 bins-accept-add-child-accepts : (t : ℕ) → bins-accept-lts.Need-add-child-accepts (
   fits-with-reads.Asked,
   fits-with-reads.Learnt,
@@ -352,7 +353,7 @@ bins-accept-add-child-accepts : (t : ℕ) → bins-accept-lts.Need-add-child-acc
 ) (bins-accept-at t) bins-accept.Post
 bins-accept-add-child-accepts t c = omega (arith, c .before .before .before .before .before .before .before .before .before .before .before .before .pre .1 .1)
 
--- src/acceptance.rt:92:9
+-- src/acceptance.rt:126:9
 bins-accept-child-accepts-requires : (t : ℕ) → bins-accept-lts.Need-child-accepts-requires (
   fits-with-reads.Asked,
   fits-with-reads.Learnt,
@@ -360,9 +361,9 @@ bins-accept-child-accepts-requires : (t : ℕ) → bins-accept-lts.Need-child-ac
   child-accepts.Post,
 ) (bins-accept-at t) bins-accept.Post
 unfolding ChildLaid
-bins-accept-child-accepts-requires t c κs = (omega (arith, c .before .before .before .before .before .before .before .before .before .before .before .before .pre .0), (λ z. (c .before .before .before .before .before .before .before .before .before .before .before .before .pre .1 .0) .children (getD ((c .before .before .before .before .before .before .before .before .before .before .before .before .args .s) .path) (c .before .before .before .before .before .before .before .before .before .before .before .before .args .depth) 0) ((formed (gridAt (c .before .before .before .before .before .before .before .before .before .before .before .before .args .level) (c .before .before .before .before .before .before .before .before .before .before .before .before .args .table .now) (c .before .before .before .before .before .before .before .before .before .before .before .before .args .reals .now) (c .before .before .before .before .before .before .before .before .before .before .before .before .args .counts .now)) (c .before .before .before .before .before .before .before .before .before .before .before .before .args .table .now) (c .before .before .before .before .before .before .before .before .before .before .before .before .args .reals .now) (c .before .before .before .before .before .before .before .before .before .before .before .before .args .counts .now) (c .before .before .before .before .before .before .before .before .before .before .before .before .args .w) (getD (c .before .before .before .before .before .before .before .before .before .before .before .before .args .table .now) ((c .before .before .before .before .before .before .before .before .before .before .before .before .args .w) + 2) 0) (headAt (c .before .before .before .before .before .before .before .before .before .before .before .before .args .table .now) (c .before .before .before .before .before .before .before .before .before .before .before .before .args .reals .now) (c .before .before .before .before .before .before .before .before .before .before .before .before .args .counts .now) (c .before .before .before .before .before .before .before .before .before .before .before .before .args .w)) (c .before .before .before .before .before .before .before .before .before .before .before .before .args .s) (c .before .before .before .before .before .before .before .before .before .before .before .before .args .depth) (c .before .before .before .before .before .before .before .before .before .before .before .before .args .number) (c .before .before .before .before .before .before .before .before .before .before .before .before .pre .1 .2)) .bin) z, omega (arith, c .before .before .before .before .before .before .before .before .before .before .before .before .pre .1 .1), takes-below (gridAt (c .before .before .before .before .before .before .before .before .before .before .before .before .args .level) (c .before .before .before .before .before .before .before .before .before .before .before .before .args .table .now) (c .before .before .before .before .before .before .before .before .before .before .before .before .args .reals .now) (c .before .before .before .before .before .before .before .before .before .before .before .before .args .counts .now)) (c .before .before .before .before .before .before .before .before .before .before .before .before .args .table .now) (c .before .before .before .before .before .before .before .before .before .before .before .before .args .reals .now) (c .before .before .before .before .before .before .before .before .before .before .before .before .args .counts .now) (c .before .before .before .before .before .before .before .before .before .before .before .before .args .w) (getD (c .before .before .before .before .before .before .before .before .before .before .before .before .args .table .now) ((c .before .before .before .before .before .before .before .before .before .before .before .before .args .w) + 2) 0) (headAt (c .before .before .before .before .before .before .before .before .before .before .before .before .args .table .now) (c .before .before .before .before .before .before .before .before .before .before .before .before .args .reals .now) (c .before .before .before .before .before .before .before .before .before .before .before .before .args .counts .now) (c .before .before .before .before .before .before .before .before .before .before .before .before .args .w)) (c .before .before .before .before .before .before .before .before .before .before .before .before .args .s) (c .before .before .before .before .before .before .before .before .before .before .before .before .args .depth) (c .before .before .before .before .before .before .before .before .before .before .before .before .args .number) (c .before .before .before .before .before .before .before .before .before .before .before .before .pre .1 .2)))
+bins-accept-child-accepts-requires t c κs = (omega (arith, c .before .before .before .before .before .before .before .before .before .before .before .before .pre .0), (λ z. (c .before .before .before .before .before .before .before .before .before .before .before .before .pre .1 .0) .children (getD (c .before .before .before .before .before .before .before .before .before .before .before .before .args .path .now) (c .before .before .before .before .before .before .before .before .before .before .before .before .args .depth) 0) ((formed (gridAt (c .before .before .before .before .before .before .before .before .before .before .before .before .args .level) (c .before .before .before .before .before .before .before .before .before .before .before .before .args .table .now) (c .before .before .before .before .before .before .before .before .before .before .before .before .args .reals .now) (c .before .before .before .before .before .before .before .before .before .before .before .before .args .counts .now)) (c .before .before .before .before .before .before .before .before .before .before .before .before .args .table .now) (c .before .before .before .before .before .before .before .before .before .before .before .before .args .reals .now) (c .before .before .before .before .before .before .before .before .before .before .before .before .args .counts .now) (c .before .before .before .before .before .before .before .before .before .before .before .before .args .w) (getD (c .before .before .before .before .before .before .before .before .before .before .before .before .args .table .now) ((c .before .before .before .before .before .before .before .before .before .before .before .before .args .w) + 2) 0) (headAt (c .before .before .before .before .before .before .before .before .before .before .before .before .args .table .now) (c .before .before .before .before .before .before .before .before .before .before .before .before .args .reals .now) (c .before .before .before .before .before .before .before .before .before .before .before .before .args .counts .now) (c .before .before .before .before .before .before .before .before .before .before .before .before .args .w)) (sampleIn (c .before .before .before .before .before .before .before .before .before .before .before .before .args .path .now) (c .before .before .before .before .before .before .before .before .before .before .before .before .args .levels) (c .before .before .before .before .before .before .before .before .before .before .before .before .args .weights .now) (c .before .before .before .before .before .before .before .before .before .before .before .before .args .weighed) (c .before .before .before .before .before .before .before .before .before .before .before .before .args .coordinates .now) (c .before .before .before .before .before .before .before .before .before .before .before .before .args .many)) (c .before .before .before .before .before .before .before .before .before .before .before .before .args .depth) (c .before .before .before .before .before .before .before .before .before .before .before .before .args .number) (c .before .before .before .before .before .before .before .before .before .before .before .before .pre .1 .2)) .bin) z, omega (arith, c .before .before .before .before .before .before .before .before .before .before .before .before .pre .1 .1), takes-below (gridAt (c .before .before .before .before .before .before .before .before .before .before .before .before .args .level) (c .before .before .before .before .before .before .before .before .before .before .before .before .args .table .now) (c .before .before .before .before .before .before .before .before .before .before .before .before .args .reals .now) (c .before .before .before .before .before .before .before .before .before .before .before .before .args .counts .now)) (c .before .before .before .before .before .before .before .before .before .before .before .before .args .table .now) (c .before .before .before .before .before .before .before .before .before .before .before .before .args .reals .now) (c .before .before .before .before .before .before .before .before .before .before .before .before .args .counts .now) (c .before .before .before .before .before .before .before .before .before .before .before .before .args .w) (getD (c .before .before .before .before .before .before .before .before .before .before .before .before .args .table .now) ((c .before .before .before .before .before .before .before .before .before .before .before .before .args .w) + 2) 0) (headAt (c .before .before .before .before .before .before .before .before .before .before .before .before .args .table .now) (c .before .before .before .before .before .before .before .before .before .before .before .before .args .reals .now) (c .before .before .before .before .before .before .before .before .before .before .before .before .args .counts .now) (c .before .before .before .before .before .before .before .before .before .before .before .before .args .w)) (sampleIn (c .before .before .before .before .before .before .before .before .before .before .before .before .args .path .now) (c .before .before .before .before .before .before .before .before .before .before .before .before .args .levels) (c .before .before .before .before .before .before .before .before .before .before .before .before .args .weights .now) (c .before .before .before .before .before .before .before .before .before .before .before .before .args .weighed) (c .before .before .before .before .before .before .before .before .before .before .before .before .args .coordinates .now) (c .before .before .before .before .before .before .before .before .before .before .before .before .args .many)) (c .before .before .before .before .before .before .before .before .before .before .before .before .args .depth) (c .before .before .before .before .before .before .before .before .before .before .before .before .args .number) (c .before .before .before .before .before .before .before .before .before .before .before .before .pre .1 .2)))
 
--- src/acceptance.rt:64:1
+-- src/acceptance.rt:92:1
 bins-accept-returns : (t : ℕ) → bins-accept-lts.Need-returns (
   fits-with-reads.Asked,
   fits-with-reads.Learnt,
@@ -370,31 +371,31 @@ bins-accept-returns : (t : ℕ) → bins-accept-lts.Need-returns (
   child-accepts.Post,
 ) (bins-accept-at t) bins-accept.Post
 unfolding binIn headAt
-bins-accept-returns t c = ap₂ _&&_ (c .before .before .before .fits-with .ensures) (ap₂ _&&_ (c .before .before .fits-with2 .ensures) (c .child-accepts .ensures)) ∙ bins-told (gridAt (c .before .before .before .before .before .before .before .before .before .before .before .before .before .args .level) (c .before .before .before .before .before .before .before .before .before .before .before .before .before .args .table .now) (c .before .before .before .before .before .before .before .before .before .before .before .before .before .args .reals .now) (c .before .before .before .before .before .before .before .before .before .before .before .before .before .args .counts .now)) (c .before .before .before .before .before .before .before .before .before .before .before .before .before .args .table .now) (c .before .before .before .before .before .before .before .before .before .before .before .before .before .args .reals .now) (c .before .before .before .before .before .before .before .before .before .before .before .before .before .args .counts .now) (c .before .before .before .before .before .before .before .before .before .before .before .before .before .args .w) (getD (c .before .before .before .before .before .before .before .before .before .before .before .before .before .args .table .now) ((c .before .before .before .before .before .before .before .before .before .before .before .before .before .args .w) + 2) 0) (headAt (c .before .before .before .before .before .before .before .before .before .before .before .before .before .args .table .now) (c .before .before .before .before .before .before .before .before .before .before .before .before .before .args .reals .now) (c .before .before .before .before .before .before .before .before .before .before .before .before .before .args .counts .now) (c .before .before .before .before .before .before .before .before .before .before .before .before .before .args .w)) (c .before .before .before .before .before .before .before .before .before .before .before .before .before .args .s) (c .before .before .before .before .before .before .before .before .before .before .before .before .before .args .depth) (c .before .before .before .before .before .before .before .before .before .before .before .before .before .args .number) (c .before .before .before .before .before .before .before .before .before .before .before .before .before .pre .1 .2) (c .before .before .before .before .before .before .before .before .before .before .before .before .before .args .evaluation)
+bins-accept-returns t c = ap₂ _&&_ (c .before .before .before .fits-with .ensures) (ap₂ _&&_ (c .before .before .fits-with2 .ensures) (c .child-accepts .ensures)) ∙ bins-told (gridAt (c .before .before .before .before .before .before .before .before .before .before .before .before .before .args .level) (c .before .before .before .before .before .before .before .before .before .before .before .before .before .args .table .now) (c .before .before .before .before .before .before .before .before .before .before .before .before .before .args .reals .now) (c .before .before .before .before .before .before .before .before .before .before .before .before .before .args .counts .now)) (c .before .before .before .before .before .before .before .before .before .before .before .before .before .args .table .now) (c .before .before .before .before .before .before .before .before .before .before .before .before .before .args .reals .now) (c .before .before .before .before .before .before .before .before .before .before .before .before .before .args .counts .now) (c .before .before .before .before .before .before .before .before .before .before .before .before .before .args .w) (getD (c .before .before .before .before .before .before .before .before .before .before .before .before .before .args .table .now) ((c .before .before .before .before .before .before .before .before .before .before .before .before .before .args .w) + 2) 0) (headAt (c .before .before .before .before .before .before .before .before .before .before .before .before .before .args .table .now) (c .before .before .before .before .before .before .before .before .before .before .before .before .before .args .reals .now) (c .before .before .before .before .before .before .before .before .before .before .before .before .before .args .counts .now) (c .before .before .before .before .before .before .before .before .before .before .before .before .before .args .w)) (sampleIn (c .before .before .before .before .before .before .before .before .before .before .before .before .before .args .path .now) (c .before .before .before .before .before .before .before .before .before .before .before .before .before .args .levels) (c .before .before .before .before .before .before .before .before .before .before .before .before .before .args .weights .now) (c .before .before .before .before .before .before .before .before .before .before .before .before .before .args .weighed) (c .before .before .before .before .before .before .before .before .before .before .before .before .before .args .coordinates .now) (c .before .before .before .before .before .before .before .before .before .before .before .before .before .args .many)) (c .before .before .before .before .before .before .before .before .before .before .before .before .before .args .depth) (c .before .before .before .before .before .before .before .before .before .before .before .before .before .args .number) (c .before .before .before .before .before .before .before .before .before .before .before .before .before .pre .1 .2) (c .before .before .before .before .before .before .before .before .before .before .before .before .before .args .evaluation)
 
--- src/acceptance.rt:58:9
+-- src/acceptance.rt:70:9
 child-accepts-returns : (t : ℕ) → child-accepts-lts.Need-returns (
   grid-accepts-below t,
   grid-accepts.Post,
 ) (child-accepts-at t) child-accepts.Post
-child-accepts-returns t c = none-told (gridAt (c .before .before .before .before .args .level) (c .before .before .before .before .args .table .now) (c .before .before .before .before .args .reals .now) (c .before .before .before .before .args .counts .now)) (c .before .before .before .before .args .link) (pathLeft (c .before .before .before .before .args .s) (c .before .before .before .before .args .depth)) (weightsLeft (c .before .before .before .before .args .s) (c .before .before .before .before .args .depth)) (placesIn (c .before .before .before .before .args .s)) (c .before .before .before .before .args .evaluation) (c .before .before .before .before .args .number) (c .if1 .taken)
+child-accepts-returns t c = none-told (gridAt (c .before .before .before .before .args .level) (c .before .before .before .before .args .table .now) (c .before .before .before .before .args .reals .now) (c .before .before .before .before .args .counts .now)) (c .before .before .before .before .args .link) (pathLeft (sampleIn (c .before .before .before .before .args .path .now) (c .before .before .before .before .args .levels) (c .before .before .before .before .args .weights .now) (c .before .before .before .before .args .weighed) (c .before .before .before .before .args .coordinates .now) (c .before .before .before .before .args .many)) (c .before .before .before .before .args .depth)) (weightsLeft (sampleIn (c .before .before .before .before .args .path .now) (c .before .before .before .before .args .levels) (c .before .before .before .before .args .weights .now) (c .before .before .before .before .args .weighed) (c .before .before .before .before .args .coordinates .now) (c .before .before .before .before .args .many)) (c .before .before .before .before .args .depth)) (placesIn (sampleIn (c .before .before .before .before .args .path .now) (c .before .before .before .before .args .levels) (c .before .before .before .before .args .weights .now) (c .before .before .before .before .args .weighed) (c .before .before .before .before .args .coordinates .now) (c .before .before .before .before .args .many))) (c .before .before .before .before .args .evaluation) (c .before .before .before .before .args .number) (c .if1 .taken)
 
--- src/acceptance.rt:60:5
+-- src/acceptance.rt:72:5
 child-accepts-grid-accepts-requires : (t : ℕ) → child-accepts-lts.Need-grid-accepts-requires (
   grid-accepts-below t,
   grid-accepts.Post,
 ) (child-accepts-at t) child-accepts.Post
 unfolding ChildLaid
-child-accepts-grid-accepts-requires t c κs = (omega (arith, c .before .before .before .before .pre .0), (c .before .before .before .before .pre .1 .0 (c .if1 .left), c .before .before .before .before .pre .1 .1, takes-grid (gridAt (c .before .before .before .before .args .level) (c .before .before .before .before .args .table .now) (c .before .before .before .before .args .reals .now) (c .before .before .before .before .args .counts .now)) (c .before .before .before .before .args .link) (c .before .before .before .before .args .s) (c .before .before .before .before .args .depth) (c .before .before .before .before .args .number) (c .if1 .left) (c .before .before .before .before .pre .1 .2)))
+child-accepts-grid-accepts-requires t c κs = (omega (arith, c .before .before .before .before .pre .0), (c .before .before .before .before .pre .1 .0 (c .if1 .left), c .before .before .before .before .pre .1 .1, takes-grid (gridAt (c .before .before .before .before .args .level) (c .before .before .before .before .args .table .now) (c .before .before .before .before .args .reals .now) (c .before .before .before .before .args .counts .now)) (c .before .before .before .before .args .link) (sampleIn (c .before .before .before .before .args .path .now) (c .before .before .before .before .args .levels) (c .before .before .before .before .args .weights .now) (c .before .before .before .before .args .weighed) (c .before .before .before .before .args .coordinates .now) (c .before .before .before .before .args .many)) (c .before .before .before .before .args .depth) (c .before .before .before .before .args .number) (c .if1 .left) (c .before .before .before .before .pre .1 .2)))
 
--- src/acceptance.rt:43:1
+-- src/acceptance.rt:49:1
 child-accepts-returns-2 : (t : ℕ) → child-accepts-lts.Need-returns-2 (
   grid-accepts-below t,
   grid-accepts.Post,
 ) (child-accepts-at t) child-accepts.Post
-child-accepts-returns-2 t c = c .grid-accepts .ensures ∙ grid-told (gridAt (c .before .before .before .before .before .args .level) (c .before .before .before .before .before .args .table .now) (c .before .before .before .before .before .args .reals .now) (c .before .before .before .before .before .args .counts .now)) (c .before .before .before .before .before .args .link) (pathLeft (c .before .before .before .before .before .args .s) (c .before .before .before .before .before .args .depth)) (weightsLeft (c .before .before .before .before .before .args .s) (c .before .before .before .before .before .args .depth)) (placesIn (c .before .before .before .before .before .args .s)) (c .before .before .before .before .before .args .evaluation) (c .before .before .before .before .before .args .number) (c .before .if1 .left)
+child-accepts-returns-2 t c = c .grid-accepts .ensures ∙ grid-told (gridAt (c .before .before .before .before .before .args .level) (c .before .before .before .before .before .args .table .now) (c .before .before .before .before .before .args .reals .now) (c .before .before .before .before .before .args .counts .now)) (c .before .before .before .before .before .args .link) (pathLeft (sampleIn (c .before .before .before .before .before .args .path .now) (c .before .before .before .before .before .args .levels) (c .before .before .before .before .before .args .weights .now) (c .before .before .before .before .before .args .weighed) (c .before .before .before .before .before .args .coordinates .now) (c .before .before .before .before .before .args .many)) (c .before .before .before .before .before .args .depth)) (weightsLeft (sampleIn (c .before .before .before .before .before .args .path .now) (c .before .before .before .before .before .args .levels) (c .before .before .before .before .before .args .weights .now) (c .before .before .before .before .before .args .weighed) (c .before .before .before .before .before .args .coordinates .now) (c .before .before .before .before .before .args .many)) (c .before .before .before .before .before .args .depth)) (placesIn (sampleIn (c .before .before .before .before .before .args .path .now) (c .before .before .before .before .before .args .levels) (c .before .before .before .before .before .args .weights .now) (c .before .before .before .before .before .args .weighed) (c .before .before .before .before .before .args .coordinates .now) (c .before .before .before .before .before .args .many))) (c .before .before .before .before .before .args .evaluation) (c .before .before .before .before .before .args .number) (c .before .if1 .left)
 
--- src/acceptance.rt:111:8
+-- src/acceptance.rt:167:8
 grid-accepts-mul-if1 : (t : ℕ) → grid-accepts-lts.Need-mul-if1 (
   axes-accept-reads.Asked,
   axes-accept-reads.Learnt,
@@ -403,7 +404,7 @@ grid-accepts-mul-if1 : (t : ℕ) → grid-accepts-lts.Need-mul-if1 (
 ) (grid-accepts-at t) grid-accepts.Post
 grid-accepts-mul-if1 t c = let q = (laid-head (c .before .before .before .args .level) (c .before .before .before .args .table .now) (length (c .before .before .before .args .reals .now)) (length (c .before .before .before .args .counts .now)) (c .before .before .before .args .w) (c .before .before .before .pre .1 .0)) in omega arith
 
--- src/acceptance.rt:111:8
+-- src/acceptance.rt:167:8
 grid-accepts-shared-slice-read-if1 : (t : ℕ) → grid-accepts-lts.Need-shared-slice-read-if1 (
   axes-accept-reads.Asked,
   axes-accept-reads.Learnt,
@@ -412,25 +413,25 @@ grid-accepts-shared-slice-read-if1 : (t : ℕ) → grid-accepts-lts.Need-shared-
 ) (grid-accepts-at t) grid-accepts.Post
 grid-accepts-shared-slice-read-if1 t c = let q = (laid-head (c .before .before .before .before .args .level) (c .before .before .before .before .args .table .now) (length (c .before .before .before .before .args .reals .now)) (length (c .before .before .before .before .args .counts .now)) (c .before .before .before .before .args .w) (c .before .before .before .before .pre .1 .0)) in omega arith
 
--- src/acceptance.rt:112:9
+-- src/acceptance.rt:168:9
 grid-accepts-axes-accept-requires : (t : ℕ) → grid-accepts-lts.Need-axes-accept-requires (
   axes-accept-reads.Asked,
   axes-accept-reads.Learnt,
   bins-accept-below t,
   bins-accept.Post,
 ) (grid-accepts-at t) grid-accepts.Post
-grid-accepts-axes-accept-requires t c κs = ((laid-axes (c .before .before .before .before .before .args .level) (c .before .before .before .before .before .args .table .now) (length (c .before .before .before .before .before .args .reals .now)) (length (c .before .before .before .before .before .args .counts .now)) (c .before .before .before .before .before .args .w) (c .before .before .before .before .before .pre .1 .0) (c .if1 .taken)), omega (arith, c .before .before .before .before .before .pre .1 .1), subst (λ (g : Grid). Takes g (c .before .before .before .before .before .args .s) (c .before .before .before .before .before .args .depth) (c .before .before .before .before .before .args .number)) (node-axes (c .before .before .before .before .before .args .level) (c .before .before .before .before .before .args .table .now) (c .before .before .before .before .before .args .reals .now) (c .before .before .before .before .before .args .counts .now) (c .before .before .before .before .before .args .w) (c .if1 .taken)) (c .before .before .before .before .before .pre .1 .2))
+grid-accepts-axes-accept-requires t c κs = ((laid-axes (c .before .before .before .before .before .args .level) (c .before .before .before .before .before .args .table .now) (length (c .before .before .before .before .before .args .reals .now)) (length (c .before .before .before .before .before .args .counts .now)) (c .before .before .before .before .before .args .w) (c .before .before .before .before .before .pre .1 .0) (c .if1 .taken)), omega (arith, c .before .before .before .before .before .pre .1 .1), subst (λ (g : Grid). Takes g (sampleIn (c .before .before .before .before .before .args .path .now) (c .before .before .before .before .before .args .levels) (c .before .before .before .before .before .args .weights .now) (c .before .before .before .before .before .args .weighed) (c .before .before .before .before .before .args .coordinates .now) (c .before .before .before .before .before .args .many)) (c .before .before .before .before .before .args .depth) (c .before .before .before .before .before .args .number)) (node-axes (c .before .before .before .before .before .args .level) (c .before .before .before .before .before .args .table .now) (c .before .before .before .before .before .args .reals .now) (c .before .before .before .before .before .args .counts .now) (c .before .before .before .before .before .args .w) (c .if1 .taken)) (c .before .before .before .before .before .pre .1 .2))
 
--- src/acceptance.rt:112:9
+-- src/acceptance.rt:168:9
 grid-accepts-returns : (t : ℕ) → grid-accepts-lts.Need-returns (
   axes-accept-reads.Asked,
   axes-accept-reads.Learnt,
   bins-accept-below t,
   bins-accept.Post,
 ) (grid-accepts-at t) grid-accepts.Post
-grid-accepts-returns t c = c .axes-accept .ensures ∙ ap (λ (g : Grid). keptGrid (trainGrid g (pathLeft (c .before .before .before .before .before .before .args .s) (c .before .before .before .before .before .before .args .depth)) (weightsLeft (c .before .before .before .before .before .before .args .s) (c .before .before .before .before .before .before .args .depth)) (placesIn (c .before .before .before .before .before .before .args .s)) (c .before .before .before .before .before .before .args .evaluation) (c .before .before .before .before .before .before .args .number))) (sym (node-axes (c .before .before .before .before .before .before .args .level) (c .before .before .before .before .before .before .args .table .now) (c .before .before .before .before .before .before .args .reals .now) (c .before .before .before .before .before .before .args .counts .now) (c .before .before .before .before .before .before .args .w) (c .before .if1 .taken)))
+grid-accepts-returns t c = c .axes-accept .ensures ∙ ap (λ (g : Grid). keptGrid (trainGrid g (pathLeft (sampleIn (c .before .before .before .before .before .before .args .path .now) (c .before .before .before .before .before .before .args .levels) (c .before .before .before .before .before .before .args .weights .now) (c .before .before .before .before .before .before .args .weighed) (c .before .before .before .before .before .before .args .coordinates .now) (c .before .before .before .before .before .before .args .many)) (c .before .before .before .before .before .before .args .depth)) (weightsLeft (sampleIn (c .before .before .before .before .before .before .args .path .now) (c .before .before .before .before .before .before .args .levels) (c .before .before .before .before .before .before .args .weights .now) (c .before .before .before .before .before .before .args .weighed) (c .before .before .before .before .before .before .args .coordinates .now) (c .before .before .before .before .before .before .args .many)) (c .before .before .before .before .before .before .args .depth)) (placesIn (sampleIn (c .before .before .before .before .before .before .args .path .now) (c .before .before .before .before .before .before .args .levels) (c .before .before .before .before .before .before .args .weights .now) (c .before .before .before .before .before .before .args .weighed) (c .before .before .before .before .before .before .args .coordinates .now) (c .before .before .before .before .before .before .args .many))) (c .before .before .before .before .before .before .args .evaluation) (c .before .before .before .before .before .before .args .number))) (sym (node-axes (c .before .before .before .before .before .before .args .level) (c .before .before .before .before .before .before .args .table .now) (c .before .before .before .before .before .before .args .reals .now) (c .before .before .before .before .before .before .args .counts .now) (c .before .before .before .before .before .before .args .w) (c .before .if1 .taken)))
 
--- src/acceptance.rt:114:39
+-- src/acceptance.rt:174:9
 grid-accepts-sub-bins-accept : (t : ℕ) → grid-accepts-lts.Need-sub-bins-accept (
   axes-accept-reads.Asked,
   axes-accept-reads.Learnt,
@@ -439,23 +440,23 @@ grid-accepts-sub-bins-accept : (t : ℕ) → grid-accepts-lts.Need-sub-bins-acce
 ) (grid-accepts-at t) grid-accepts.Post
 grid-accepts-sub-bins-accept t c = omega (arith, (laid-bins (c .before .before .before .before .before .args .level) (c .before .before .before .before .before .args .table .now) (length (c .before .before .before .before .before .args .reals .now)) (length (c .before .before .before .before .before .args .counts .now)) (c .before .before .before .before .before .args .w) (c .before .before .before .before .before .pre .1 .0) (c .if1 .left)) .level)
 
--- src/acceptance.rt:114:5
+-- src/acceptance.rt:170:5
 grid-accepts-bins-accept-requires : (t : ℕ) → grid-accepts-lts.Need-bins-accept-requires (
   axes-accept-reads.Asked,
   axes-accept-reads.Learnt,
   bins-accept-below t,
   bins-accept.Post,
 ) (grid-accepts-at t) grid-accepts.Post
-grid-accepts-bins-accept-requires t c κs = (omega (arith, c .before .before .before .before .before .pre .0, (laid-bins (c .before .before .before .before .before .args .level) (c .before .before .before .before .before .args .table .now) (length (c .before .before .before .before .before .args .reals .now)) (length (c .before .before .before .before .before .args .counts .now)) (c .before .before .before .before .before .args .w) (c .before .before .before .before .before .pre .1 .0) (c .if1 .left)) .level), ((laid-bins (c .before .before .before .before .before .args .level) (c .before .before .before .before .before .args .table .now) (length (c .before .before .before .before .before .args .reals .now)) (length (c .before .before .before .before .before .args .counts .now)) (c .before .before .before .before .before .args .w) (c .before .before .before .before .before .pre .1 .0) (c .if1 .left)) .bins, omega (arith, c .before .before .before .before .before .pre .1 .1, (laid-bins (c .before .before .before .before .before .args .level) (c .before .before .before .before .before .args .table .now) (length (c .before .before .before .before .before .args .reals .now)) (length (c .before .before .before .before .before .args .counts .now)) (c .before .before .before .before .before .args .w) (c .before .before .before .before .before .pre .1 .0) (c .if1 .left)) .level), subst (λ (g : Grid). Takes g (c .before .before .before .before .before .args .s) (c .before .before .before .before .before .args .depth) (c .before .before .before .before .before .args .number)) (node-bins (c .before .before .before .before .before .args .level) (c .before .before .before .before .before .args .table .now) (c .before .before .before .before .before .args .reals .now) (c .before .before .before .before .before .args .counts .now) (c .before .before .before .before .before .args .w) (c .if1 .left) ((laid-bins (c .before .before .before .before .before .args .level) (c .before .before .before .before .before .args .table .now) (length (c .before .before .before .before .before .args .reals .now)) (length (c .before .before .before .before .before .args .counts .now)) (c .before .before .before .before .before .args .w) (c .before .before .before .before .before .pre .1 .0) (c .if1 .left)) .level)) (c .before .before .before .before .before .pre .1 .2)))
+grid-accepts-bins-accept-requires t c κs = (omega (arith, c .before .before .before .before .before .pre .0, (laid-bins (c .before .before .before .before .before .args .level) (c .before .before .before .before .before .args .table .now) (length (c .before .before .before .before .before .args .reals .now)) (length (c .before .before .before .before .before .args .counts .now)) (c .before .before .before .before .before .args .w) (c .before .before .before .before .before .pre .1 .0) (c .if1 .left)) .level), ((laid-bins (c .before .before .before .before .before .args .level) (c .before .before .before .before .before .args .table .now) (length (c .before .before .before .before .before .args .reals .now)) (length (c .before .before .before .before .before .args .counts .now)) (c .before .before .before .before .before .args .w) (c .before .before .before .before .before .pre .1 .0) (c .if1 .left)) .bins, omega (arith, c .before .before .before .before .before .pre .1 .1, (laid-bins (c .before .before .before .before .before .args .level) (c .before .before .before .before .before .args .table .now) (length (c .before .before .before .before .before .args .reals .now)) (length (c .before .before .before .before .before .args .counts .now)) (c .before .before .before .before .before .args .w) (c .before .before .before .before .before .pre .1 .0) (c .if1 .left)) .level), subst (λ (g : Grid). Takes g (sampleIn (c .before .before .before .before .before .args .path .now) (c .before .before .before .before .before .args .levels) (c .before .before .before .before .before .args .weights .now) (c .before .before .before .before .before .args .weighed) (c .before .before .before .before .before .args .coordinates .now) (c .before .before .before .before .before .args .many)) (c .before .before .before .before .before .args .depth) (c .before .before .before .before .before .args .number)) (node-bins (c .before .before .before .before .before .args .level) (c .before .before .before .before .before .args .table .now) (c .before .before .before .before .before .args .reals .now) (c .before .before .before .before .before .args .counts .now) (c .before .before .before .before .before .args .w) (c .if1 .left) ((laid-bins (c .before .before .before .before .before .args .level) (c .before .before .before .before .before .args .table .now) (length (c .before .before .before .before .before .args .reals .now)) (length (c .before .before .before .before .before .args .counts .now)) (c .before .before .before .before .before .args .w) (c .before .before .before .before .before .pre .1 .0) (c .if1 .left)) .level)) (c .before .before .before .before .before .pre .1 .2)))
 
--- src/acceptance.rt:97:1
+-- src/acceptance.rt:147:1
 grid-accepts-returns-2 : (t : ℕ) → grid-accepts-lts.Need-returns-2 (
   axes-accept-reads.Asked,
   axes-accept-reads.Learnt,
   bins-accept-below t,
   bins-accept.Post,
 ) (grid-accepts-at t) grid-accepts.Post
-grid-accepts-returns-2 t c = c .bins-accept .ensures ∙ ap (λ (g : Grid). keptGrid (trainGrid g (pathLeft (c .before .before .before .before .before .before .args .s) (c .before .before .before .before .before .before .args .depth)) (weightsLeft (c .before .before .before .before .before .before .args .s) (c .before .before .before .before .before .before .args .depth)) (placesIn (c .before .before .before .before .before .before .args .s)) (c .before .before .before .before .before .before .args .evaluation) (c .before .before .before .before .before .before .args .number))) (sym (node-bins (c .before .before .before .before .before .before .args .level) (c .before .before .before .before .before .before .args .table .now) (c .before .before .before .before .before .before .args .reals .now) (c .before .before .before .before .before .before .args .counts .now) (c .before .before .before .before .before .before .args .w) (c .before .if1 .left) ((laid-bins (c .before .before .before .before .before .before .args .level) (c .before .before .before .before .before .before .args .table .now) (length (c .before .before .before .before .before .before .args .reals .now)) (length (c .before .before .before .before .before .before .args .counts .now)) (c .before .before .before .before .before .before .args .w) (c .before .before .before .before .before .before .pre .1 .0) (c .before .if1 .left)) .level)))
+grid-accepts-returns-2 t c = c .bins-accept .ensures ∙ ap (λ (g : Grid). keptGrid (trainGrid g (pathLeft (sampleIn (c .before .before .before .before .before .before .args .path .now) (c .before .before .before .before .before .before .args .levels) (c .before .before .before .before .before .before .args .weights .now) (c .before .before .before .before .before .before .args .weighed) (c .before .before .before .before .before .before .args .coordinates .now) (c .before .before .before .before .before .before .args .many)) (c .before .before .before .before .before .before .args .depth)) (weightsLeft (sampleIn (c .before .before .before .before .before .before .args .path .now) (c .before .before .before .before .before .before .args .levels) (c .before .before .before .before .before .before .args .weights .now) (c .before .before .before .before .before .before .args .weighed) (c .before .before .before .before .before .before .args .coordinates .now) (c .before .before .before .before .before .before .args .many)) (c .before .before .before .before .before .before .args .depth)) (placesIn (sampleIn (c .before .before .before .before .before .before .args .path .now) (c .before .before .before .before .before .before .args .levels) (c .before .before .before .before .before .before .args .weights .now) (c .before .before .before .before .before .before .args .weighed) (c .before .before .before .before .before .before .args .coordinates .now) (c .before .before .before .before .before .before .args .many))) (c .before .before .before .before .before .before .args .evaluation) (c .before .before .before .before .before .before .args .number))) (sym (node-bins (c .before .before .before .before .before .before .args .level) (c .before .before .before .before .before .before .args .table .now) (c .before .before .before .before .before .before .args .reals .now) (c .before .before .before .before .before .before .args .counts .now) (c .before .before .before .before .before .before .args .w) (c .before .if1 .left) ((laid-bins (c .before .before .before .before .before .before .args .level) (c .before .before .before .before .before .before .args .table .now) (length (c .before .before .before .before .before .before .args .reals .now)) (length (c .before .before .before .before .before .before .args .counts .now)) (c .before .before .before .before .before .before .args .w) (c .before .before .before .before .before .before .pre .1 .0) (c .before .if1 .left)) .level)))
 
 pub +bins-accept+child-accepts+grid-accepts-spec : {M : Type 1} → statement M
 +bins-accept+child-accepts+grid-accepts-spec =
@@ -468,9 +469,9 @@ pub +bins-accept+child-accepts+grid-accepts-spec : {M : Type 1} → statement M
     (bins-accept-at t)
     bins-accept.Post
     (bins-accept-mul-bin t)
-    (bins-accept-array-read-bin t)
+    (bins-accept-element-copy-out-bin t)
     (bins-accept-mul-weight t)
-    (bins-accept-array-read-weight t)
+    (bins-accept-element-copy-out-weight t)
     (bins-accept-add-n t)
     (bins-accept-mul-n t)
     (bins-accept-shared-slice-read-n t)
