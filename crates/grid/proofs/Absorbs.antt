@@ -13,7 +13,7 @@ use Rattle.grid.specs.Memory.{Memory, stored}
 use Rattle.grid.specs.Drawn.{axesAt}
 use Rattle.grid.specs.Tree.{axesPlace}
 use Rattle.grid.specs.Trained.{binsOn, trainedOver}
-use Rattle.grid.specs.Absorbed.{placesIn, joinedAt, absorbedAxes, absorbedChild, absorbedBin, absorbedBins, absorbedNode, absorbed}
+use Rattle.grid.specs.Absorbed.{placesIn, joinedAt, absorbedAxes, absorbedChild, absorbedBin, absorbedBins, absorbedNode, absorbed, admitted}
 
 module _ (table : List ℕ) (s : Sample) (e : Float) (number w d : ℕ) where
   pub axes-absorbed : (m t u : Memory) (g : AxesAt) (is : List ℕ) (own : StatisticsAccumulator) → g ≡ axesPlace table w
@@ -62,3 +62,14 @@ module _ (table : List ℕ) (s : Sample) (e : Float) (number w d : ℕ) (m : Mem
   unfolding absorbed absorbedNode
   absorbed-bins zero n h = absurd (omega arith)
   absorbed-bins (suc l) n h = let z : suc l - 1 ≡ l = omega arith in rw (z, ne-eqb (getD table w 0) 1 n)
+
+-- ---- whether the root takes it
+
+module _ (n : ℕ) (table : List ℕ) (s : Sample) (e : Float) (number : ℕ) (m : Memory) where
+  pub admitted-all : n ≡ 0 → admitted n table s e number m ≡ absorbed 4 table s e number 0 0 m
+  unfolding admitted
+  admitted-all h = rw h
+
+  pub admitted-none : (n ≡ 0 → ⊥) → admitted n table s e number m ≡ m
+  unfolding admitted
+  admitted-none z = rw (ne-eqb n 0 z)

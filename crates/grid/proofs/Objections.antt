@@ -20,10 +20,11 @@ use Rattle.grid.specs.Tree.{axesGridAt, headAt, childIn, binsIn, nodeAt,
 use Rattle.grid.specs.Sampled.{entries, sampleOf}
 use Rattle.grid.specs.Trained.{nothingFault}
 use Rattle.grid.specs.State.{rootOf, stateFault}
-use Rattle.grid.specs.Absorbed.{pathLeft, weightsLeft, placesIn, Takes, absorbed, objectionOf}
+use Rattle.grid.specs.Absorbed.{pathLeft, weightsLeft, placesIn, Takes, absorbed, objectionOf, admitted}
 use Rattle.grid.specs.Calls.{stateEnd, trainedBy, trainCallOf}
 use Rattle.grid.proofs.States.{refused-first, answered-last}
 use Rattle.grid.proofs.Fitting.{many-left, axes-form, nothing-form}
+use Rattle.grid.proofs.Absorbs.{admitted-none}
 use Rattle.grid.proofs.Accepts.{form-is}
 
 -- ---- a sample of a grid's form has a weight for each level at most, and one more
@@ -196,3 +197,11 @@ module _ (table : List ℕ) (m : Memory) (s : Sample) (e : Float) (k : ℕ) wher
   train-done m′ c q h =
       ap (stateEnd 0) h
       ∙ sym (ap (trainedBy table m s e k) (answered-last (stateFault table (m .reals) (m .counts)) told c ∙ grants (rootOf table (m .reals) (m .counts)) s e k q .gave))
+
+  -- the sample is taken in where nothing stands against it
+  pub train-admits : (n : ℕ) (m′ : Memory) → stateFault table (m .reals) (m .counts) ≡ 0 → n ≡ objectionOf told → m′ ≡ admitted n table s e k m → stateEnd n m′ ≡ trainCallOf table m s e k
+  unfolding admitted
+  train-admits zero m′ c q h = train-done m′ c (sym q) h
+  train-admits (suc n) m′ c q h =
+      let z : suc n ≡ 0 → ⊥ = λ f. omega (arith, f) in
+      ap (stateEnd (suc n)) (h ∙ admitted-none (suc n) table s e k m z) ∙ train-objection (suc n) c q z

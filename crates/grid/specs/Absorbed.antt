@@ -90,3 +90,7 @@ absorbed (suc l) table s e number w d m = absorbedNode (absorbed l table s e num
 unfoldable pub objectionOf : Paper Grid → ℕ
 objectionOf (gives g) = 0
 objectionOf (refuses n) = n
+
+-- a memory whose root takes a sample where nothing stands against it
+unfoldable pub admitted : ℕ → List ℕ → Sample → Float → ℕ → Memory → Memory
+admitted n table s e number m = cond (eqb n 0) (absorbed 4 table s e number 0 0 m) m

@@ -1,12 +1,17 @@
 // A sample taken into the tree: the new records are read first, what hangs below is written first, so that all sees memory as it was.
 ghost use mathlib.Core.Path.{_≡_};
+ghost use mathlib.Core.Bool.{true};
 ghost use Prim.Native.Nat.{_+_, _≤_};
 ghost use lib.ListN.{length, getD};
 ghost use Rattle.model.specs.Grid.{axes, bins};
+ghost use Rattle.model.specs.Sound.{sound};
+ghost use Rattle.model.specs.Train.{trainOf};
+ghost use Rattle.grid.specs.State.{rootOf};
 ghost use Rattle.grid.specs.Memory.{memory};
 ghost use Rattle.grid.specs.Tree.{axesGridAt, headAt, childIn, binsIn, gridAt, AxesLaid, BinsLaid, Laid};
-ghost use Rattle.grid.specs.Sampled.{sampleIn, ChildLaid};
-ghost use Rattle.grid.specs.Absorbed.{Takes, TakesChild, absorbedAxes, absorbedChild, absorbedBins, absorbed};
+ghost use Rattle.grid.specs.Sampled.{sampleIn, sampleOf, ChildLaid};
+ghost use Rattle.grid.specs.Absorbed.{Takes, TakesChild, absorbedAxes, absorbedChild, absorbedBins, absorbed, objectionOf, admitted};
+use crate::acceptance;
 use crate::accounts;
 use crate::adding;
 use crate::layout;
@@ -198,4 +203,60 @@ pub fn absorb_grid(
         weighed,
         many,
     );
+}
+
+// Takes a sample into a well-formed state where nothing stands against it: 0, or what does.
+pub fn admit(
+    table: &[u64],
+    reals: &mut [f64],
+    counts: &mut [u64],
+    path: &[usize; 4],
+    weights: &[f64; 5],
+    coordinates: &[f64; 8],
+    evaluation: f64,
+    number: u64,
+    near: &[usize; 8],
+    levels: usize,
+    weighed: usize,
+    many: usize,
+) -> u64
+    requires { ⌜ Laid 4 (now table) (length (now reals)) (length (now counts)) 0 × (sound (rootOf (now table) (now reals) (now counts)) ≡ true) ⌝ }
+    ensures { λ n. ⌜ (n ≡ objectionOf (trainOf (rootOf (now (table .entry)) (now (reals .entry)) (now (counts .entry))) (sampleOf (sampleIn (now (path .entry)) levels (now (weights .entry)) weighed (now (coordinates .entry)) many)) evaluation number))
+        × (memory (now (reals .exit)) (now (counts .exit)) ≡ admitted n (now (table .entry)) (sampleIn (now (path .entry)) levels (now (weights .entry)) weighed (now (coordinates .entry)) many) evaluation number (memory (now (reals .entry)) (now (counts .entry)))) ⌝ }
+{
+    let refused = acceptance::objection(
+        table,
+        reals,
+        counts,
+        path,
+        weights,
+        coordinates,
+        evaluation,
+        number,
+        near,
+        levels,
+        weighed,
+        many,
+    );
+    if refused != 0 {
+        return refused;
+    }
+    absorb_grid(
+        table,
+        reals,
+        counts,
+        4,
+        0,
+        path,
+        weights,
+        coordinates,
+        0,
+        evaluation,
+        number,
+        near,
+        levels,
+        weighed,
+        many,
+    );
+    refused
 }

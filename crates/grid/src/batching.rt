@@ -5,7 +5,6 @@ ghost use Rattle.grid.specs.State.{stateFault};
 ghost use Rattle.grid.specs.Batched.{stepEnd, stepOf, batchEnd, stepsOf};
 use crate::Batched;
 use crate::absorbing;
-use crate::acceptance;
 use crate::sampling;
 use stream::MonteCarloRng;
 
@@ -45,7 +44,7 @@ fn step(
         &mut near,
         0,
     );
-    let refused = acceptance::objection(
+    let refused = absorbing::admit(
         table,
         reals,
         counts,
@@ -65,23 +64,6 @@ fn step(
             stream: start,
         };
     }
-    absorbing::absorb_grid(
-        table,
-        reals,
-        counts,
-        4,
-        0,
-        &path,
-        &weights,
-        &coordinates,
-        0,
-        evaluation,
-        number,
-        &near,
-        drawn.levels,
-        drawn.given,
-        drawn.axes,
-    );
     let stream = drawn.stream;
     Stepped { refused, stream }
 }

@@ -246,7 +246,7 @@ pub fn train(
     let path = s.path;
     let weights = s.weights;
     let coordinates = s.coordinates;
-    let objection = acceptance::objection(
+    absorbing::admit(
         table,
         reals,
         counts,
@@ -259,28 +259,7 @@ pub fn train(
         s.levels,
         s.given,
         s.axes,
-    );
-    if objection != 0 {
-        return objection;
-    }
-    absorbing::absorb_grid(
-        table,
-        reals,
-        counts,
-        4,
-        0,
-        &path,
-        &weights,
-        &coordinates,
-        0,
-        evaluation,
-        number,
-        &near,
-        s.levels,
-        s.given,
-        s.axes,
-    );
-    0
+    )
 }
 
 // Draws a sample for each evaluation and trains it, numbered from the first number on; the state is judged once. The answer is that of `draw`

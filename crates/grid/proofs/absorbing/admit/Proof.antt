@@ -1,0 +1,60 @@
+-- Nothing stands against the sample, so the grid takes it; else nothing is written.
+use mathlib.Core.Path.{sym, _∙_}
+use native.Mathlib.Omega.{arith}
+use Rattle.grid.specs.Memory.{memory}
+use Rattle.grid.specs.State.{rootOf}
+use Rattle.grid.specs.Sampled.{sampleIn}
+use Rattle.grid.proofs.Objections.{takes-root}
+use Rattle.grid.proofs.Absorbs.{admitted-all, admitted-none}
+use borrow.Author.Needs.{needs}
+use Rattle.grid.proofs.absorbing.admit.Statement.{statement}
+use Rattle.grid.proofs.absorbing.admit.Tie as tie
+use Rattle.grid.proofs.absorbing.admit.Reads as reads
+use Rattle.grid.proofs.absorbing.admit.Lts as lts
+use Rattle.grid.proofs.absorbing.absorb_grid.Reads as absorb-grid-reads
+use Rattle.grid.proofs.acceptance.objection.Reads as objection-reads
+
+-- src/absorbing.rt:227:9
+objection-requires : tie.Need-objection-requires
+objection-requires c κs = search needs
+
+-- src/absorbing.rt:242:9
+same-length : tie.Need-same-length
+same-length c = search needs
+
+-- src/absorbing.rt:242:9
+same-length-2 : tie.Need-same-length-2
+same-length-2 c = search needs
+
+-- src/absorbing.rt:242:9
+returns : tie.Need-returns
+returns c = (c .before .objection .ensures, sym (admitted-none (c .before .objection .result) (c .before .before .before .before .before .before .before .args .table .now) (sampleIn (c .before .before .before .before .before .before .before .args .path .now) (c .before .before .before .before .before .before .before .args .levels) (c .before .before .before .before .before .before .before .args .weights .now) (c .before .before .before .before .before .before .before .args .weighed) (c .before .before .before .before .before .before .before .args .coordinates .now) (c .before .before .before .before .before .before .before .args .many)) (c .before .before .before .before .before .before .before .args .evaluation) (c .before .before .before .before .before .before .before .args .number) (memory (c .before .before .before .before .before .before .before .args .reals .now) (c .before .before .before .before .before .before .before .args .counts .now)) (c .if1 .taken)))
+
+-- src/absorbing.rt:244:5
+absorb-grid-requires : tie.Need-absorb-grid-requires
+absorb-grid-requires c κs = (c .before .before .before .before .before .before .before .before .before .pre .0, omega arith, takes-root (rootOf (c .before .before .before .before .before .before .before .before .before .args .table .now) (c .before .before .before .before .before .before .before .before .before .args .reals .now) (c .before .before .before .before .before .before .before .before .before .args .counts .now)) (sampleIn (c .before .before .before .before .before .before .before .before .before .args .path .now) (c .before .before .before .before .before .before .before .before .before .args .levels) (c .before .before .before .before .before .before .before .before .before .args .weights .now) (c .before .before .before .before .before .before .before .before .before .args .weighed) (c .before .before .before .before .before .before .before .before .before .args .coordinates .now) (c .before .before .before .before .before .before .before .before .before .args .many)) (c .before .before .before .before .before .before .before .before .before .args .evaluation) (c .before .before .before .before .before .before .before .before .before .args .number) (c .before .before .before .before .before .before .before .before .before .pre .1) (sym (c .before .before .before .objection .ensures) ∙ c .before .before .if1 .left))
+
+-- src/absorbing.rt:209:1
+same-length-3 : tie.Need-same-length-3
+same-length-3 c = search needs
+
+-- src/absorbing.rt:209:1
+same-length-4 : tie.Need-same-length-4
+same-length-4 c = search needs
+
+-- src/absorbing.rt:209:1
+returns-2 : tie.Need-returns-2
+returns-2 c = (c .before .before .before .before .before .before .before .before .objection .ensures, c .before .before .before .before .absorb-grid .ensures ∙ sym (admitted-all (c .before .before .before .before .before .before .before .before .objection .result) (c .before .before .before .before .before .before .before .before .before .before .before .before .before .before .args .table .now) (sampleIn (c .before .before .before .before .before .before .before .before .before .before .before .before .before .before .args .path .now) (c .before .before .before .before .before .before .before .before .before .before .before .before .before .before .args .levels) (c .before .before .before .before .before .before .before .before .before .before .before .before .before .before .args .weights .now) (c .before .before .before .before .before .before .before .before .before .before .before .before .before .before .args .weighed) (c .before .before .before .before .before .before .before .before .before .before .before .before .before .before .args .coordinates .now) (c .before .before .before .before .before .before .before .before .before .before .before .before .before .before .args .many)) (c .before .before .before .before .before .before .before .before .before .before .before .before .before .before .args .evaluation) (c .before .before .before .before .before .before .before .before .before .before .before .before .before .before .args .number) (memory (c .before .before .before .before .before .before .before .before .before .before .before .before .before .before .args .reals .now) (c .before .before .before .before .before .before .before .before .before .before .before .before .before .before .args .counts .now)) (c .before .before .before .before .before .before .before .if1 .left)))
+
+pub admit-spec : {M : Type 1} → statement M
+admit-spec =
+    tie.close
+    (tie.spec
+    objection-requires
+    same-length
+    same-length-2
+    returns
+    absorb-grid-requires
+    same-length-3
+    same-length-4
+    returns-2)
