@@ -8,6 +8,7 @@ use denote.Triple.Clauses.{AtExit}
 use denote.Ref.{now}
 use lib.Ieee.{Float}
 use Rattle.axis.specs.declared.Point.{Point}
+use Rattle.axis.specs.declared.Spot.{Spot}
 use Rattle.axis.specs.declared.Probed.{Probed}
 use Rattle.axis.specs.declared.Probed.the-variants as probed
 use Rattle.axis.specs.declared.Drawn.{Drawn}
@@ -21,8 +22,8 @@ use Rattle.axis.proofs.edges.bin_of.Kinds as bin-of
 use Rattle.axis.proofs.edges.bin_of.Reads as bin-of-reads
 use Rattle.axis.proofs.edges.weight_of.Kinds as weight-of
 use Rattle.axis.proofs.edges.weight_of.Reads as weight-of-reads
-use Rattle.axis.proofs.edges.drawn_bin.Kinds as drawn-bin
-use Rattle.axis.proofs.edges.drawn_bin.Reads as drawn-bin-reads
+use Rattle.axis.proofs.edges.spot_of.Kinds as spot-of
+use Rattle.axis.proofs.edges.spot_of.Reads as spot-of-reads
 use Rattle.axis.proofs.edges.point_of.Kinds as point-of
 use Rattle.axis.proofs.edges.point_of.Reads as point-of-reads
 use Rattle.axis.proofs.scans.is_rising.Kinds as is-rising
@@ -81,12 +82,12 @@ pub weight-of-unique : (κs : Lfts 1) (a : Dens κs weight-of.ps) (r r′ : Floa
     → weight-of-reads.Post κs a r s → weight-of-reads.Post κs a r′ s′ → r ≡ r′
 weight-of-unique κs a r r′ s s′ p q = p ∙ sym q
 
-pub drawn-bin-total : (κs : Lfts 1) (a : Dens κs drawn-bin.ps) → drawn-bin-reads.Pre κs a
-drawn-bin-total κs a = tt
+pub spot-of-total : (κs : Lfts 1) (a : Dens κs spot-of.ps) → spot-of-reads.Pre κs a
+spot-of-total κs a = tt
 
-pub drawn-bin-unique : (κs : Lfts 1) (a : Dens κs drawn-bin.ps) (r r′ : ℕ) (s s′ : AtExit (endedOf 1 drawn-bin.ps drawn-bin.r) κs)
-    → drawn-bin-reads.Post κs a r s → drawn-bin-reads.Post κs a r′ s′ → r ≡ r′
-drawn-bin-unique κs a r r′ s s′ p q = p ∙ sym q
+pub spot-of-unique : (κs : Lfts 1) (a : Dens κs spot-of.ps) (r r′ : Spot) (s s′ : AtExit (endedOf 1 spot-of.ps spot-of.r) κs)
+    → spot-of-reads.Post κs a r s → spot-of-reads.Post κs a r′ s′ → r ≡ r′
+spot-of-unique κs a r r′ s s′ p q = p ∙ sym q
 
 pub point-of-total : (κs : Lfts 1) (a : Dens κs point-of.ps) → point-of-reads.Pre κs a
 point-of-total κs a = tt

@@ -10,6 +10,7 @@ use Rattle.real.specs.Paper.{Paper, gives, refuses}
 use Rattle.axis.specs.declared.Probed.{Probed}
 use Rattle.axis.specs.declared.Probed.the-variants as probed
 use Rattle.axis.specs.declared.Point.{Point}
+use Rattle.axis.specs.declared.Spot.{Spot}
 use Rattle.axis.specs.declared.Drawn.{Drawn}
 use Rattle.axis.specs.declared.Drawn.the-variants as drawn
 use Rattle.axis.specs.Edges.{wellFormed, inUnit, binsOf, binOf, widthOf, weightOf}
@@ -42,6 +43,10 @@ pointOf es r =
       at = add binary64 (getD es i nan) (mul binary64 (sub binary64 scaled (countOf i)) (widthOf es i));
       weight = weightOf es i;
     }
+
+-- the point, and the bin that the unit draw falls to
+unfoldable pub spotOf : List Float → Float → Spot
+spotOf es r = record { point = pointOf es r; bin = drawnBin es r }
 
 -- draw: 12, then the point of the unit draw r
 unfoldable pub drawOf : List Float → Float → Paper Point

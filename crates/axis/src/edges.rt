@@ -5,8 +5,9 @@ ghost use lib.ListN.{length, getD};
 ghost use lib.Ieee.{nan};
 ghost use Rattle.axis.specs.Edges.{binsOf, widthOf, weightOf, evenFrom};
 ghost use Rattle.axis.specs.Search.{searchOf};
-ghost use Rattle.axis.specs.Calls.{drawnBin, pointOf};
+ghost use Rattle.axis.specs.Calls.{pointOf, spotOf};
 use crate::Point;
+use crate::Spot;
 
 // `half` where the test passed, else 0.
 fn keep(test: bool, half: usize) -> usize
@@ -69,26 +70,28 @@ pub fn weight_of(edges: &[f64], i: usize) -> f64
     real::count(bins(edges) as u64) * width(edges, i)
 }
 
-// The bin that the unit draw r falls to.
-pub fn drawn_bin(edges: &[f64], r: f64) -> usize
-    ensures { λ i. ⌜ i ≡ drawnBin (now (edges .entry)) r ⌝ }
-{
-    real::whole(real::count(bins(edges) as u64) * r) as usize
-}
-
-// The point that the unit draw r gives, with its weight.
-pub fn point_of(edges: &[f64], r: f64) -> Point
-    ensures { λ q. ⌜ q ≡ pointOf (now (edges .entry)) r ⌝ }
+// The point that the unit draw r gives, with its weight and the bin that it falls to.
+pub fn spot_of(edges: &[f64], r: f64) -> Spot
+    ensures { λ q. ⌜ q ≡ spotOf (now (edges .entry)) r ⌝ }
 {
     let n = real::count(bins(edges) as u64);
     let scaled = n * r;
-    let bin = real::whole(scaled);
-    let i = bin as usize;
-    let step = width(edges, i);
-    Point {
-        at: edge(edges, i) + (scaled - real::count(bin)) * step,
+    let whole = real::whole(scaled);
+    let bin = whole as usize;
+    let step = width(edges, bin);
+    let point = Point {
+        at: edge(edges, bin) + (scaled - real::count(whole)) * step,
         weight: n * step,
-    }
+    };
+    Spot { point, bin }
+}
+
+// The point alone.
+pub fn point_of(edges: &[f64], r: f64) -> Point
+    ensures { λ q. ⌜ q ≡ pointOf (now (edges .entry)) r ⌝ }
+{
+    let spot = spot_of(edges, r);
+    spot.point
 }
 
 // Lays the edges of even bins: i / n, for i from 0 to n, where the room has n + 1 places.

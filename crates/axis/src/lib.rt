@@ -20,6 +20,12 @@ pub struct Point {
     pub weight: f64,
 }
 
+// A coordinate, its weight, and its bin.
+pub struct Spot {
+    pub point: Point,
+    pub bin: usize,
+}
+
 // A drawn point, or a refusal's number.
 pub enum Drawn {
     Point(Point),

@@ -7,6 +7,7 @@ ghost use Rattle.axis.specs.Edges.{wellFormed, inUnit};
 ghost use Rattle.model.specs.Draw.{placeOn, walked, placedFrom, flooredOf};
 ghost use Rattle.grid.specs.Drawn.{axesAt, Places, underFloor, Stands};
 use axis::Point;
+use axis::Spot;
 use stream::MonteCarloRng;
 
 // The weight of the coordinates that a walk sets, and the stream after them.
@@ -24,18 +25,20 @@ pub struct AxesAt {
     pub counts: usize,
 }
 
-// A coordinate and its weight from a unit draw: the draw itself where sampling is even, else the axis's own.
-fn place_on(edges: &[f64], unit: f64, evenly: bool) -> Point
+// A coordinate, its weight and its bin from a unit draw: the draw itself where sampling is even, else the axis's own.
+fn place_on(edges: &[f64], unit: f64, evenly: bool) -> Spot
     requires { ⌜ (wellFormed (now edges) ≡ true) × (inUnit unit ≡ true) ⌝ }
-    ensures { λ p. ⌜ p ≡ placeOn evenly (now (edges .entry)) unit ⌝ }
+    ensures { λ s. ⌜ s .point ≡ placeOn evenly (now (edges .entry)) unit ⌝ }
 {
     if evenly {
-        return Point {
+        let bin = axis::edges::bin_of(edges, unit);
+        let point = Point {
             at: unit,
-            weight: axis::edges::weight_of(edges, axis::edges::bin_of(edges, unit)),
+            weight: axis::edges::weight_of(edges, bin),
         };
+        return Spot { point, bin };
     }
-    axis::edges::point_of(edges, unit)
+    axis::edges::spot_of(edges, unit)
 }
 
 // Draws a coordinate on each axis. The bins that they were drawn from are guesses for the search in training, which takes any number.
@@ -61,13 +64,13 @@ fn walk_axes(
         let unit = stream.unit();
         let end = at + held + 1;
         let edges = &reals[at..end];
-        let point = place_on(edges, unit.value, evenly);
-        coordinates[done] = point.at;
-        weight = weight * point.weight;
+        let spot = place_on(edges, unit.value, evenly);
+        coordinates[done] = spot.point.at;
+        weight = weight * spot.point.weight;
         stream = unit.stream;
         at = at + (6 * g.most + 1);
         place = place + (3 * g.most + 2);
-        near[done] = axis::edges::drawn_bin(edges, unit.value);
+        near[done] = spot.bin;
         done += 1;
     }
     Walked { weight, stream }

@@ -1,53 +1,20 @@
-use Rattle.axis.specs.Edges.{weightOf}
-use Rattle.axis.specs.Calls.{pointOf}
+-- The point of the spot.
+use mathlib.Core.Path.{ap}
 use borrow.Author.Needs.{needs}
+use Rattle.axis.specs.declared.Spot.{Spot}
+use Rattle.axis.specs.Calls.{spotOf}
 use Rattle.axis.proofs.edges.point_of.Statement.{statement}
 use Rattle.axis.proofs.edges.point_of.Tie as tie
 use Rattle.axis.proofs.edges.point_of.Reads as reads
 use Rattle.axis.proofs.edges.point_of.Lts as lts
-use Rattle.axis.proofs.edges.bins.Reads as bins-reads
-use Rattle.axis.proofs.edges.edge.Reads as edge-reads
-use Rattle.axis.proofs.edges.width.Reads as width-reads
-use Rattle.real.proofs.count.Reads as count-reads
-use Rattle.real.proofs.whole.Reads as whole-reads
+use Rattle.axis.proofs.edges.spot_of.Reads as spot-of-reads
 
--- src/edges.rt:76:25
-bins-requires : tie.Need-bins-requires
-bins-requires c κs = search needs
+spot-of-requires : tie.Need-spot-of-requires
+spot-of-requires c κs = search needs
 
--- src/edges.rt:76:9
-count-requires : tie.Need-count-requires
-count-requires c κs = search needs
-
--- src/edges.rt:78:9
-whole-requires : tie.Need-whole-requires
-whole-requires c κs = search needs
-
--- src/edges.rt:80:9
-width-requires : tie.Need-width-requires
-width-requires c κs = search needs
-
--- src/edges.rt:82:13
-edge-requires : tie.Need-edge-requires
-edge-requires c κs = search needs
-
--- src/edges.rt:82:40
-count-requires-2 : tie.Need-count-requires-2
-count-requires-2 c κs = search needs
-
--- src/edges.rt:73:1
 returns : tie.Need-returns
-unfolding pointOf weightOf
-returns c = rw (c .count2 .ensures, c .before .edge .ensures, c .before .before .width .ensures, c .before .before .before .whole .ensures, c .before .before .before .before .count .ensures, c .before .before .before .before .before .bins .ensures)
+unfolding spotOf
+returns c = ap (λ (s : Spot). s .point) (c .before .spot-of .ensures)
 
 pub point-of-spec : {M : Type 1} → statement M
-point-of-spec =
-    tie.close
-    (tie.spec
-    bins-requires
-    count-requires
-    whole-requires
-    width-requires
-    edge-requires
-    count-requires-2
-    returns)
+point-of-spec = tie.close (tie.spec spot-of-requires returns)

@@ -15,7 +15,6 @@ use Rattle.grid.proofs.axes.walk_axes.Reads as reads
 use Rattle.grid.proofs.axes.walk_axes.Lts as lts
 use Rattle.grid.proofs.axes.place_on.Reads as place-on-reads
 use Rattle.stream.proofs.MonteCarloRng.unit.Reads as unit-reads
-use Rattle.axis.proofs.edges.drawn_bin.Reads as drawn-bin-reads
 
 abbrev Inv-loop : tie.InvT-loop
 Inv-loop reals counts g evenly coordinates₀ near₀ weight₀ stream₀ at₀ place₀ done₀ coordinates near weight stream at place done =
@@ -104,28 +103,25 @@ add-place c = let n = next (c .before .before .before .before .before .before .b
 add-place-2 : tie.Need-add-place-2 Inv-loop μ-loop
 add-place-2 c = let n = next (c .before .before .before .before .before .before .before .before .before .before .before .before .before .args .g .most) (c .before .before .before .before .before .before .before .before .before .before .before .before .before .args .reals .now) (c .before .before .before .before .before .before .before .before .before .before .before .before .before .args .counts .now) (c .before .before .before .before .before .before .before .before .before .before .before .before .before .args .g .axes) (c .before .before .before .before .before .before .before .before .before .before .loop .done) (c .before .before .before .before .before .before .before .before .before .before .loop .at) (c .before .before .before .before .before .before .before .before .before .before .loop .place) (c .before .before .before .before .before .before .before .before .if1 .taken) (c .before .before .before .before .before .before .before .before .before .before .loop .inv .2) in omega (arith, c .before .before .before .before .before .before .before .before .before .before .before .before .before .pre .0 .1)
 
-drawn-bin-requires : tie.Need-drawn-bin-requires Inv-loop μ-loop
-drawn-bin-requires c κs = search needs
-
 mul-near : tie.Need-mul-near Inv-loop μ-loop
-mul-near c = omega (arith, c .before .before .before .before .before .before .before .before .before .before .before .before .before .before .pre .0 .0, c .before .before .before .before .before .before .before .before .before .if1 .taken)
+mul-near c = omega (arith, c .before .before .before .before .before .before .before .before .before .before .before .before .before .pre .0 .0, c .before .before .before .before .before .before .before .before .if1 .taken)
 
 element-write-near : tie.Need-element-write-near Inv-loop μ-loop
-element-write-near c = omega (arith, c .before .before .before .before .before .before .before .before .before .before .before .before .before .before .pre .0 .0, c .before .before .before .before .before .before .before .before .before .if1 .taken)
+element-write-near c = omega (arith, c .before .before .before .before .before .before .before .before .before .before .before .before .before .pre .0 .0, c .before .before .before .before .before .before .before .before .if1 .taken)
 
 add-done : tie.Need-add-done Inv-loop μ-loop
-add-done c = omega (arith, c .before .before .before .before .before .before .before .before .before .before .before .before .before .before .pre .0 .0, c .before .before .before .before .before .before .before .before .before .if1 .taken)
+add-done c = omega (arith, c .before .before .before .before .before .before .before .before .before .before .before .before .before .pre .0 .0, c .before .before .before .before .before .before .before .before .if1 .taken)
 
 loop-less : tie.Need-loop-less Inv-loop μ-loop
-loop-less c = omega (arith, c .before .before .before .before .before .before .before .before .before .if1 .taken)
+loop-less c = omega (arith, c .before .before .before .before .before .before .before .before .if1 .taken)
 
 loop-again : tie.Need-loop-again Inv-loop μ-loop
-loop-again c = let n = next (c .before .before .before .before .before .before .before .before .before .before .before .before .before .before .args .g .most) (c .before .before .before .before .before .before .before .before .before .before .before .before .before .before .args .reals .now) (c .before .before .before .before .before .before .before .before .before .before .before .before .before .before .args .counts .now) (c .before .before .before .before .before .before .before .before .before .before .before .before .before .before .args .g .axes) (c .before .before .before .before .before .before .before .before .before .before .before .loop .done) (c .before .before .before .before .before .before .before .before .before .before .before .loop .at) (c .before .before .before .before .before .before .before .before .before .before .before .loop .place) (c .before .before .before .before .before .before .before .before .before .if1 .taken) (c .before .before .before .before .before .before .before .before .before .before .before .loop .inv .2) in (
-  omega (arith, c .before .before .before .before .before .before .before .before .before .if1 .taken),
-  simp length-set (c .before .before .before .before .before .before .before .before .before .before .before .loop .inv .1),
+loop-again c = let n = next (c .before .before .before .before .before .before .before .before .before .before .before .before .before .args .g .most) (c .before .before .before .before .before .before .before .before .before .before .before .before .before .args .reals .now) (c .before .before .before .before .before .before .before .before .before .before .before .before .before .args .counts .now) (c .before .before .before .before .before .before .before .before .before .before .before .before .before .args .g .axes) (c .before .before .before .before .before .before .before .before .before .before .loop .done) (c .before .before .before .before .before .before .before .before .before .before .loop .at) (c .before .before .before .before .before .before .before .before .before .before .loop .place) (c .before .before .before .before .before .before .before .before .if1 .taken) (c .before .before .before .before .before .before .before .before .before .before .loop .inv .2) in (
+  omega (arith, c .before .before .before .before .before .before .before .before .if1 .taken),
+  simp length-set (c .before .before .before .before .before .before .before .before .before .before .loop .inv .1),
   n .rest,
-  drawn-on (c .before .before .before .before .before .before .before .before .before .before .before .before .before .before .args .g .most) (c .before .before .before .before .before .before .before .before .before .before .before .before .before .before .args .reals .now) (c .before .before .before .before .before .before .before .before .before .before .before .before .before .before .args .counts .now) (c .before .before .before .before .before .before .before .before .before .before .before .before .before .before .args .evenly) (c .before .before .before .before .before .before .before .before .before .before .before .before .before .before .args .g .axes) (c .before .before .before .before .before .before .before .before .before .before .before .loop .done) (c .before .before .before .before .before .before .before .before .before .before .before .loop .at) (c .before .before .before .before .before .before .before .before .before .before .before .loop .place) (c .before .before .before .before .before .before .before .before .before .before .before .loop .coordinates) (c .before .before .before .before .before .before .before .before .before .before .before .loop .weight) (c .before .before .before .before .before .before .before .before .before .before .before .loop .stream) (c .before .before .before .before .before .before .before .unit .result) (c .before .before .before .before .before .place-on .result) (c .before .before .before .before .before .before .before .before .before .if1 .taken) (omega (arith, c .before .before .before .before .before .before .before .before .before .before .before .before .before .before .pre .0 .0, c .before .before .before .before .before .before .before .before .before .before .before .loop .inv .1, c .before .before .before .before .before .before .before .before .before .if1 .taken)) (c .before .before .before .before .before .before .before .unit .ensures) (c .before .before .before .before .before .place-on .ensures) ∙ c .before .before .before .before .before .before .before .before .before .before .before .loop .inv .3,
-  kept-on (c .before .before .before .before .before .before .before .before .before .before .before .before .before .before .args .coordinates .now) (c .before .before .before .before .before .before .before .before .before .before .before .loop .coordinates) (c .before .before .before .before .before .before .before .before .before .before .before .loop .done) (c .before .before .before .before .before .place-on .result .at) (c .before .before .before .before .before .before .before .before .before .before .before .loop .inv .4),
+  drawn-on (c .before .before .before .before .before .before .before .before .before .before .before .before .before .args .g .most) (c .before .before .before .before .before .before .before .before .before .before .before .before .before .args .reals .now) (c .before .before .before .before .before .before .before .before .before .before .before .before .before .args .counts .now) (c .before .before .before .before .before .before .before .before .before .before .before .before .before .args .evenly) (c .before .before .before .before .before .before .before .before .before .before .before .before .before .args .g .axes) (c .before .before .before .before .before .before .before .before .before .before .loop .done) (c .before .before .before .before .before .before .before .before .before .before .loop .at) (c .before .before .before .before .before .before .before .before .before .before .loop .place) (c .before .before .before .before .before .before .before .before .before .before .loop .coordinates) (c .before .before .before .before .before .before .before .before .before .before .loop .weight) (c .before .before .before .before .before .before .before .before .before .before .loop .stream) (c .before .before .before .before .before .before .unit .result) (c .before .before .before .before .place-on .result .point) (c .before .before .before .before .before .before .before .before .if1 .taken) (omega (arith, c .before .before .before .before .before .before .before .before .before .before .before .before .before .pre .0 .0, c .before .before .before .before .before .before .before .before .before .before .loop .inv .1, c .before .before .before .before .before .before .before .before .if1 .taken)) (c .before .before .before .before .before .before .unit .ensures) (c .before .before .before .before .place-on .ensures) ∙ c .before .before .before .before .before .before .before .before .before .before .loop .inv .3,
+  kept-on (c .before .before .before .before .before .before .before .before .before .before .before .before .before .args .coordinates .now) (c .before .before .before .before .before .before .before .before .before .before .loop .coordinates) (c .before .before .before .before .before .before .before .before .before .before .loop .done) (c .before .before .before .before .place-on .result .point .at) (c .before .before .before .before .before .before .before .before .before .before .loop .inv .4),
 )
 
 -- src/axes.rt:18:1
@@ -160,7 +156,6 @@ walk-axes-spec =
     mul-place
     add-place
     add-place-2
-    drawn-bin-requires
     mul-near
     element-write-near
     add-done
