@@ -4,7 +4,7 @@ use mathlib.Core.Path.{_≡_, refl, sym, ap, subst}
 use mathlib.Core.Bool.{Bool, true, false, not, cond}
 use mathlib.Core.List.{List, [], _∷_}
 use Prim.Native.Nat.{ℕ}
-use lib.Dec.{ltb}
+use lib.Dec.{leb, ltb}
 use lib.ListN.{length}
 use lib.Seq.{sets}
 use lib.Ieee.{Float}
@@ -29,12 +29,14 @@ use Rattle.plan.specs.Paper.{PlanRead, planRead}
 use Rattle.plan.specs.Plan.{Tree, nothing}
 use Rattle.plan.specs.Needs.{untaken, needsOf}
 use Rattle.plan.specs.Table.{rows}
-use Rattle.plan.specs.Reading.{Out}
-use Rattle.plan.specs.Calls.{End, end, gridOf, writtenOf, prefixEnd, readPrefixOf, planEnd, readPlanOf, measuredEnd, measureOf}
+use Rattle.plan.specs.declared.Needs.{Needs}
+use Rattle.plan.specs.Reading.{Out, treeOf}
+use Rattle.plan.specs.Walk.{fromTable}
+use Rattle.plan.specs.Calls.{begin, End, end, gridOf, writtenOf, prefixEnd, readPrefixOf, planEnd, readPlanOf, measuredEnd, measureOf, prefixMeasured, measurePrefixOf, sizedEnd, sizesOf}
 use Rattle.demands.specs.Order.{Test, test, Ordered}
 use Rattle.demands.specs.Fields.{outPaper, gridTests}
 use Rattle.demands.specs.Demand1.{atField}
-use Rattle.demands.specs.Leaves.{surplus, shortTable, renewTests, Leaves1}
+use Rattle.demands.specs.Leaves.{surplus, shortTable, unplanned, renewTests, Leaves1}
 use Rattle.demands.proofs.Kept.{refused-none}
 use Rattle.demands.proofs.Orders.{given-last, held, passed, step}
 use Rattle.demands.proofs.Fielded.{thenPaper, grid-ordered}
@@ -134,6 +136,23 @@ measure-ordered bs = from-grid bs (λ (q : Place). surplus bs q ∷ []) (λ (x :
     pick q true = held 1 []
     pick q false = passed 1 [] _ (given-last (planRead (q .at) (needsOf (q .tally))))
 
+measured-ordered : (bs : List ℕ) → Ordered (gridTests bs (λ (q : Place). [])) (atField (measurePrefixOf bs))
+unfolding measurePrefixOf atField
+measured-ordered bs =
+    from-grid bs (λ (q : Place). []) (λ (x : Out). atField (prefixMeasured x)) (λ n at. refl) (λ t q. refl) (λ q. given-last (planRead (q .at) (needsOf (q .tally))))
+
+sizes-ordered : (xs : List ℕ) → Ordered (test (unplanned xs (treeOf (fromTable xs) 4 begin)) 12 ∷ []) (atField (sizesOf xs))
+unfolding sizesOf atField unplanned
+sizes-ordered xs = by-out (treeOf (fromTable xs) 4 begin)
+  where
+    pick : (n : Needs) (b : Bool) → Ordered (test (not b) 12 ∷ []) (atField (cond b (plan.gives n) (plan.refuses 12)))
+    pick n true = passed 12 [] _ (given-last n)
+    pick n false = held 12 []
+
+    by-out : (o : Out) → Ordered (test (unplanned xs o) 12 ∷ []) (atField (sizedEnd xs o))
+    by-out (Out.stops n at) = held 12 []
+    by-out (Out.reads t q) = pick (needsOf (q .tally)) (leb (q .tally .words) (length xs))
+
 read-ordered : (bs xs : List ℕ) → Ordered (gridTests bs (λ (q : Place). surplus bs q ∷ (shortTable xs q ∷ []))) (atField (readPlanOf bs xs .answer))
 unfolding readPlanOf atField
 read-ordered bs xs =
@@ -174,6 +193,8 @@ demand-1-leaves = record {
   draw = λ es r. one-test (not (edges.wellFormed es)) 12 _;
   renew = renew-ordered;
   measure-plan = measure-ordered;
+  measure-prefix = measured-ordered;
+  sizes = sizes-ordered;
   read-plan = read-ordered;
   read-plan-stays = λ bs xs n e. read-left bs xs (gridOf bs) n e;
   read-prefix = prefix-ordered;

@@ -1,9 +1,9 @@
 -- Demand 1 of the calls below the grid that refuse: the stream's, the accumulator's, an axis's, the re-cut's, and the readings of a plan.
 use mathlib.Core.Path.{_≡_}
-use mathlib.Core.Bool.{Bool, not, false}
+use mathlib.Core.Bool.{Bool, not, true, false}
 use mathlib.Core.List.{List, [], _∷_}
 use Prim.Native.Nat.{ℕ}
-use lib.Dec.{ltb}
+use lib.Dec.{leb, ltb}
 use lib.ListN.{length}
 use lib.Ieee.{Float}
 use Rattle.real.specs.Numbers.{zero64}
@@ -22,7 +22,9 @@ use Rattle.recut.specs.Weights.{normalised, smoothed, damped}
 use Rattle.recut.specs.Cut.{cutsOf}
 use Rattle.recut.specs.Renew.{lengthsFit, stepOf, renewOf}
 use Rattle.plan.specs.declared.Place.{Place}
-use Rattle.plan.specs.Calls.{readPlanOf, readPrefixOf, measureOf}
+use Rattle.plan.specs.Reading.{Out, treeOf}
+use Rattle.plan.specs.Walk.{fromTable}
+use Rattle.plan.specs.Calls.{begin, readPlanOf, readPrefixOf, measureOf, measurePrefixOf, sizesOf}
 use Rattle.demands.specs.Order.{Test, test, Ordered}
 use Rattle.demands.specs.Fields.{gridTests}
 use Rattle.demands.specs.Demand1.{atField}
@@ -57,6 +59,11 @@ surplus bs q = test (ltb (q .at) (length bs)) 1
 abbrev pub shortTable : List ℕ → Place → Test
 shortTable xs q = test (ltb (length xs) (q .tally .words)) 10
 
+-- a table that is not what reading some plan writes: the walk over it stops, or it is cut
+unfoldable pub unplanned : List ℕ → Out → Bool
+unplanned xs (Out.stops n at) = true
+unplanned xs (Out.reads t q) = not (leb (q .tally .words) (length xs))
+
 pub record Leaves1 : Type 0 where
   pub new : (seed k : ℕ) → Ordered (test (ltb 4095 k) 3 ∷ []) (newOf seed k)
   pub shallow-copy : (a : StatisticsAccumulator) → Ordered (unsound a ∷ []) (copyOf a)
@@ -72,6 +79,8 @@ pub record Leaves1 : Type 0 where
   pub draw : (es : List Float) (r : Float) → Ordered (test (not (edges.wellFormed es)) 12 ∷ []) (drawOf es r)
   pub renew : (es qs : List Float) (ns : List ℕ) (rate : Float) (places : ℕ) → Ordered (renewTests es qs ns rate places) (renewOf es qs ns rate places)
   pub measure-plan : (bs : List ℕ) → Ordered (gridTests bs (λ q. surplus bs q ∷ [])) (atField (measureOf bs))
+  pub measure-prefix : (bs : List ℕ) → Ordered (gridTests bs (λ q. [])) (atField (measurePrefixOf bs))
+  pub sizes : (xs : List ℕ) → Ordered (test (unplanned xs (treeOf (fromTable xs) 4 begin)) 12 ∷ []) (atField (sizesOf xs))
   pub read-plan : (bs xs : List ℕ) → Ordered (gridTests bs (λ q. surplus bs q ∷ (shortTable xs q ∷ []))) (atField (readPlanOf bs xs .answer))
   pub read-plan-stays : (bs xs : List ℕ) (n : ℕ) → atField (readPlanOf bs xs .answer) ≡ refuses n → readPlanOf bs xs .table ≡ xs
   pub read-prefix : (bs xs : List ℕ) → Ordered (gridTests bs (λ q. shortTable xs q ∷ [])) (atField (readPrefixOf bs xs .answer))
