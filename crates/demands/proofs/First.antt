@@ -49,6 +49,7 @@ use Rattle.grid.proofs.AbsorbedTree.{train-stays}
 use Rattle.grid.proofs.UpdatedState.{Called}
 use Rattle.grid.proofs.Objections.{train-done}
 use Rattle.grid.proofs.Batches.{step-objected, step-done}
+use Rattle.grid.proofs.Formed.{own-kept}
 use Rattle.demands.specs.History as model
 use Rattle.demands.specs.History.{Word, numbered}
 use Rattle.demands.specs.Lent.{roomBy, roomFault}
@@ -59,7 +60,7 @@ use Rattle.demands.proofs.Kept.{refused-none, numbered-refuses}
 use Rattle.demands.proofs.Tied.{update-called}
 use Rattle.demands.proofs.Orders.{given-last, held, passed, firstOf, Above, by-number, changed, first-above, above-append, first-is, none-is, alone, numbered-by, numbered-ordered}
 use Rattle.demands.proofs.Fielded.{thenPaper, grid-ordered}
-use Rattle.demands.proofs.Ladders.{train-ordered, train-above, update-ordered, update-above, merge-ordered, merge-above, match-first, match-above, probe-ordered, live-ordered, own-kept, along-ordered}
+use Rattle.demands.proofs.Ladders.{train-ordered, train-above, update-ordered, update-above, merge-ordered, merge-above, match-first, match-above, probe-ordered, live-ordered, along-ordered}
 
 no : (n : ℕ) → suc n ≡ 0 → ⊥
 no n z = omega (arith, z)

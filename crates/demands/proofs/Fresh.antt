@@ -3,7 +3,7 @@ use mathlib.Core.Path.{_≡_, refl, ap, subst}
 use mathlib.Core.Bool.{true, _&&_}
 use mathlib.Core.List.{List, [], _∷_}
 use mathlib.Core.Option.{some}
-use Prim.Native.Nat.{ℕ, zero, suc, _+_, _≤_}
+use Prim.Native.Nat.{ℕ, zero, suc, _≤_}
 use native.Mathlib.Omega.{arith}
 use borrow.Author.Tests.{leb-true}
 use lib.Dec.{leb}
@@ -12,29 +12,19 @@ use Rattle.real.proofs.Truth.{both}
 use Rattle.real.proofs.Steps.{inv-above, inv-finite}
 use Rattle.accumulator.proofs.Laws.{fresh-sound}
 use Rattle.axis.specs.Edges.{evenEdges}
-use Rattle.axis.proofs.Fresh.{length-even, fresh-formed}
 use Rattle.recut.specs.Gather.{sumOf}
 use Rattle.recut.specs.Chances.{chance}
 use Rattle.model.specs.Axes.{Axis, AxesPlan, freshAxis, freshAxes}
 use Rattle.model.specs.Grid.{freshBin, freshBins, freshHead, freshGrid}
-use Rattle.model.specs.Sound.{sound, formedAxisList, keptAxisList, formedGrid, formedBins, formedChild, keptGrid, keptBins, keptChild}
+use Rattle.model.specs.Sound.{sound, formedGrid, formedBins, formedChild, keptGrid, keptBins, keptChild}
 use Rattle.model.proofs.Counts.{waitingIn, countsOf, empty-counts}
-use Rattle.grid.proofs.Reformed.{all-two, listed-here, none-bounded, empty-sound}
+use Rattle.grid.proofs.Reformed.{all-two}
+use Rattle.grid.proofs.FreshState.{axes-fresh}
 use Rattle.demands.specs.Address.{Spot, spot, nth, axisAt, axisIn, axisUnder}
 use Rattle.demands.specs.Fresh.{Plan, Plans, flat, tree, stop, bare, under, many, binsFit, sized, sizedAll, fresh, children}
 use Rattle.demands.proofs.Places.{never, same-spot}
 
 -- ---- well formed
-
-axes-fresh : (plan : AxesPlan) (k : ℕ) → 1 ≤ plan .bins → plan .bins ≤ 1024
-    → (formedAxisList plan (replicate k (freshAxis (plan .bins))) ≡ true) × (keptAxisList (replicate k (freshAxis (plan .bins))) ≡ true)
-unfolding formedAxisList keptAxisList freshAxis evenEdges
-axes-fresh plan zero h m = (refl, refl)
-axes-fresh plan (suc k) h m =
-    let n = plan .bins in
-    let one = empty-sound plan (evenEdges n) n 0 (listed-here n (plan .evolution)) (length-even (n + 1) 0 n) (fresh-formed n h m) none-bounded in
-    let rest = axes-fresh plan k h m in
-    (all-two (one .0) (rest .0), all-two (one .1) (rest .1))
 
 length-children : (ps : Plans) → length (children ps) ≡ many ps
 unfolding children many

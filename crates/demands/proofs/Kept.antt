@@ -15,8 +15,7 @@ use Rattle.real.specs.Total.{allFinite}
 use Rattle.real.specs.Paper.{Paper, gives, refuses}
 use Rattle.real.proofs.Truth.{both}
 use Rattle.real.proofs.Ladder.{passes, given}
-use Rattle.accumulator.specs.declared.StatisticsAccumulator.{StatisticsAccumulator}
-use Rattle.accumulator.specs.Record.{wellFormed, finiteSums, boundedCounts, bounded, withWaiting}
+use Rattle.accumulator.specs.Record.{wellFormed}
 use Rattle.accumulator.specs.Steps.{clearedOf}
 use Rattle.axis.specs.Edges as Edges
 use Rattle.axis.specs.Scans.{allBounded}
@@ -26,11 +25,11 @@ use Rattle.model.specs.Sound.{allSound, keptAxis, keptAxisList, keptGrid, keptB
 use Rattle.model.specs.Draw.{Sample}
 use Rattle.model.specs.Train as train
 use Rattle.model.specs.Train.{faultOf, trainGrid, trainOf}
-use Rattle.model.specs.Merge.{sameShape, equalGrid, mergeGrid, mergeOf}
+use Rattle.model.specs.Merge.{sameShape, mergeGrid, mergeOf}
 use Rattle.model.specs.Update.{updateGrid, rateFits, updateOf}
-use Rattle.grid.proofs.Judges.{zero-finite}
-use Rattle.grid.proofs.Reformed.{all-two, none-bounded, sound-updated}
+use Rattle.grid.proofs.Reformed.{all-two, cleared-sound, all-cleared, sound-updated}
 use Rattle.grid.proofs.Formed.{sound-trained, sound-merged}
+use Rattle.grid.proofs.UnitedTree.{given-merge}
 use Rattle.demands.specs.Address.{Spot, nth, axisAt, axisIn, axisUnder, chanceAt, chanceOf, chanceIn, chanceUnder}
 use Rattle.demands.specs.History.{Call, draws, probes, sums, estimates, estimatesBin, trains, updates, matches, merges, copies, lacks, Word, Told, telling, reading, leaving, numbered, matched, told, onward, after, run}
 use Rattle.demands.proofs.Places.{never, same-spot}
@@ -131,22 +130,6 @@ chance-at g p i q w e = chance-grid g p i q (both (formedGrid g) (keptGrid g) w 
 
 -- ---- a copy is well formed
 
-cleared-sound : (a : StatisticsAccumulator) → wellFormed a ≡ true → wellFormed (clearedOf a) ≡ true
-unfolding wellFormed finiteSums boundedCounts clearedOf withWaiting
-cleared-sound a e =
-    let p = both (finiteSums a) (boundedCounts a) e in
-    let u = both ((finiteOf (a .sum) && finiteOf (a .«sum_sq»)) && finiteOf (a .«total_sum»)) (finiteOf (a .«total_sum_sq»)) (p .0) in
-    let v = both (finiteOf (a .sum) && finiteOf (a .«sum_sq»)) (finiteOf (a .«total_sum»)) (u .0) in
-    let q = both (((bounded (a .«new_samples») && bounded (a .«new_zero_evaluations»)) && bounded (a .«cur_iter»)) && bounded (a .«processed_samples»)) (bounded (a .«num_zero_evaluations»)) (p .1) in
-    let r = both ((bounded (a .«new_samples») && bounded (a .«new_zero_evaluations»)) && bounded (a .«cur_iter»)) (bounded (a .«processed_samples»)) (q .0) in
-    let x = both (bounded (a .«new_samples») && bounded (a .«new_zero_evaluations»)) (bounded (a .«cur_iter»)) (r .0) in
-    rw (zero-finite, none-bounded, v .1, u .1, x .1, r .1, q .1)
-
-all-cleared : (accounts : List StatisticsAccumulator) → allSound accounts ≡ true → allSound (map clearedOf accounts) ≡ true
-unfolding allSound
-all-cleared [] e = refl
-all-cleared (a ∷ rest) e = let p = both (wellFormed a) (allSound rest) e in all-two (cleared-sound a (p .0)) (all-cleared rest (p .1))
-
 copied-formed : (plan : AxesPlan) (axs : List Axis) → formedAxisList plan (map clearedAxis axs) ≡ formedAxisList plan axs
 unfolding formedAxisList formedAxis clearedAxis
 copied-formed plan [] = refl
@@ -222,12 +205,7 @@ pub record Merged (g o h : Grid) : Type 0 where
   pub is : mergeGrid g o ≡ h
 
 pub merged : (g o h : Grid) → mergeOf g o ≡ gives h → Merged g o h
-unfolding mergeOf
-merged g o h q =
-    let a = passes (not (sameShape g o)) 4 _ h q in
-    let b = passes (not (equalGrid g o)) 11 _ h (a .1) in
-    let c = passes (not (keptGrid (mergeGrid g o))) 8 _ h (b .1) in
-    record { shape = not-false (sameShape g o) (a .0); kept = not-false (keptGrid (mergeGrid g o)) (c .0); is = given (mergeGrid g o) h (c .1) }
+merged g o h q = let m = given-merge g o h q in record { shape = m .0; kept = m .1; is = m .2 }
 
 -- a call that reads leaves the grid, and one that leaves another leaves what it gives
 pub reads : {A : Type 0} (f : A → Word) (g : Grid) (p : Paper A) (t : Told) → reading f g p ≡ gives t → g ≡ t .grid

@@ -21,13 +21,12 @@ use Rattle.accumulator.specs.Calls.{estimatesOf, liveEstimateOf}
 use Rattle.axis.specs.Edges.{inUnit, binOf, weightOf}
 use Rattle.model.specs.Axes.{Axis, AxesGrid}
 use Rattle.model.specs.Grid.{Grid, Bins, Child, axes, bins, none, more, nothing, grid, many}
-use Rattle.model.specs.Sound.{keptGrid, keptBins, keptChild, sound, formedGrid}
+use Rattle.model.specs.Sound.{keptGrid, keptBins, keptChild}
 use Rattle.model.specs.Draw.{Sample, flooredOf}
 use Rattle.model.specs.Probe.{Coordinate, open′, given, probeAll, through, probeAxes, probeGrid, probeBin, probeChild}
 use Rattle.model.specs.Train.{faultOfAll, faultOfAxes, faultOf, faultOfBin, faultOfChild, trainGrid, numbered, trainOf}
 use Rattle.model.specs.Merge.{sameShape, equalGrid, mergeGrid, mergeFault, mergeOf}
 use Rattle.model.specs.Update.{rateFits, updateGrid, updateOf}
-use Rattle.grid.specs.State.{ownOf}
 use Rattle.grid.specs.Bins.{binAlong, binNamed, binOver, estimateBy}
 use Rattle.demands.specs.Order.{Test, test, Ordered, liveTests, alongTests, alongBin, alongChild, givenTests, probeTests, probeBinTests, probeChildTests, unitTests, axesTests, formTests, formBinTests, formChildTests, trainTests, updateTests, matchTests, mergeTests}
 use Rattle.demands.proofs.Orders.{given-last, held, passed, step, unless, firstOf, Above, by-number, changed, above-append, turned}
@@ -187,11 +186,6 @@ mutual
 pub live-ordered : (a : StatisticsAccumulator) → wellFormed a ≡ true → Ordered (liveTests a) (liveEstimateOf a)
 unfolding liveTests liveEstimateOf
 live-ordered a w = rw w (step (not (wellFormed (updatedOf false a))) 8 _ _ (λ z. given-last (estimatesOf (updatedOf false a))))
-
-pub own-kept : (g : Grid) → sound g ≡ true → wellFormed (ownOf g) ≡ true
-unfolding sound keptGrid ownOf
-own-kept (axes g) w = both (wellFormed (g .own)) _ (both (formedGrid (axes g)) _ w .1) .0
-own-kept (bins h bs) w = both (wellFormed (h .own)) _ (both (formedGrid (bins h bs)) _ w .1) .0
 
 -- an index past the end is 6, before what is found there
 inside : (b : Bool) (ts : List Test) (p : Paper StatisticsAccumulator) → Ordered ts (estimateBy p) → Ordered (test (not b) 6 ∷ ts) (estimateBy (cond b p (refuses 6)))

@@ -17,6 +17,7 @@ use Rattle.model.specs.Merge.{mergeFault, mergeOf}
 use Rattle.model.specs.Update.{updateOf}
 use Rattle.grid.specs.State.{ownOf}
 use Rattle.grid.specs.Bins.{estimateBy, binAlong, estimateAlong}
+use Rattle.grid.proofs.Formed.{own-kept}
 use Rattle.demands.specs.Fresh.{fresh}
 use Rattle.demands.specs.History.{Call, draws, probes, sums, estimates, estimatesBin, trains, updates, matches, merges, copies, lacks, Word, done, drawing, weight, summary, estimate, Told, telling, reading, leaving, numbered, matched, told, onward, after, run, Entry, entry, log}
 use Rattle.demands.specs.Lent.{worded, words}
@@ -25,7 +26,7 @@ use Rattle.demands.specs.Programs.{right, endOf, wordsOf, logOf, testsOf
 use Rattle.demands.specs.Demand3.{Demand3}
 use Rattle.demands.proofs.Kept.{refused-none}
 use Rattle.demands.proofs.Orders.{given-last, held, step, changed, numbered-ordered}
-use Rattle.demands.proofs.Ladders.{train-ordered, update-ordered, merge-ordered, match-first, match-above, probe-ordered, live-ordered, own-kept, along-ordered}
+use Rattle.demands.proofs.Ladders.{train-ordered, update-ordered, merge-ordered, match-first, match-above, probe-ordered, live-ordered, along-ordered}
 use Rattle.demands.proofs.Second.{granted-is}
 use Rattle.demands.proofs.Third.{demand-3}
 

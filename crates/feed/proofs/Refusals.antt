@@ -33,6 +33,7 @@ use Rattle.feed.specs.Said.{Line, Said, going, telling, refusingAt, refu
 use Rattle.feed.specs.Fields.{doubleAt, standingOf, isSample, rowFrom}
 use Rattle.feed.specs.Turns.{TurnEnd, allIn, freshSaid, freshEnds, foundOf, planBy, planTurn, trainedOf, batchEnds, trainOf, rowBy, rowTurn, reportOf, updateEnds, renewOf, updateBy, updateTurn, samplesTurn, turnBy, turnOf}
 use Rattle.feed.proofs.Rows.{is-sample}
+use Rattle.feed.proofs.Splits.{batch-faulty, batch-clear}
 use Rattle.feed.proofs.Standings.{whole-is}
 use Rattle.feed.proofs.Renewed.{Renewed, update-renews, clear-sums}
 use Rattle.feed.proofs.Chunks.{turn-row}
@@ -195,22 +196,14 @@ module _ (table : List ℕ) where
       (λ t. record { many = suc (left .many); done = omega (arith, left .done); state = left .state ∙ sym (ap (λ (b : BatchEnd). b .state) (steps-on e (take (left .many) es) m s k d t)) })
 
   module _ (m : Memory) (s : MonteCarloRng) (k : ℕ) where
-    batch-faulty : (es : List Float) → not (eqb (stateFault table (m .reals) (m .counts)) 0) ≡ true → batchOf table m s es k ≡ batchEnd (batched (stateFault table (m .reals) (m .counts)) 0 s) m
-    unfolding batchOf
-    batch-faulty es t = rw t
-
-    batch-clear : (es : List Float) → not (eqb (stateFault table (m .reals) (m .counts)) 0) ≡ false → batchOf table m s es k ≡ stepsOf table es m s k 0
-    unfolding batchOf
-    batch-clear es t = rw t
-
     batch-left : (es : List Float) → Left 0 (batchOf table m s es k) (λ n. batchOf table m s (take n es) k .state)
     unfolding batchOf
     batch-left es =
         let fault = stateFault table (m .reals) (m .counts) in
         let left = steps-left es m s k 0 in
         pick (λ (b : BatchEnd). Left 0 b (λ n. batchOf table m s (take n es) k .state)) (not (eqb fault 0)) {x = batchEnd (batched fault 0 s) m} {y = stepsOf table es m s k 0}
-        (λ t. record { many = 0; done = refl; state = sym (ap (λ (b : BatchEnd). b .state) (batch-faulty [] t)) })
-        (λ t. record { many = left .many; done = left .done; state = left .state ∙ sym (ap (λ (b : BatchEnd). b .state) (batch-clear (take (left .many) es) t)) })
+        (λ t. record { many = 0; done = refl; state = sym (ap (λ (b : BatchEnd). b .state) (batch-faulty table m s k [] t)) })
+        (λ t. record { many = left .many; done = left .done; state = left .state ∙ sym (ap (λ (b : BatchEnd). b .state) (batch-clear table m s k (take (left .many) es) t)) })
 
 -- the turn of a row: as many samples as it took bytes for, and the memory after just these
 pub record RowLeft (run : Run) (words : List ℕ) (m : Memory) (row : List Float) (e : TurnEnd) : Type 0 where

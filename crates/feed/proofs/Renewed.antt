@@ -10,15 +10,13 @@ use lib.ListN.{length, replicate, length-replicate}
 use lib.Ieee.{Float}
 use Rattle.real.specs.Numbers.{zero64}
 use Rattle.real.specs.Paper.{Paper, gives, refuses}
-use Rattle.real.proofs.Truth.{both}
 use Rattle.plan.specs.declared.Needs.{Needs}
 use Rattle.plan.specs.Paper as plan
 use Rattle.plan.specs.Calls.{sizesOf}
 use Rattle.plan.proofs.Tables.{Words}
-use Rattle.accumulator.specs.Record.{wellFormed}
 use Rattle.accumulator.specs.Calls as account
 use Rattle.model.specs.Grid.{Grid, axes, bins}
-use Rattle.model.specs.Sound.{keptGrid, sound, formedGrid}
+use Rattle.model.specs.Sound.{sound}
 use Rattle.model.specs.Update as model
 use Rattle.grid.specs.Memory.{Memory, memory}
 use Rattle.grid.specs.State.{rootOf, ownOf, judgedBy, judgedTo, faultBy, stateFault}
@@ -27,6 +25,7 @@ use Rattle.grid.proofs.States.{clear}
 use Rattle.grid.proofs.Clones.{ready}
 use Rattle.grid.proofs.Batches.{clear-again}
 use Rattle.grid.proofs.UpdatedState.{Called, update-updates}
+use Rattle.grid.proofs.Formed.{own-kept}
 
 pub record Renewed (table : List ℕ) (m : Memory) (e : StateEnd) : Type 0 where
   pub stays : (e .answer ≡ 0 → ⊥) → e .state ≡ m
@@ -74,11 +73,6 @@ module _ (table : List ℕ) (large : Words table) (m : Memory) (binsRate axesRat
   update-renews R C = by-table R C (sizesOf table) refl
 
 -- ---- the summary
-
-own-kept : (g : Grid) → sound g ≡ true → wellFormed (ownOf g) ≡ true
-unfolding sound keptGrid ownOf
-own-kept (axes g) w = both (wellFormed (g .own)) _ (both (formedGrid (axes g)) _ w .1) .0
-own-kept (bins h bs) w = both (wellFormed (h .own)) _ (both (formedGrid (bins h bs)) _ w .1) .0
 
 pub clear-sums : (table : List ℕ) → Words table → (m : Memory) → stateFault table (m .reals) (m .counts) ≡ 0 → summaryOf table (m .reals) (m .counts) ≡ gives (account.summaryOf (ownOf (rootOf table (m .reals) (m .counts))))
 unfolding summaryOf account.summarizeOf

@@ -149,12 +149,13 @@ plus-fits : (k d n : ℕ) → d ≡ n → k + n < 2 ^ 64 → plus k d ≡ k + n
 unfolding plus
 plus-fits k d n e h = rw e (omega arith)
 
+-- a batch on a state that is faulty, and on one that is clear
 module _ (table : List ℕ) (m : Memory) (s : MonteCarloRng) (k : ℕ) (xs : List Float) where
-  batch-faulty : not (eqb (stateFault table (m .reals) (m .counts)) 0) ≡ true → batchOf table m s xs k ≡ batchEnd (batched (stateFault table (m .reals) (m .counts)) 0 s) m
+  pub batch-faulty : not (eqb (stateFault table (m .reals) (m .counts)) 0) ≡ true → batchOf table m s xs k ≡ batchEnd (batched (stateFault table (m .reals) (m .counts)) 0 s) m
   unfolding batchOf
   batch-faulty e = rw e
 
-  batch-clear : not (eqb (stateFault table (m .reals) (m .counts)) 0) ≡ false → batchOf table m s xs k ≡ stepsOf table xs m s k 0
+  pub batch-clear : not (eqb (stateFault table (m .reals) (m .counts)) 0) ≡ false → batchOf table m s xs k ≡ stepsOf table xs m s k 0
   unfolding batchOf
   batch-clear e = rw e
 

@@ -7,7 +7,7 @@ use lib.ListN.{length, length-set, getD}
 use lib.Ieee.{Float, binary64, mul}
 use Rattle.real.proofs.Truth.{both}
 use Rattle.accumulator.specs.declared.StatisticsAccumulator.{StatisticsAccumulator}
-use Rattle.accumulator.specs.Record.{fresh}
+use Rattle.accumulator.specs.Record.{fresh, wellFormed}
 use Rattle.accumulator.specs.Steps.{addedOf}
 use Rattle.axis.specs.Edges.{binOf}
 use Rattle.model.specs.Axes.{Axis, AxesPlan}
@@ -16,6 +16,7 @@ use Rattle.model.specs.Draw.{weightAt}
 use Rattle.model.specs.Sound.{sound, formedAxis, formedAxisList, formedGrid, formedBins, formedChild, keptGrid}
 use Rattle.model.specs.Merge.{mergeBinRecords, mergeAxis, mergeAll, mergeGrid, mergeBins, mergeChild}
 use Rattle.model.specs.Train.{trainAxis, trainAll, trainAxes, trainGrid, trainBin, trainChild}
+use Rattle.grid.specs.State.{ownOf}
 
 axis-formed : (plan : AxesPlan) (ax : Axis) (x v : Float) → formedAxis plan (trainAxis ax x v) ≡ formedAxis plan ax
 unfolding formedAxis trainAxis
@@ -96,3 +97,9 @@ mutual
 pub sound-merged : (g o : Grid) → sound g ≡ true → keptGrid (mergeGrid g o) ≡ true → sound (mergeGrid g o) ≡ true
 unfolding sound
 sound-merged g o w q = rw (merged-grid g o, both (formedGrid g) (keptGrid g) w .0, q)
+
+-- the accumulator of a well-formed grid is well formed
+pub own-kept : (g : Grid) → sound g ≡ true → wellFormed (ownOf g) ≡ true
+unfolding sound keptGrid ownOf
+own-kept (axes g) w = both (wellFormed (g .own)) _ (both (formedGrid (axes g)) _ w .1) .0
+own-kept (bins h bs) w = both (wellFormed (h .own)) _ (both (formedGrid (bins h bs)) _ w .1) .0

@@ -39,7 +39,7 @@ use Rattle.grid.proofs.Reformed.{all-two, listed-here, none-bounded, em
 
 -- ---- the model's fresh grid is well formed
 
-axes-fresh : (plan : AxesPlan) (k : ℕ) → 1 ≤ plan .bins → plan .bins ≤ 1024
+pub axes-fresh : (plan : AxesPlan) (k : ℕ) → 1 ≤ plan .bins → plan .bins ≤ 1024
     → (formedAxisList plan (replicate k (freshAxis (plan .bins))) ≡ true) × (keptAxisList (replicate k (freshAxis (plan .bins))) ≡ true)
 unfolding formedAxisList keptAxisList freshAxis evenEdges
 axes-fresh plan zero h m = (refl, refl)

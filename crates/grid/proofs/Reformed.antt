@@ -97,7 +97,7 @@ pub none-bounded : bounded 0 ≡ true
 unfolding bounded
 none-bounded = refl
 
-cleared-sound : (a : StatisticsAccumulator) → account.wellFormed a ≡ true → account.wellFormed (clearedOf a) ≡ true
+pub cleared-sound : (a : StatisticsAccumulator) → account.wellFormed a ≡ true → account.wellFormed (clearedOf a) ≡ true
 unfolding account.wellFormed finiteSums boundedCounts clearedOf withWaiting
 cleared-sound a e =
     let p = both (finiteSums a) (boundedCounts a) e in
@@ -108,7 +108,7 @@ cleared-sound a e =
     let x = both (bounded (a .«new_samples») && bounded (a .«new_zero_evaluations»)) (bounded (a .«cur_iter»)) (r .0) in
     rw (zero-finite, none-bounded, v .1, u .1, x .1, r .1, q .1)
 
-all-cleared : (accounts : List StatisticsAccumulator) → allSound accounts ≡ true → allSound (map clearedOf accounts) ≡ true
+pub all-cleared : (accounts : List StatisticsAccumulator) → allSound accounts ≡ true → allSound (map clearedOf accounts) ≡ true
 unfolding allSound
 all-cleared [] e = refl
 all-cleared (a ∷ rest) e = let p = both (account.wellFormed a) (allSound rest) e in all-two (cleared-sound a (p .0)) (all-cleared rest (p .1))

@@ -431,7 +431,7 @@ module _ (xs ys : List ℕ) (others : Memory) where
 -- ---- the call
 
 -- a merge that is given: shapes are the same, and what it gives may be kept
-given-merge : (g o m : model.Grid) → mergeOf g o ≡ gives m → (sameShape g o ≡ true) × (keptGrid (mergeGrid g o) ≡ true) × (mergeGrid g o ≡ m)
+pub given-merge : (g o m : model.Grid) → mergeOf g o ≡ gives m → (sameShape g o ≡ true) × (keptGrid (mergeGrid g o) ≡ true) × (mergeGrid g o ≡ m)
 unfolding mergeOf
 given-merge g o m e =
     let p = passes (not (sameShape g o)) 4 _ m e in
