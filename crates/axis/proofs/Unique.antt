@@ -24,6 +24,8 @@ use Rattle.axis.proofs.edges.weight_of.Kinds as weight-of
 use Rattle.axis.proofs.edges.weight_of.Reads as weight-of-reads
 use Rattle.axis.proofs.edges.spot_of.Kinds as spot-of
 use Rattle.axis.proofs.edges.spot_of.Reads as spot-of-reads
+use Rattle.axis.proofs.edges.spot_near.Kinds as spot-near
+use Rattle.axis.proofs.edges.spot_near.Reads as spot-near-reads
 use Rattle.axis.proofs.edges.point_of.Kinds as point-of
 use Rattle.axis.proofs.edges.point_of.Reads as point-of-reads
 use Rattle.axis.proofs.scans.is_rising.Kinds as is-rising
@@ -88,6 +90,13 @@ spot-of-total κs a = tt
 pub spot-of-unique : (κs : Lfts 1) (a : Dens κs spot-of.ps) (r r′ : Spot) (s s′ : AtExit (endedOf 1 spot-of.ps spot-of.r) κs)
     → spot-of-reads.Post κs a r s → spot-of-reads.Post κs a r′ s′ → r ≡ r′
 spot-of-unique κs a r r′ s s′ p q = p ∙ sym q
+
+pub spot-near-total : (κs : Lfts 1) (a : Dens κs spot-near.ps) → spot-near-reads.Pre κs a
+spot-near-total κs a = tt
+
+pub spot-near-unique : (κs : Lfts 1) (a : Dens κs spot-near.ps) (r r′ : Spot) (s s′ : AtExit (endedOf 1 spot-near.ps spot-near.r) κs)
+    → spot-near-reads.Post κs a r s → spot-near-reads.Post κs a r′ s′ → r ≡ r′
+spot-near-unique κs a r r′ s s′ p q = p ∙ sym q
 
 pub point-of-total : (κs : Lfts 1) (a : Dens κs point-of.ps) → point-of-reads.Pre κs a
 point-of-total κs a = tt

@@ -86,6 +86,30 @@ pub fn spot_of(edges: &[f64], r: f64) -> Spot
     Spot { point, bin }
 }
 
+// The same from a guess of the bin, which may be any number: one that the draw lies in is taken, else the bin is worked out.
+pub fn spot_near(edges: &[f64], r: f64, guess: usize) -> Spot
+    ensures { λ q. ⌜ q ≡ spotOf (now (edges .entry)) r ⌝ }
+{
+    let last = bins(edges);
+    if (guess < last) & (last <= 1024) {
+        let next = guess + 1;
+        let n = last as f64;
+        let low = guess as f64;
+        let high = next as f64;
+        let scaled = n * r;
+        if (low <= scaled) & (scaled < high) {
+            let edge = edges[guess];
+            let step = edges[next] - edge;
+            let point = Point {
+                at: edge + (scaled - low) * step,
+                weight: n * step,
+            };
+            return Spot { point, bin: guess };
+        }
+    }
+    spot_of(edges, r)
+}
+
 // The point alone.
 pub fn point_of(edges: &[f64], r: f64) -> Point
     ensures { λ q. ⌜ q ≡ pointOf (now (edges .entry)) r ⌝ }
