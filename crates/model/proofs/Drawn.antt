@@ -79,40 +79,45 @@ unfolding placeOn unitAt
 place-in true es s w few = unit-in (wordOf s) (word-below s)
 place-in false es s w few = point-in-unit es (wordOf s / 2 ^ 11) (unitOf (wordOf s)) w few (shr-lt 53 11 (word-below s)) (unit-exact (wordOf s) (word-below s))
 
--- as many as axes, and each a number in [0, 1]
-pub walked-size : (evenly : Bool) (axs : List Axis) (w : Float) (s : MonteCarloRng) → length (walked evenly axs w s .coordinates) ≡ length axs
+-- as many as axes
+walked-size : (evenly : Bool) (axs : List Axis) (w : Float) (s : MonteCarloRng) → length (walked evenly axs w s .coordinates) ≡ length axs
 unfolding walked
 walked-size evenly [] w s = refl
 walked-size evenly (a ∷ axs) w s = ap suc (walked-size evenly axs _ (stepOf s))
 
-walked-in : (evenly : Bool) (plan : AxesPlan) (axs : List Axis) (w : Float) (s : MonteCarloRng) → FewBins plan → formedAxisList plan axs ≡ true → faultOfAll (walked evenly axs w s .coordinates) ≡ 0
-unfolding walked faultOfAll formedAxisList
-walked-in evenly plan [] w s few f = refl
-walked-in evenly plan (a ∷ axs) w s few f =
-    let p = both (formedAxis plan a) (formedAxisList plan axs) f in
-    let q = axis-has plan a few (p .0) in
-    rw (place-in evenly (a .edges) s (q .0) (q .1)) (walked-in evenly plan axs _ (stepOf s) few (p .1))
-
--- whichever way the floor has it
-record Spread (axs : List Axis) (xs : List Float) : Type 0 where
-  size : length xs ≡ length axs
-  fits : faultOfAll xs ≡ 0
-
-placed-spread : (floor : Float) (plan : AxesPlan) (axs : List Axis) (s : MonteCarloRng) → FewBins plan → formedAxisList plan axs ≡ true → Spread axs (placedFrom floor axs s .coordinates)
+pub placed-size : (f : Float) (axs : List Axis) (s : MonteCarloRng) → length (placedFrom f axs s .coordinates) ≡ length axs
 unfolding placedFrom
-placed-spread floor plan axs s few f = pick (eq floor zero64) (eq floor one64)
+placed-size f axs s = pick (eq f zero64) (eq f one64)
   where
-    pick : (b c : Bool) → Spread axs ((cond b (walked false axs one64 s) (cond c (walked true axs one64 s) (walked (lt (unitAt s) floor) axs one64 (stepOf s)))) .coordinates)
-    pick true c = record { size = walked-size false axs one64 s; fits = walked-in false plan axs one64 s few f }
-    pick false true = record { size = walked-size true axs one64 s; fits = walked-in true plan axs one64 s few f }
-    pick false false = record { size = walked-size (lt (unitAt s) floor) axs one64 (stepOf s); fits = walked-in (lt (unitAt s) floor) plan axs one64 (stepOf s) few f }
+    pick : (b c : Bool) → length ((cond b (walked false axs one64 s) (cond c (walked true axs one64 s) (walked (lt (unitAt s) f) axs one64 (stepOf s)))) .coordinates) ≡ length axs
+    pick true c = walked-size false axs one64 s
+    pick false true = walked-size true axs one64 s
+    pick false false = walked-size (lt (unitAt s) f) axs one64 (stepOf s)
+
+-- each a number in [0, 1]
+module _ (plan : AxesPlan) (few : FewBins plan) where
+  walked-in : (evenly : Bool) (axs : List Axis) (w : Float) (s : MonteCarloRng) → formedAxisList plan axs ≡ true → faultOfAll (walked evenly axs w s .coordinates) ≡ 0
+  unfolding walked faultOfAll formedAxisList
+  walked-in evenly [] w s f = refl
+  walked-in evenly (a ∷ axs) w s f =
+      let p = both (formedAxis plan a) (formedAxisList plan axs) f in
+      let q = axis-has plan a few (p .0) in
+      rw (place-in evenly (a .edges) s (q .0) (q .1)) (walked-in evenly axs _ (stepOf s) (p .1))
+
+  placed-in : (f : Float) (axs : List Axis) (s : MonteCarloRng) → formedAxisList plan axs ≡ true → faultOfAll (placedFrom f axs s .coordinates) ≡ 0
+  unfolding placedFrom
+  placed-in f axs s h = pick (eq f zero64) (eq f one64)
+    where
+      pick : (b c : Bool) → faultOfAll ((cond b (walked false axs one64 s) (cond c (walked true axs one64 s) (walked (lt (unitAt s) f) axs one64 (stepOf s)))) .coordinates) ≡ 0
+      pick true c = walked-in false axs one64 s h
+      pick false true = walked-in true axs one64 s h
+      pick false false = walked-in (lt (unitAt s) f) axs one64 (stepOf s) h
 
 axes-drawn : (g : AxesGrid) (s : MonteCarloRng) → FewBins (g .plan) → formedAxisList (g .plan) (g .axes) ≡ true
     → faultOfAxes g (drawAxes g s .sample .path) (drawAxes g s .sample .weights) (drawAxes g s .sample .coordinates) ≡ 0
 unfolding faultOfAxes drawAxes placedOf
 axes-drawn g s few f =
-    let p = placed-spread (g .plan .floor) (g .plan) (g .axes) s few f in
-    rw (eq-eqb _ _ (p .size), p .fits)
+    rw (eq-eqb _ _ (placed-size (g .plan .floor) (g .axes) s), placed-in (g .plan) few (g .plan .floor) (g .axes) s f)
 
 -- ---- the bin that a draw reaches is there
 
