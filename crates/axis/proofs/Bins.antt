@@ -65,7 +65,7 @@ pub or-right : (a b : Bool) → b ≡ true → (a || b) ≡ true
 or-right true b e = refl
 or-right false b e = e
 
-and : (a b : Bool) → a ≡ true → b ≡ true → (a && b) ≡ true
+pub and : (a b : Bool) → a ≡ true → b ≡ true → (a && b) ≡ true
 and a b p q = ap (λ (x : Bool). x && b) p ∙ q
 
 -- ---- only numbers in [0, 1] have a bin

@@ -24,3 +24,4 @@ pub mod Steps
 pub mod Sterbenz
 pub mod Error
 pub mod Draws
+pub mod Between

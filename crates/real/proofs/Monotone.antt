@@ -127,7 +127,7 @@ module _ (f : Format) (x y : Float) (ux : T (unsigned x)) (uy : T (unsigned y)) 
       (round-below f (num x * den y) (num y * den x) x (num x) (den x) (mul-pos Y (den-pos x)) (den-pos x) fx (own x ux)
       (le-trans (mul-le-mul-right (den x) (mul-le-mul-left (num x) h)) (le-of-eq (mul-assoc (num x) (num y) (den x)))))
 
-one-value : HasValue one64 false 1 1
+pub one-value : HasValue one64 false 1 1
 unfolding ofBits
 one-value = (refl, refl)
 
