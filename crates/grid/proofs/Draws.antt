@@ -1,27 +1,21 @@
 -- A draw axis by axis: what is set and what is to come make the model's draw.
 use mathlib.Core.Path.{_≡_, refl, sym, ap, _∙_, subst}
 use mathlib.Core.List.{List, _++_, append-nil, append-assoc}
-use mathlib.Core.Bool.{Bool, true, _&&_}
-use Prim.Native.Nat.{ℕ, suc, _+_, _-_, _*_, _^_, _≤_, _<_}
-use native.Mathlib.Nat.{mod-lt}
+use mathlib.Core.Bool.{Bool, true}
+use Prim.Native.Nat.{ℕ, _+_, _-_, _*_, _≤_, _<_}
 use native.Mathlib.Numerals.{add-one}
 use native.Mathlib.Omega.{arith}
 use lib.ListN.{length, take, drop, set, getD, take-append-drop}
 use lib.Seq.{take-suc-set, drop-set-lt, drop-drop, length-take-le, sets, sets-eq}
-use lib.Ieee.{Float, binary64, mul, le, ofBits}
-use lib.Pow.{pow-pos}
-use Rattle.real.specs.Numbers.{zero64, one64}
-use Rattle.real.proofs.Truth.{is}
-use Rattle.real.proofs.Order.{le-trans-float}
+use lib.Ieee.{Float, binary64, mul}
 use Rattle.stream.specs.declared.MonteCarloRng.{MonteCarloRng}
 use Rattle.stream.specs.declared.Unit.{Unit}
-use Rattle.stream.specs.Words.{times}
 use Rattle.stream.specs.Xoshiro.{wordOf, stepOf}
-use Rattle.stream.specs.Calls.{unitOf, unitDrawnOf}
-use Rattle.stream.proofs.Units.{largest, unit-low, unit-high}
+use Rattle.stream.specs.Calls.{unitDrawnOf}
 use Rattle.axis.specs.declared.Point.{Point}
 use Rattle.axis.specs.Edges.{wellFormed, inUnit}
 use Rattle.model.specs.Draw.{Placed, unitAt, placeOn, walked}
+use Rattle.model.proofs.Drawn.{word-below, unit-in}
 use Rattle.grid.specs.Layout.{stretch, axisAt, axesFrom}
 use Rattle.grid.specs.Drawn.{Places}
 use Rattle.grid.proofs.Standing.{left-on}
@@ -29,21 +23,6 @@ use Rattle.grid.proofs.Standing.{left-on}
 -- coordinates in front of a draw
 abbrev pub behind : List Float → Placed → Placed
 behind xs p = record { coordinates = xs ++ p .coordinates; weight = p .weight; stream = p .stream }
-
--- a word has 64 bits, and its unit draw is a number in [0, 1]
-word-below : (s : MonteCarloRng) → wordOf s < 2 ^ 64
-unfolding wordOf times
-word-below s = mod-lt _ (pow-pos 64)
-
-below-one : le largest one64 ≡ true
-unfolding le ofBits
-below-one = refl
-
-pub unit-in : (w : ℕ) → w < 2 ^ 64 → inUnit (unitOf w) ≡ true
-unfolding inUnit
-unit-in w h =
-    ap (λ (b : Bool). b && le (unitOf w) one64) {x = le zero64 (unitOf w)} (is (unit-low w h))
-    ∙ le-trans-float (unitOf w) largest one64 (is (unit-high w h)) below-one
 
 module _ (m : ℕ) (reals : List Float) (counts : List ℕ) (evenly : Bool) where
   walked-on : (k d r c : ℕ) (cs : List Float) (w : Float) (s : MonteCarloRng) (p : Point) → d < k → d < length cs

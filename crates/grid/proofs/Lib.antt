@@ -23,6 +23,7 @@ pub mod Judges
 pub mod Sounds
 pub mod Samples
 pub mod Paths
+pub mod Drawable
 pub mod States
 pub mod Trains
 pub mod Trained
