@@ -9,9 +9,9 @@ use lib.ListN.{length, take, drop, set, getD, take-append-drop}
 use lib.Seq.{take-suc-set, drop-set-lt, drop-drop, length-take-le, sets, sets-eq}
 use lib.Ieee.{Float, binary64, mul}
 use Rattle.stream.specs.declared.MonteCarloRng.{MonteCarloRng}
-use Rattle.stream.specs.declared.Unit.{Unit}
+use Rattle.stream.specs.declared.Word.{Word}
 use Rattle.stream.specs.Xoshiro.{wordOf, stepOf}
-use Rattle.stream.specs.Calls.{unitDrawnOf}
+use Rattle.stream.specs.Calls.{drawnOf, unitOf}
 use Rattle.axis.specs.declared.Point.{Point}
 use Rattle.axis.specs.Edges.{wellFormed, inUnit}
 use Rattle.model.specs.Draw.{Placed, unitAt, placeOn, walked}
@@ -32,15 +32,15 @@ module _ (m : ℕ) (reals : List Float) (counts : List ℕ) (evenly : Bool) wher
   unfolding walked axisAt
   walked-on k d r c cs w s p h i e = rw (left-on m reals counts k d r c h, e, add-one, take-suc-set cs d, append-assoc)
 
-  -- the same from what the code draws: the unit draw, and the point on the part of the edges that is lent
-  pub drawn-on : (k d r c : ℕ) (cs : List Float) (w : Float) (s : MonteCarloRng) (u : Unit) (p : Point) → d < k → d < length cs
-      → u ≡ unitDrawnOf s → p ≡ placeOn evenly (take (r + getD counts c 0 + 1 - r) (drop r reals)) (u .value)
-      → behind (take (d + 1) (set cs d (p .at))) (walked evenly (axesFrom m reals counts (k - (d + 1)) (r + (6 * m + 1)) (c + (3 * m + 2))) (mul binary64 w (p .weight)) (u .stream))
+  -- the same from what the code draws: the word, its unit draw, and the point on the part of the edges that is lent
+  pub drawn-on : (k d r c : ℕ) (cs : List Float) (w : Float) (s : MonteCarloRng) (word : Word) (unit : Float) (p : Point) → d < k → d < length cs
+      → word ≡ drawnOf s → unit ≡ unitOf (word .value) → p ≡ placeOn evenly (take (r + getD counts c 0 + 1 - r) (drop r reals)) unit
+      → behind (take (d + 1) (set cs d (p .at))) (walked evenly (axesFrom m reals counts (k - (d + 1)) (r + (6 * m + 1)) (c + (3 * m + 2))) (mul binary64 w (p .weight)) (word .stream))
       ≡ behind (take d cs) (walked evenly (axesFrom m reals counts (k - d) r c) w s)
-  unfolding unitDrawnOf unitAt stretch
-  drawn-on k d r c cs w s u p h i drawn point =
+  unfolding drawnOf unitAt stretch
+  drawn-on k d r c cs w s word unit p h i drawn read point =
       let e : r + getD counts c 0 + 1 - r ≡ getD counts c 0 + 1 = omega arith in
-      let there : p ≡ placeOn evenly (stretch r (getD counts c 0 + 1) reals) (unitAt s) = rw (drawn, e) at point in
+      let there : p ≡ placeOn evenly (stretch r (getD counts c 0 + 1) reals) (unitAt s) = rw (read, drawn, e) at point in
       rw drawn (walked-on k d r c cs w s p h i there)
 
   -- no axis left
@@ -57,9 +57,9 @@ pub asked-part : (r n : ℕ) (reals : List Float) → wellFormed (stretch r (n +
 unfolding stretch
 asked-part r n reals f = let e : r + n + 1 - r ≡ n + 1 = omega arith in rw e f
 
-pub asked-unit : (s : MonteCarloRng) (u : Unit) → u ≡ unitDrawnOf s → inUnit (u .value) ≡ true
-unfolding unitDrawnOf
-asked-unit s u drawn = rw drawn (unit-in (wordOf s) (word-below s))
+pub asked-unit : (s : MonteCarloRng) (word : Word) (unit : Float) → word ≡ drawnOf s → unit ≡ unitOf (word .value) → inUnit unit ≡ true
+unfolding drawnOf
+asked-unit s word unit drawn read = rw (read, drawn) (unit-in (wordOf s) (word-below s))
 
 -- ---- coordinates that are not set yet are as they were
 

@@ -1,6 +1,7 @@
 // The axes of a grid: each works on its own stretch of the lent edges, wherever that begins.
 ghost use mathlib.Core.Path.{_≡_};
 ghost use mathlib.Core.Bool.{true};
+ghost use Prim.Native.Nat.{_≤_};
 ghost use lib.ListN.{length};
 ghost use Rattle.real.specs.Numbers.{one64};
 ghost use Rattle.axis.specs.Edges.{wellFormed, inUnit};
@@ -25,8 +26,15 @@ pub struct AxesAt {
     pub counts: usize,
 }
 
-// A coordinate, its weight and its bin from a unit draw: the draw itself where sampling is even, else the axis's own.
-fn place_on(edges: &[f64], unit: f64, evenly: bool) -> Spot
+// The bin of those held that a word's draw falls to, near enough for a guess.
+fn guess_of(word: u64, held: usize) -> usize
+    requires { ⌜ held ≤ 1024 ⌝ }
+{
+    (((word >> 32) as usize) * held) >> 32
+}
+
+// A coordinate, its weight and its bin from a unit draw: the draw itself where sampling is even, else the axis's own, near any guess.
+fn place_on(edges: &[f64], unit: f64, evenly: bool, guess: usize) -> Spot
     requires { ⌜ (wellFormed (now edges) ≡ true) × (inUnit unit ≡ true) ⌝ }
     ensures { λ s. ⌜ s .point ≡ placeOn evenly (now (edges .entry)) unit ⌝ }
 {
@@ -38,7 +46,7 @@ fn place_on(edges: &[f64], unit: f64, evenly: bool) -> Spot
         };
         return Spot { point, bin };
     }
-    axis::edges::spot_of(edges, unit)
+    axis::edges::spot_near(edges, unit, guess)
 }
 
 // Draws a coordinate on each axis. The bins that they were drawn from are guesses for the search in training, which takes any number.
@@ -61,13 +69,15 @@ fn walk_axes(
     let mut done = 0;
     while done < g.axes {
         let held = counts[place] as usize;
-        let unit = stream.unit();
+        let word = stream.next_u64();
+        let unit = stream::unit_of(word.value);
+        let guess = guess_of(word.value, held);
         let end = at + held + 1;
         let edges = &reals[at..end];
-        let spot = place_on(edges, unit.value, evenly);
+        let spot = place_on(edges, unit, evenly, guess);
         coordinates[done] = spot.point.at;
         weight = weight * spot.point.weight;
-        stream = unit.stream;
+        stream = word.stream;
         at = at + (6 * g.most + 1);
         place = place + (3 * g.most + 2);
         near[done] = spot.bin;

@@ -14,7 +14,9 @@ use Rattle.grid.proofs.axes.walk_axes.Tie as tie
 use Rattle.grid.proofs.axes.walk_axes.Reads as reads
 use Rattle.grid.proofs.axes.walk_axes.Lts as lts
 use Rattle.grid.proofs.axes.place_on.Reads as place-on-reads
-use Rattle.stream.proofs.MonteCarloRng.unit.Reads as unit-reads
+use Rattle.stream.proofs.MonteCarloRng.next_u64.Reads as next-u64-reads
+use Rattle.stream.proofs.unit_of.Reads as unit-of-reads
+use Rattle.grid.proofs.axes.guess_of.Reads as guess-of-reads
 
 abbrev Inv-loop : tie.InvT-loop
 Inv-loop reals counts g evenly coordinates₀ near₀ weight₀ stream₀ at₀ place₀ done₀ coordinates near weight stream at place done =
@@ -38,90 +40,95 @@ mul-held c = let n = next (c .before .before .before .before .before .args .g .m
 shared-slice-read-held : tie.Need-shared-slice-read-held Inv-loop μ-loop
 shared-slice-read-held c = let n = next (c .before .before .before .before .before .before .args .g .most) (c .before .before .before .before .before .before .args .reals .now) (c .before .before .before .before .before .before .args .counts .now) (c .before .before .before .before .before .before .args .g .axes) (c .before .before .before .loop .done) (c .before .before .before .loop .at) (c .before .before .before .loop .place) (c .before .if1 .taken) (c .before .before .before .loop .inv .2) in omega arith
 
--- src/axes.rt:30:13
-unit-requires : tie.Need-unit-requires Inv-loop μ-loop
-unit-requires c κs = tt
+next-u64-requires : tie.Need-next-u64-requires Inv-loop μ-loop
+next-u64-requires c κs = tt
+
+unit-of-requires : tie.Need-unit-of-requires Inv-loop μ-loop
+unit-of-requires c κs = tt
+
+guess-of-requires : tie.Need-guess-of-requires Inv-loop μ-loop
+guess-of-requires c κs = let n = next (c .before .before .before .before .before .before .before .before .args .g .most) (c .before .before .before .before .before .before .before .before .args .reals .now) (c .before .before .before .before .before .before .before .before .args .counts .now) (c .before .before .before .before .before .before .before .before .args .g .axes) (c .before .before .before .before .before .loop .done) (c .before .before .before .before .before .loop .at) (c .before .before .before .before .before .loop .place) (c .before .before .before .if1 .taken) (c .before .before .before .before .before .loop .inv .2) in omega (arith, c .before .before .before .before .before .before .before .before .pre .0 .1)
 
 -- src/axes.rt:31:19
 add-end : tie.Need-add-end Inv-loop μ-loop
-add-end c = let n = next (c .before .before .before .before .before .before .before .args .g .most) (c .before .before .before .before .before .before .before .args .reals .now) (c .before .before .before .before .before .before .before .args .counts .now) (c .before .before .before .before .before .before .before .args .g .axes) (c .before .before .before .before .loop .done) (c .before .before .before .before .loop .at) (c .before .before .before .before .loop .place) (c .before .before .if1 .taken) (c .before .before .before .before .loop .inv .2) in omega arith
+add-end c = let n = next (c .before .before .before .before .before .before .before .before .before .args .g .most) (c .before .before .before .before .before .before .before .before .before .args .reals .now) (c .before .before .before .before .before .before .before .before .before .args .counts .now) (c .before .before .before .before .before .before .before .before .before .args .g .axes) (c .before .before .before .before .before .before .loop .done) (c .before .before .before .before .before .before .loop .at) (c .before .before .before .before .before .before .loop .place) (c .before .before .before .before .if1 .taken) (c .before .before .before .before .before .before .loop .inv .2) in omega arith
 
 -- src/axes.rt:31:19
 add-end-2 : tie.Need-add-end-2 Inv-loop μ-loop
-add-end-2 c = let n = next (c .before .before .before .before .before .before .before .args .g .most) (c .before .before .before .before .before .before .before .args .reals .now) (c .before .before .before .before .before .before .before .args .counts .now) (c .before .before .before .before .before .before .before .args .g .axes) (c .before .before .before .before .loop .done) (c .before .before .before .before .loop .at) (c .before .before .before .before .loop .place) (c .before .before .if1 .taken) (c .before .before .before .before .loop .inv .2) in omega arith
+add-end-2 c = let n = next (c .before .before .before .before .before .before .before .before .before .args .g .most) (c .before .before .before .before .before .before .before .before .before .args .reals .now) (c .before .before .before .before .before .before .before .before .before .args .counts .now) (c .before .before .before .before .before .before .before .before .before .args .g .axes) (c .before .before .before .before .before .before .loop .done) (c .before .before .before .before .before .before .loop .at) (c .before .before .before .before .before .before .loop .place) (c .before .before .before .before .if1 .taken) (c .before .before .before .before .before .before .loop .inv .2) in omega arith
 
 -- src/axes.rt:32:43
 mul-edges : tie.Need-mul-edges Inv-loop μ-loop
-mul-edges c = let n = next (c .before .before .before .before .before .before .before .args .g .most) (c .before .before .before .before .before .before .before .args .reals .now) (c .before .before .before .before .before .before .before .args .counts .now) (c .before .before .before .before .before .before .before .args .g .axes) (c .before .before .before .before .loop .done) (c .before .before .before .before .loop .at) (c .before .before .before .before .loop .place) (c .before .before .if1 .taken) (c .before .before .before .before .loop .inv .2) in omega arith
+mul-edges c = let n = next (c .before .before .before .before .before .before .before .before .before .args .g .most) (c .before .before .before .before .before .before .before .before .before .args .reals .now) (c .before .before .before .before .before .before .before .before .before .args .counts .now) (c .before .before .before .before .before .before .before .before .before .args .g .axes) (c .before .before .before .before .before .before .loop .done) (c .before .before .before .before .before .before .loop .at) (c .before .before .before .before .before .before .loop .place) (c .before .before .before .before .if1 .taken) (c .before .before .before .before .before .before .loop .inv .2) in omega arith
 
 -- src/axes.rt:32:43
 sub-edges : tie.Need-sub-edges Inv-loop μ-loop
-sub-edges c = let n = next (c .before .before .before .before .before .before .before .args .g .most) (c .before .before .before .before .before .before .before .args .reals .now) (c .before .before .before .before .before .before .before .args .counts .now) (c .before .before .before .before .before .before .before .args .g .axes) (c .before .before .before .before .loop .done) (c .before .before .before .before .loop .at) (c .before .before .before .before .loop .place) (c .before .before .if1 .taken) (c .before .before .before .before .loop .inv .2) in omega arith
+sub-edges c = let n = next (c .before .before .before .before .before .before .before .before .before .args .g .most) (c .before .before .before .before .before .before .before .before .before .args .reals .now) (c .before .before .before .before .before .before .before .before .before .args .counts .now) (c .before .before .before .before .before .before .before .before .before .args .g .axes) (c .before .before .before .before .before .before .loop .done) (c .before .before .before .before .before .before .loop .at) (c .before .before .before .before .before .before .loop .place) (c .before .before .before .before .if1 .taken) (c .before .before .before .before .before .before .loop .inv .2) in omega arith
 
 -- src/axes.rt:32:43
 part-edges-start : tie.Need-part-edges-start Inv-loop μ-loop
-part-edges-start c = let n = next (c .before .before .before .before .before .before .before .args .g .most) (c .before .before .before .before .before .before .before .args .reals .now) (c .before .before .before .before .before .before .before .args .counts .now) (c .before .before .before .before .before .before .before .args .g .axes) (c .before .before .before .before .loop .done) (c .before .before .before .before .loop .at) (c .before .before .before .before .loop .place) (c .before .before .if1 .taken) (c .before .before .before .before .loop .inv .2) in omega arith
+part-edges-start c = let n = next (c .before .before .before .before .before .before .before .before .before .args .g .most) (c .before .before .before .before .before .before .before .before .before .args .reals .now) (c .before .before .before .before .before .before .before .before .before .args .counts .now) (c .before .before .before .before .before .before .before .before .before .args .g .axes) (c .before .before .before .before .before .before .loop .done) (c .before .before .before .before .before .before .loop .at) (c .before .before .before .before .before .before .loop .place) (c .before .before .before .before .if1 .taken) (c .before .before .before .before .before .before .loop .inv .2) in omega arith
 
 -- src/axes.rt:32:43
 part-edges-end : tie.Need-part-edges-end Inv-loop μ-loop
-part-edges-end c = let n = next (c .before .before .before .before .before .before .before .args .g .most) (c .before .before .before .before .before .before .before .args .reals .now) (c .before .before .before .before .before .before .before .args .counts .now) (c .before .before .before .before .before .before .before .args .g .axes) (c .before .before .before .before .loop .done) (c .before .before .before .before .loop .at) (c .before .before .before .before .loop .place) (c .before .before .if1 .taken) (c .before .before .before .before .loop .inv .2) in omega arith
+part-edges-end c = let n = next (c .before .before .before .before .before .before .before .before .before .args .g .most) (c .before .before .before .before .before .before .before .before .before .args .reals .now) (c .before .before .before .before .before .before .before .before .before .args .counts .now) (c .before .before .before .before .before .before .before .before .before .args .g .axes) (c .before .before .before .before .before .before .loop .done) (c .before .before .before .before .before .before .loop .at) (c .before .before .before .before .before .before .loop .place) (c .before .before .before .before .if1 .taken) (c .before .before .before .before .before .before .loop .inv .2) in omega arith
 
 -- src/axes.rt:32:13
 place-on-requires : tie.Need-place-on-requires Inv-loop μ-loop
-place-on-requires c κs = let n = next (c .before .before .before .before .before .before .before .before .args .g .most) (c .before .before .before .before .before .before .before .before .args .reals .now) (c .before .before .before .before .before .before .before .before .args .counts .now) (c .before .before .before .before .before .before .before .before .args .g .axes) (c .before .before .before .before .before .loop .done) (c .before .before .before .before .before .loop .at) (c .before .before .before .before .before .loop .place) (c .before .before .before .if1 .taken) (c .before .before .before .before .before .loop .inv .2) in
-    (asked-part (c .before .before .before .before .before .loop .at) (getD (c .before .before .before .before .before .before .before .before .args .counts .now) (c .before .before .before .before .before .loop .place) 0) (c .before .before .before .before .before .before .before .before .args .reals .now) (n .edges), asked-unit (c .before .before .before .before .before .loop .stream) (c .before .unit .result) (c .before .unit .ensures))
+place-on-requires c κs = let n = next (c .before .before .before .before .before .before .before .before .before .before .args .g .most) (c .before .before .before .before .before .before .before .before .before .before .args .reals .now) (c .before .before .before .before .before .before .before .before .before .before .args .counts .now) (c .before .before .before .before .before .before .before .before .before .before .args .g .axes) (c .before .before .before .before .before .before .before .loop .done) (c .before .before .before .before .before .before .before .loop .at) (c .before .before .before .before .before .before .before .loop .place) (c .before .before .before .before .before .if1 .taken) (c .before .before .before .before .before .before .before .loop .inv .2) in
+    (asked-part (c .before .before .before .before .before .before .before .loop .at) (getD (c .before .before .before .before .before .before .before .before .before .before .args .counts .now) (c .before .before .before .before .before .before .before .loop .place) 0) (c .before .before .before .before .before .before .before .before .before .before .args .reals .now) (n .edges), asked-unit (c .before .before .before .before .before .before .before .loop .stream) (c .before .before .before .next-u64 .result) (c .before .before .unit-of .result) (c .before .before .before .next-u64 .ensures) (c .before .before .unit-of .ensures))
 
 -- src/axes.rt:33:9
 mul-coordinates : tie.Need-mul-coordinates Inv-loop μ-loop
-mul-coordinates c = omega (arith, c .before .before .before .before .before .before .before .before .before .pre .0 .0, c .before .before .before .before .if1 .taken)
+mul-coordinates c = omega (arith, c .before .before .before .before .before .before .before .before .before .before .before .pre .0 .0, c .before .before .before .before .before .before .if1 .taken)
 
 -- src/axes.rt:33:9
 element-write-coordinates : tie.Need-element-write-coordinates Inv-loop μ-loop
-element-write-coordinates c = omega (arith, c .before .before .before .before .before .before .before .before .before .pre .0 .0, c .before .before .before .before .if1 .taken)
+element-write-coordinates c = omega (arith, c .before .before .before .before .before .before .before .before .before .before .before .pre .0 .0, c .before .before .before .before .before .before .if1 .taken)
 
 -- src/axes.rt:36:20
 mul-at : tie.Need-mul-at Inv-loop μ-loop
-mul-at c = let n = next (c .before .before .before .before .before .before .before .before .before .before .before .before .args .g .most) (c .before .before .before .before .before .before .before .before .before .before .before .before .args .reals .now) (c .before .before .before .before .before .before .before .before .before .before .before .before .args .counts .now) (c .before .before .before .before .before .before .before .before .before .before .before .before .args .g .axes) (c .before .before .before .before .before .before .before .before .before .loop .done) (c .before .before .before .before .before .before .before .before .before .loop .at) (c .before .before .before .before .before .before .before .before .before .loop .place) (c .before .before .before .before .before .before .before .if1 .taken) (c .before .before .before .before .before .before .before .before .before .loop .inv .2) in omega (arith, c .before .before .before .before .before .before .before .before .before .before .before .before .pre .0 .1)
+mul-at c = let n = next (c .before .before .before .before .before .before .before .before .before .before .before .before .before .before .args .g .most) (c .before .before .before .before .before .before .before .before .before .before .before .before .before .before .args .reals .now) (c .before .before .before .before .before .before .before .before .before .before .before .before .before .before .args .counts .now) (c .before .before .before .before .before .before .before .before .before .before .before .before .before .before .args .g .axes) (c .before .before .before .before .before .before .before .before .before .before .before .loop .done) (c .before .before .before .before .before .before .before .before .before .before .before .loop .at) (c .before .before .before .before .before .before .before .before .before .before .before .loop .place) (c .before .before .before .before .before .before .before .before .before .if1 .taken) (c .before .before .before .before .before .before .before .before .before .before .before .loop .inv .2) in omega (arith, c .before .before .before .before .before .before .before .before .before .before .before .before .before .before .pre .0 .1)
 
 -- src/axes.rt:36:20
 add-at : tie.Need-add-at Inv-loop μ-loop
-add-at c = let n = next (c .before .before .before .before .before .before .before .before .before .before .before .before .args .g .most) (c .before .before .before .before .before .before .before .before .before .before .before .before .args .reals .now) (c .before .before .before .before .before .before .before .before .before .before .before .before .args .counts .now) (c .before .before .before .before .before .before .before .before .before .before .before .before .args .g .axes) (c .before .before .before .before .before .before .before .before .before .loop .done) (c .before .before .before .before .before .before .before .before .before .loop .at) (c .before .before .before .before .before .before .before .before .before .loop .place) (c .before .before .before .before .before .before .before .if1 .taken) (c .before .before .before .before .before .before .before .before .before .loop .inv .2) in omega (arith, c .before .before .before .before .before .before .before .before .before .before .before .before .pre .0 .1)
+add-at c = let n = next (c .before .before .before .before .before .before .before .before .before .before .before .before .before .before .args .g .most) (c .before .before .before .before .before .before .before .before .before .before .before .before .before .before .args .reals .now) (c .before .before .before .before .before .before .before .before .before .before .before .before .before .before .args .counts .now) (c .before .before .before .before .before .before .before .before .before .before .before .before .before .before .args .g .axes) (c .before .before .before .before .before .before .before .before .before .before .before .loop .done) (c .before .before .before .before .before .before .before .before .before .before .before .loop .at) (c .before .before .before .before .before .before .before .before .before .before .before .loop .place) (c .before .before .before .before .before .before .before .before .before .if1 .taken) (c .before .before .before .before .before .before .before .before .before .before .before .loop .inv .2) in omega (arith, c .before .before .before .before .before .before .before .before .before .before .before .before .before .before .pre .0 .1)
 
 -- src/axes.rt:36:14
 add-at-2 : tie.Need-add-at-2 Inv-loop μ-loop
-add-at-2 c = let n = next (c .before .before .before .before .before .before .before .before .before .before .before .before .args .g .most) (c .before .before .before .before .before .before .before .before .before .before .before .before .args .reals .now) (c .before .before .before .before .before .before .before .before .before .before .before .before .args .counts .now) (c .before .before .before .before .before .before .before .before .before .before .before .before .args .g .axes) (c .before .before .before .before .before .before .before .before .before .loop .done) (c .before .before .before .before .before .before .before .before .before .loop .at) (c .before .before .before .before .before .before .before .before .before .loop .place) (c .before .before .before .before .before .before .before .if1 .taken) (c .before .before .before .before .before .before .before .before .before .loop .inv .2) in omega (arith, c .before .before .before .before .before .before .before .before .before .before .before .before .pre .0 .1)
+add-at-2 c = let n = next (c .before .before .before .before .before .before .before .before .before .before .before .before .before .before .args .g .most) (c .before .before .before .before .before .before .before .before .before .before .before .before .before .before .args .reals .now) (c .before .before .before .before .before .before .before .before .before .before .before .before .before .before .args .counts .now) (c .before .before .before .before .before .before .before .before .before .before .before .before .before .before .args .g .axes) (c .before .before .before .before .before .before .before .before .before .before .before .loop .done) (c .before .before .before .before .before .before .before .before .before .before .before .loop .at) (c .before .before .before .before .before .before .before .before .before .before .before .loop .place) (c .before .before .before .before .before .before .before .before .before .if1 .taken) (c .before .before .before .before .before .before .before .before .before .before .before .loop .inv .2) in omega (arith, c .before .before .before .before .before .before .before .before .before .before .before .before .before .before .pre .0 .1)
 
 -- src/axes.rt:37:26
 mul-place : tie.Need-mul-place Inv-loop μ-loop
-mul-place c = let n = next (c .before .before .before .before .before .before .before .before .before .before .before .before .before .args .g .most) (c .before .before .before .before .before .before .before .before .before .before .before .before .before .args .reals .now) (c .before .before .before .before .before .before .before .before .before .before .before .before .before .args .counts .now) (c .before .before .before .before .before .before .before .before .before .before .before .before .before .args .g .axes) (c .before .before .before .before .before .before .before .before .before .before .loop .done) (c .before .before .before .before .before .before .before .before .before .before .loop .at) (c .before .before .before .before .before .before .before .before .before .before .loop .place) (c .before .before .before .before .before .before .before .before .if1 .taken) (c .before .before .before .before .before .before .before .before .before .before .loop .inv .2) in omega (arith, c .before .before .before .before .before .before .before .before .before .before .before .before .before .pre .0 .1)
+mul-place c = let n = next (c .before .before .before .before .before .before .before .before .before .before .before .before .before .before .before .args .g .most) (c .before .before .before .before .before .before .before .before .before .before .before .before .before .before .before .args .reals .now) (c .before .before .before .before .before .before .before .before .before .before .before .before .before .before .before .args .counts .now) (c .before .before .before .before .before .before .before .before .before .before .before .before .before .before .before .args .g .axes) (c .before .before .before .before .before .before .before .before .before .before .before .before .loop .done) (c .before .before .before .before .before .before .before .before .before .before .before .before .loop .at) (c .before .before .before .before .before .before .before .before .before .before .before .before .loop .place) (c .before .before .before .before .before .before .before .before .before .before .if1 .taken) (c .before .before .before .before .before .before .before .before .before .before .before .before .loop .inv .2) in omega (arith, c .before .before .before .before .before .before .before .before .before .before .before .before .before .before .before .pre .0 .1)
 
 -- src/axes.rt:37:26
 add-place : tie.Need-add-place Inv-loop μ-loop
-add-place c = let n = next (c .before .before .before .before .before .before .before .before .before .before .before .before .before .args .g .most) (c .before .before .before .before .before .before .before .before .before .before .before .before .before .args .reals .now) (c .before .before .before .before .before .before .before .before .before .before .before .before .before .args .counts .now) (c .before .before .before .before .before .before .before .before .before .before .before .before .before .args .g .axes) (c .before .before .before .before .before .before .before .before .before .before .loop .done) (c .before .before .before .before .before .before .before .before .before .before .loop .at) (c .before .before .before .before .before .before .before .before .before .before .loop .place) (c .before .before .before .before .before .before .before .before .if1 .taken) (c .before .before .before .before .before .before .before .before .before .before .loop .inv .2) in omega (arith, c .before .before .before .before .before .before .before .before .before .before .before .before .before .pre .0 .1)
+add-place c = let n = next (c .before .before .before .before .before .before .before .before .before .before .before .before .before .before .before .args .g .most) (c .before .before .before .before .before .before .before .before .before .before .before .before .before .before .before .args .reals .now) (c .before .before .before .before .before .before .before .before .before .before .before .before .before .before .before .args .counts .now) (c .before .before .before .before .before .before .before .before .before .before .before .before .before .before .before .args .g .axes) (c .before .before .before .before .before .before .before .before .before .before .before .before .loop .done) (c .before .before .before .before .before .before .before .before .before .before .before .before .loop .at) (c .before .before .before .before .before .before .before .before .before .before .before .before .loop .place) (c .before .before .before .before .before .before .before .before .before .before .if1 .taken) (c .before .before .before .before .before .before .before .before .before .before .before .before .loop .inv .2) in omega (arith, c .before .before .before .before .before .before .before .before .before .before .before .before .before .before .before .pre .0 .1)
 
 -- src/axes.rt:37:17
 add-place-2 : tie.Need-add-place-2 Inv-loop μ-loop
-add-place-2 c = let n = next (c .before .before .before .before .before .before .before .before .before .before .before .before .before .args .g .most) (c .before .before .before .before .before .before .before .before .before .before .before .before .before .args .reals .now) (c .before .before .before .before .before .before .before .before .before .before .before .before .before .args .counts .now) (c .before .before .before .before .before .before .before .before .before .before .before .before .before .args .g .axes) (c .before .before .before .before .before .before .before .before .before .before .loop .done) (c .before .before .before .before .before .before .before .before .before .before .loop .at) (c .before .before .before .before .before .before .before .before .before .before .loop .place) (c .before .before .before .before .before .before .before .before .if1 .taken) (c .before .before .before .before .before .before .before .before .before .before .loop .inv .2) in omega (arith, c .before .before .before .before .before .before .before .before .before .before .before .before .before .pre .0 .1)
+add-place-2 c = let n = next (c .before .before .before .before .before .before .before .before .before .before .before .before .before .before .before .args .g .most) (c .before .before .before .before .before .before .before .before .before .before .before .before .before .before .before .args .reals .now) (c .before .before .before .before .before .before .before .before .before .before .before .before .before .before .before .args .counts .now) (c .before .before .before .before .before .before .before .before .before .before .before .before .before .before .before .args .g .axes) (c .before .before .before .before .before .before .before .before .before .before .before .before .loop .done) (c .before .before .before .before .before .before .before .before .before .before .before .before .loop .at) (c .before .before .before .before .before .before .before .before .before .before .before .before .loop .place) (c .before .before .before .before .before .before .before .before .before .before .if1 .taken) (c .before .before .before .before .before .before .before .before .before .before .before .before .loop .inv .2) in omega (arith, c .before .before .before .before .before .before .before .before .before .before .before .before .before .before .before .good .1 .0, c .before .before .before .before .before .before .before .before .before .before .before .before .before .before .before .pre .0 .1)
 
 mul-near : tie.Need-mul-near Inv-loop μ-loop
-mul-near c = omega (arith, c .before .before .before .before .before .before .before .before .before .before .before .before .before .pre .0 .0, c .before .before .before .before .before .before .before .before .if1 .taken)
+mul-near c = omega (arith, c .before .before .before .before .before .before .before .before .before .before .before .before .before .before .before .pre .0 .0, c .before .before .before .before .before .before .before .before .before .before .if1 .taken)
 
 element-write-near : tie.Need-element-write-near Inv-loop μ-loop
-element-write-near c = omega (arith, c .before .before .before .before .before .before .before .before .before .before .before .before .before .pre .0 .0, c .before .before .before .before .before .before .before .before .if1 .taken)
+element-write-near c = omega (arith, c .before .before .before .before .before .before .before .before .before .before .before .before .before .before .before .pre .0 .0, c .before .before .before .before .before .before .before .before .before .before .if1 .taken)
 
 add-done : tie.Need-add-done Inv-loop μ-loop
-add-done c = omega (arith, c .before .before .before .before .before .before .before .before .before .before .before .before .before .pre .0 .0, c .before .before .before .before .before .before .before .before .if1 .taken)
+add-done c = omega (arith, c .before .before .before .before .before .before .before .before .before .before .before .before .before .before .before .pre .0 .0, c .before .before .before .before .before .before .before .before .before .before .if1 .taken)
 
 loop-less : tie.Need-loop-less Inv-loop μ-loop
-loop-less c = omega (arith, c .before .before .before .before .before .before .before .before .if1 .taken)
+loop-less c = omega (arith, c .before .before .before .before .before .before .before .before .before .before .if1 .taken)
 
 loop-again : tie.Need-loop-again Inv-loop μ-loop
-loop-again c = let n = next (c .before .before .before .before .before .before .before .before .before .before .before .before .before .args .g .most) (c .before .before .before .before .before .before .before .before .before .before .before .before .before .args .reals .now) (c .before .before .before .before .before .before .before .before .before .before .before .before .before .args .counts .now) (c .before .before .before .before .before .before .before .before .before .before .before .before .before .args .g .axes) (c .before .before .before .before .before .before .before .before .before .before .loop .done) (c .before .before .before .before .before .before .before .before .before .before .loop .at) (c .before .before .before .before .before .before .before .before .before .before .loop .place) (c .before .before .before .before .before .before .before .before .if1 .taken) (c .before .before .before .before .before .before .before .before .before .before .loop .inv .2) in (
-  omega (arith, c .before .before .before .before .before .before .before .before .if1 .taken),
-  simp length-set (c .before .before .before .before .before .before .before .before .before .before .loop .inv .1),
+loop-again c = let n = next (c .before .before .before .before .before .before .before .before .before .before .before .before .before .before .before .args .g .most) (c .before .before .before .before .before .before .before .before .before .before .before .before .before .before .before .args .reals .now) (c .before .before .before .before .before .before .before .before .before .before .before .before .before .before .before .args .counts .now) (c .before .before .before .before .before .before .before .before .before .before .before .before .before .before .before .args .g .axes) (c .before .before .before .before .before .before .before .before .before .before .before .before .loop .done) (c .before .before .before .before .before .before .before .before .before .before .before .before .loop .at) (c .before .before .before .before .before .before .before .before .before .before .before .before .loop .place) (c .before .before .before .before .before .before .before .before .before .before .if1 .taken) (c .before .before .before .before .before .before .before .before .before .before .before .before .loop .inv .2) in (
+  omega (arith, c .before .before .before .before .before .before .before .before .before .before .if1 .taken),
+  simp length-set (c .before .before .before .before .before .before .before .before .before .before .before .before .loop .inv .1),
   n .rest,
-  drawn-on (c .before .before .before .before .before .before .before .before .before .before .before .before .before .args .g .most) (c .before .before .before .before .before .before .before .before .before .before .before .before .before .args .reals .now) (c .before .before .before .before .before .before .before .before .before .before .before .before .before .args .counts .now) (c .before .before .before .before .before .before .before .before .before .before .before .before .before .args .evenly) (c .before .before .before .before .before .before .before .before .before .before .before .before .before .args .g .axes) (c .before .before .before .before .before .before .before .before .before .before .loop .done) (c .before .before .before .before .before .before .before .before .before .before .loop .at) (c .before .before .before .before .before .before .before .before .before .before .loop .place) (c .before .before .before .before .before .before .before .before .before .before .loop .coordinates) (c .before .before .before .before .before .before .before .before .before .before .loop .weight) (c .before .before .before .before .before .before .before .before .before .before .loop .stream) (c .before .before .before .before .before .before .unit .result) (c .before .before .before .before .place-on .result .point) (c .before .before .before .before .before .before .before .before .if1 .taken) (omega (arith, c .before .before .before .before .before .before .before .before .before .before .before .before .before .pre .0 .0, c .before .before .before .before .before .before .before .before .before .before .loop .inv .1, c .before .before .before .before .before .before .before .before .if1 .taken)) (c .before .before .before .before .before .before .unit .ensures) (c .before .before .before .before .place-on .ensures) ∙ c .before .before .before .before .before .before .before .before .before .before .loop .inv .3,
-  kept-on (c .before .before .before .before .before .before .before .before .before .before .before .before .before .args .coordinates .now) (c .before .before .before .before .before .before .before .before .before .before .loop .coordinates) (c .before .before .before .before .before .before .before .before .before .before .loop .done) (c .before .before .before .before .place-on .result .point .at) (c .before .before .before .before .before .before .before .before .before .before .loop .inv .4),
+  drawn-on (c .before .before .before .before .before .before .before .before .before .before .before .before .before .before .before .args .g .most) (c .before .before .before .before .before .before .before .before .before .before .before .before .before .before .before .args .reals .now) (c .before .before .before .before .before .before .before .before .before .before .before .before .before .before .before .args .counts .now) (c .before .before .before .before .before .before .before .before .before .before .before .before .before .before .before .args .evenly) (c .before .before .before .before .before .before .before .before .before .before .before .before .before .before .before .args .g .axes) (c .before .before .before .before .before .before .before .before .before .before .before .before .loop .done) (c .before .before .before .before .before .before .before .before .before .before .before .before .loop .at) (c .before .before .before .before .before .before .before .before .before .before .before .before .loop .place) (c .before .before .before .before .before .before .before .before .before .before .before .before .loop .coordinates) (c .before .before .before .before .before .before .before .before .before .before .before .before .loop .weight) (c .before .before .before .before .before .before .before .before .before .before .before .before .loop .stream) (c .before .before .before .before .before .before .before .before .next-u64 .result) (c .before .before .before .before .before .before .before .unit-of .result) (c .before .before .before .before .place-on .result .point) (c .before .before .before .before .before .before .before .before .before .before .if1 .taken) (omega (arith, c .before .before .before .before .before .before .before .before .before .before .before .before .before .before .before .pre .0 .0, c .before .before .before .before .before .before .before .before .before .before .before .before .loop .inv .1, c .before .before .before .before .before .before .before .before .before .before .if1 .taken)) (c .before .before .before .before .before .before .before .before .next-u64 .ensures) (c .before .before .before .before .before .before .before .unit-of .ensures) (c .before .before .before .before .place-on .ensures) ∙ c .before .before .before .before .before .before .before .before .before .before .before .before .loop .inv .3,
+  kept-on (c .before .before .before .before .before .before .before .before .before .before .before .before .before .before .before .args .coordinates .now) (c .before .before .before .before .before .before .before .before .before .before .before .before .loop .coordinates) (c .before .before .before .before .before .before .before .before .before .before .before .before .loop .done) (c .before .before .before .before .place-on .result .point .at) (c .before .before .before .before .before .before .before .before .before .before .before .before .loop .inv .4),
 )
 
 -- src/axes.rt:18:1
@@ -140,7 +147,9 @@ walk-axes-spec =
     loop-holds
     mul-held
     shared-slice-read-held
-    unit-requires
+    next-u64-requires
+    unit-of-requires
+    guess-of-requires
     add-end
     add-end-2
     mul-edges
