@@ -9,42 +9,36 @@ use borrow.Author.Tests.{ltb-true, ltb-false}
 use lib.Dec.{ltb}
 use lib.ListN.{length, getD}
 use lib.Ieee.{Float, nan, binary64, mul}
-use Rattle.real.proofs.Truth.{both}
 use Rattle.accumulator.specs.declared.StatisticsAccumulator.{StatisticsAccumulator}
-use Rattle.accumulator.specs.Record.{wellFormed}
 use Rattle.accumulator.specs.Steps.{addedOf}
 use Rattle.model.specs.Grid.{Grid, axes, withBin}
 use Rattle.model.specs.Draw.{weightAt}
-use Rattle.model.specs.Sound.{formedGrid, keptGrid, formedAxisList}
-use Rattle.model.specs.Train.{numbered, trainAll, trainAxes, trainGrid, trainBin, trainChild}
+use Rattle.model.specs.Sound.{formedGrid, formedAxisList}
+use Rattle.model.specs.Train.{trainAll, trainAxes, trainGrid, trainBin, trainChild}
 use Rattle.grid.specs.declared.Sample.{Sample}
+use Rattle.grid.specs.declared.adding.Gain.{Gain}
 use Rattle.grid.specs.Layout.{axesFrom}
-use Rattle.grid.specs.Memory.{Memory, Asked, recordAt, stored}
+use Rattle.grid.specs.Memory.{Memory, Asked, recordAt}
 use Rattle.grid.specs.Drawn.{axesAt}
 use Rattle.grid.specs.Tree.{axesPlanAt, axesPlace, axesGridAt, binIn, childIn, binsIn, AxesLaid}
-use Rattle.grid.specs.Trained.{binsOn, trainedAt, trainedOver, Cell, cellsFit}
-use Rattle.grid.specs.Absorbed.{pathLeft, weightsLeft, placesIn, Takes, withSample, joinedAt, absorbedAxes}
+use Rattle.grid.specs.Trained.{binsOn, trainedAt, trainedOver, Cell}
+use Rattle.grid.specs.Absorbed.{pathLeft, weightsLeft, placesIn, Takes, gainAt, gained, absorbedAxes}
 use Rattle.grid.proofs.Same.{Same, same-sym}
-use Rattle.grid.proofs.Reading.{record-same, record-stored, axes-same}
+use Rattle.grid.proofs.Reading.{record-same, axes-same}
 use Rattle.grid.proofs.Over.{over-below, over-above}
 use Rattle.grid.proofs.Trains.{trained-frames, trained-local}
 use Rattle.grid.proofs.Trained.{all-trained}
 use Rattle.grid.proofs.Sounds.{numbers-upto}
 use Rattle.grid.proofs.Alike.{holding-formed}
-use Rattle.grid.proofs.FoundedOwn.{Within, within-on, stored-within}
-use Rattle.grid.proofs.Adds.{takes-it, with-record}
-use Rattle.grid.proofs.Accepts.{own-sound, spots-asked, spots-many, spread, alone, axes-told}
+use Rattle.grid.proofs.FoundedOwn.{Within, within-on}
+use Rattle.grid.proofs.Gains.{withGain, gain-all, gained-within, gained-record}
+use Rattle.grid.proofs.Accepts.{spots-asked, spots-many, spread, alone}
 use Rattle.grid.proofs.Formed.{axes-formed, sound-formed}
-
--- a record that takes the sample
-pub with-kept : (a : StatisticsAccumulator) (v : Float) (k : ℕ) → wellFormed a ≡ true → numbered k ≡ true → wellFormed (addedOf a v k) ≡ true → withSample a v k ≡ addedOf a v k
-with-kept a v k w n q = sym (with-record a (addedOf a v k) v k (takes-it a v k w n q))
 
 -- ---- an axes grid
 
 module _ (table : List ℕ) (m : Memory) (w : ℕ) (s : Sample) (d k : ℕ) (a : AxesLaid table (length (m .reals)) (length (m .counts)) w)
-    (t : Takes (axes (axesGridAt table (m .reals) (m .counts) w)) s d k) (e : Float)
-    (kept : keptGrid (trainGrid (axes (axesGridAt table (m .reals) (m .counts) w)) (pathLeft s d) (weightsLeft s d) (placesIn s) e k) ≡ true) where
+    (t : Takes (axes (axesGridAt table (m .reals) (m .counts) w)) s d k) (e : Float) where
   abbrev AR : ℕ
   AR = getD table (w + 9) 0
 
@@ -69,11 +63,11 @@ module _ (table : List ℕ) (m : Memory) (w : ℕ) (s : Sample) (d k : ℕ) (a :
   abbrev mid : Memory
   mid = trainedOver (axesPlace table w) v spots m
 
-  abbrev own : StatisticsAccumulator
-  own = joinedAt AR AC (mul binary64 e weight) k m
+  abbrev own : Gain
+  own = gainAt AR AC (mul binary64 e weight) k m
 
   abbrev done : Memory
-  done = stored AR AC own mid
+  done = gained AR AC own mid
 
   asked : Asked (Cell AM) AM spots (AR + 14) (AC + 7) m
   unfolding axesPlace
@@ -99,15 +93,15 @@ module _ (table : List ℕ) (m : Memory) (w : ℕ) (s : Sample) (d k : ℕ) (a :
   unfolding absorbedAxes
   axes-within =
       within-on AR (AR + 14 + AK * (6 * AM + 1)) AC (AC + 7 + AK * (3 * AM + 2)) (AR + 14) (AR + 14 + AK * (6 * AM + 1)) (AC + 7) (AC + 7 + AK * (3 * AM + 2)) AR (AR + 14) AC (AC + 7) m mid
-      done (omega arith) (omega arith) (omega arith) (omega arith) (omega arith) (omega arith) (omega arith) (omega arith) axes-touch (stored-within AR AC own mid)
+      done (omega arith) (omega arith) (omega arith) (omega arith) (omega arith) (omega arith) (omega arith) (omega arith) axes-touch (gained-within AR AC own mid)
 
   own-read : recordAt (done .reals) (done .counts) AR AC ≡ addedOf (recordAt (m .reals) (m .counts) AR AC) (mul binary64 e weight) k
-  unfolding stored joinedAt
+  unfolding gainAt
   own-read =
-      let q = both (wellFormed (addedOf (recordAt (m .reals) (m .counts) AR AC) (mul binary64 e weight) k)) (cellsFit (axesPlace table w .most) v spots (axesPlace table w .reals) (axesPlace table w .counts) m)
-      (axes-told table (m .reals) (m .counts) w s d k a t e ∙ kept) .0 in
-      record-stored AR AC (mid .reals) (mid .counts) own (omega (arith, a .room, axes-touch .low 0 0 (omega arith) .size)) (omega (arith, a .places, axes-touch .few 0 0 (omega arith) .size))
-      ∙ with-kept (recordAt (m .reals) (m .counts) AR AC) (mul binary64 e weight) k (own-sound table (m .reals) (m .counts) w s d (t .well)) (t .number) q
+      gained-record AR AC own mid (omega (arith, a .room, axes-touch .low 0 0 (omega arith) .size)) (omega (arith, a .places, axes-touch .few 0 0 (omega arith) .size))
+      ∙ ap (λ (b : StatisticsAccumulator). withGain b own)
+      (record-same AR AC (mid .reals) (m .reals) (mid .counts) (m .counts) (axes-touch .low AR (AR + 14) (omega arith)) (axes-touch .few AC (AC + 7) (omega arith)))
+      ∙ gain-all (recordAt (m .reals) (m .counts) AR AC) (mul binary64 e weight) k
 
   form : formedAxisList (axesPlanAt table w) (axesFrom AM (m .reals) (m .counts) AK (AR + 14) (AC + 7)) ≡ true
   unfolding formedGrid axesGridAt axesPlace
@@ -124,7 +118,7 @@ module _ (table : List ℕ) (m : Memory) (w : ℕ) (s : Sample) (d k : ℕ) (a :
   axes-read =
       let formed = ap (formedAxisList (axesPlanAt table w)) mid-read ∙ axes-formed (axesPlanAt table w) (axesFrom AM (m .reals) (m .counts) AK (AR + 14) (AC + 7)) (placesIn s) v ∙ form in
       let held = holding-formed (axesPlanAt table w) AM (mid .reals) (mid .counts) AK (AR + 14) (AC + 7) (numbers-upto table (length (m .reals)) (length (m .counts)) w a) formed in
-      let put = stored-within AR AC own mid in
+      let put = gained-within AR AC own mid in
       sym (axes-same AM (mid .reals) (done .reals) (mid .counts) (done .counts) AK (AR + 14) (AC + 7) held
       (same-sym nan _ _ (done .reals) (mid .reals) (put .high (AR + 14) (AR + 14 + AK * (6 * AM + 1)) (omega arith)))
       (same-sym 0 _ _ (done .counts) (mid .counts) (put .many (AC + 7) (AC + 7 + AK * (3 * AM + 2)) (omega arith)))) ∙ mid-read
@@ -143,7 +137,7 @@ above (suc j) (suc i) n h = let q = above j i (λ e. n (ap suc e)) (omega arith)
 
 -- ---- a bins grid's own: its accumulator and that of bin i, once what hangs below it was written
 
-module _ (table : List ℕ) (w i : ℕ) (m below : Memory) (own inner : StatisticsAccumulator) where
+module _ (table : List ℕ) (w i : ℕ) (m below : Memory) (own inner : Gain) where
   abbrev BR : ℕ
   BR = getD table (w + 5) 0
 
@@ -160,18 +154,18 @@ module _ (table : List ℕ) (w i : ℕ) (m below : Memory) (own inner : Statisti
   place j = BC + 7 + 7 * j
 
   abbrev near : Memory
-  near = stored (spot i) (place i) inner below
+  near = gained (spot i) (place i) inner below
 
   abbrev last : Memory
-  last = stored BR BC own near
+  last = gained BR BC own near
 
   module _ (u u′ c c′ : ℕ) (inside : i < BN) (room : BR + 14 + 15 * BN ≤ length (m .reals)) (places : BC + 7 + 7 * BN ≤ length (m .counts))
       (past : BR + 14 + 15 * BN ≤ u) (after : BC + 7 + 7 * BN ≤ c) (deep : Within u u′ c c′ m below) where
     abbrev first : Within (spot i) (spot i + 14) (place i) (place i + 7) below near
-    first = stored-within (spot i) (place i) inner below
+    first = gained-within (spot i) (place i) inner below
 
     abbrev second : Within BR (BR + 14) BC (BC + 7) near last
-    second = stored-within BR BC own near
+    second = gained-within BR BC own near
 
     size : length (near .reals) ≡ length (m .reals)
     size = first .low 0 0 (omega arith) .size ∙ deep .low 0 0 (omega arith) .size
@@ -184,15 +178,19 @@ module _ (table : List ℕ) (w i : ℕ) (m below : Memory) (own inner : Statisti
         within-on BR (BR + 14 + 15 * BN) BC (BC + 7 + 7 * BN) (spot i) (spot i + 14) (place i) (place i + 7) BR (BR + 14) BC (BC + 7) below near last (omega arith) (omega arith) (omega arith) (omega arith)
         (omega arith) (omega arith) (omega arith) (omega arith) first second
 
-    pub head-read : recordAt (last .reals) (last .counts) BR BC ≡ own
-    unfolding stored
-    head-read = record-stored BR BC (near .reals) (near .counts) own (omega (arith, size)) (omega (arith, sizes))
+    pub head-read : recordAt (last .reals) (last .counts) BR BC ≡ withGain (recordAt (m .reals) (m .counts) BR BC) own
+    head-read =
+        gained-record BR BC own near (omega (arith, size)) (omega (arith, sizes))
+        ∙ ap (λ (a : StatisticsAccumulator). withGain a own)
+        (record-same BR BC (near .reals) (below .reals) (near .counts) (below .counts) (first .low BR (BR + 14) (omega arith)) (first .few BC (BC + 7) (omega arith))
+        ∙ record-same BR BC (below .reals) (m .reals) (below .counts) (m .counts) (deep .low BR (BR + 14) (omega arith)) (deep .few BC (BC + 7) (omega arith)))
 
-    pub spot-read : recordAt (last .reals) (last .counts) (spot i) (place i) ≡ inner
-    unfolding stored
+    pub spot-read : recordAt (last .reals) (last .counts) (spot i) (place i) ≡ withGain (recordAt (m .reals) (m .counts) (spot i) (place i)) inner
     spot-read =
         record-same (spot i) (place i) (last .reals) (near .reals) (last .counts) (near .counts) (second .high (spot i) (spot i + 14) (omega arith)) (second .many (place i) (place i + 7) (omega arith))
-        ∙ record-stored (spot i) (place i) (below .reals) (below .counts) inner (omega (arith, deep .low 0 0 (omega arith) .size)) (omega (arith, deep .few 0 0 (omega arith) .size))
+        ∙ gained-record (spot i) (place i) inner below (omega (arith, deep .low 0 0 (omega arith) .size)) (omega (arith, deep .few 0 0 (omega arith) .size))
+        ∙ ap (λ (a : StatisticsAccumulator). withGain a inner)
+        (record-same (spot i) (place i) (below .reals) (m .reals) (below .counts) (m .counts) (deep .low (spot i) (spot i + 14) (omega arith)) (deep .few (place i) (place i + 7) (omega arith)))
 
     pub chance-read : (j : ℕ) → j < BN → getD (last .reals) (BR + 14 + j) nan ≡ getD (m .reals) (BR + 14 + j) nan
     chance-read j h =

@@ -11,8 +11,6 @@ use lib.ListN.{length, getD}
 use lib.Ieee.{Float, nan, binary64, mul}
 use Rattle.real.specs.Paper.{Paper, gives, refuses}
 use Rattle.real.proofs.Truth.{both}
-use Rattle.accumulator.specs.declared.StatisticsAccumulator.{StatisticsAccumulator}
-use Rattle.accumulator.specs.Record.{wellFormed}
 use Rattle.accumulator.specs.Steps.{addedOf}
 use Rattle.plan.specs.declared.Tally.{Tally}
 use Rattle.plan.specs.declared.AxesPlan.{AxesPlan}
@@ -26,13 +24,14 @@ use Rattle.plan.proofs.Tables.{Words}
 use Rattle.plan.proofs.Rereads.{taken-words}
 use Rattle.plan.proofs.Records.{Stands, Upto, axes-record, bins-record, child-record, passed-stands}
 use Rattle.model.specs.Grid as model
-use Rattle.model.specs.Sound.{sound, formedGrid, formedChild, keptGrid, keptChild}
+use Rattle.model.specs.Sound.{sound, formedGrid, formedChild, keptChild}
 use Rattle.model.specs.Train.{trainGrid, trainBin, trainChild, trainOf}
 use Rattle.grid.specs.declared.Sample.{Sample}
+use Rattle.grid.specs.declared.adding.Gain.{Gain}
 use Rattle.grid.specs.Memory.{Memory, recordAt}
 use Rattle.grid.specs.Sampled.{soundChild, sampleOf}
 use Rattle.grid.specs.Tree.{axesGridAt, headAt, binIn, childIn, binsIn, nodeAt, gridAt}
-use Rattle.grid.specs.Absorbed.{pathLeft, weightsLeft, placesIn, Takes, TakesChild, joinedAt, absorbedChild, absorbedBin, absorbedBins, absorbedNode, absorbed, objectionOf}
+use Rattle.grid.specs.Absorbed.{pathLeft, weightsLeft, placesIn, Takes, TakesChild, gainAt, absorbedChild, absorbedBin, absorbedBins, absorbedNode, absorbed, objectionOf}
 use Rattle.grid.specs.State.{rootOf, stateFault}
 use Rattle.grid.specs.Calls.{onState, StateEnd, stateEnd, trainedBy, trainCallOf}
 use Rattle.grid.proofs.Same.{Same, Alike, same-alike, same-sym, same-on}
@@ -45,11 +44,12 @@ use Rattle.grid.proofs.FoundedOwn.{Within, within-same, within-on}
 use Rattle.grid.proofs.Trees.{axes-differ, bins-differ, taken-reals, taken-counts, below}
 use Rattle.grid.proofs.Alike.{grid-alike}
 use Rattle.grid.proofs.Children.{stands-in, behind, alike-grid}
-use Rattle.grid.proofs.Accepts.{formed, head-sound, spot-sound, takes-below, bins-told, grid-told, takes-grid}
+use Rattle.grid.proofs.Accepts.{formed, takes-below, takes-grid}
 use Rattle.grid.proofs.Absorbs.{absorbed-axes}
 use Rattle.grid.proofs.Objections.{whole, grants, takes-root, train-done}
 use Rattle.grid.proofs.Formed.{grid-formed, sound-formed, sound-trained}
-use Rattle.grid.proofs.AbsorbedOwn.{with-kept, axes-within, axes-grid-read, above, own-within, head-read, spot-read, chance-read, other-read, bins-absorbed}
+use Rattle.grid.proofs.Gains.{gain-all}
+use Rattle.grid.proofs.AbsorbedOwn.{axes-within, axes-grid-read, above, own-within, head-read, spot-read, chance-read, other-read, bins-absorbed}
 
 module _ (xs : List ℕ) (s : Sample) (e : Float) (k : ℕ) where
   -- the model's step below d bins grids, and the memory's
@@ -69,16 +69,16 @@ module _ (xs : List ℕ) (s : Sample) (e : Float) (k : ℕ) where
 
   abbrev pub Ties : ℕ → Type 0
   Ties l = (t : Tree) (y : Tally) (m : Memory) (d : ℕ) → (t ≡ nothing → ⊥) → Stands xs l t y → after t y .reals ≤ length (m .reals) → after t y .counts ≤ length (m .counts)
-      → Takes (gridAt l xs (m .reals) (m .counts) (y .words)) s d k → keptGrid (trained d (gridAt l xs (m .reals) (m .counts) (y .words))) ≡ true
+      → Takes (gridAt l xs (m .reals) (m .counts) (y .words)) s d k
       → Tied (y .reals) (after t y .reals) (y .counts) (after t y .counts) m (step l (y .words) d m) (λ (n : Memory). gridAt l xs (n .reals) (n .counts) (y .words)) (trained d (gridAt l xs (m .reals) (m .counts) (y .words)))
 
   -- ---- an axes grid
 
   axes-tied : (l : ℕ) (a : AxesPlan) (es : List ℕ) (y : Tally) (m : Memory) (d : ℕ) → Stands xs l (axes a es) y → after (axes a es) y .reals ≤ length (m .reals) → after (axes a es) y .counts ≤ length (m .counts)
-      → Takes (gridAt l xs (m .reals) (m .counts) (y .words)) s d k → keptGrid (trained d (gridAt l xs (m .reals) (m .counts) (y .words))) ≡ true
+      → Takes (gridAt l xs (m .reals) (m .counts) (y .words)) s d k
       → Tied (y .reals) (after (axes a es) y .reals) (y .counts) (after (axes a es) y .counts) m (step l (y .words) d m) (λ (n : Memory). gridAt l xs (n .reals) (n .counts) (y .words)) (trained d (gridAt l xs (m .reals) (m .counts) (y .words)))
   unfolding after axesTaken axesReals axesCounts axesRow
-  axes-tied l a es y m d st h j t q =
+  axes-tied l a es y m d st h j t =
       let w = y .words in
       let o = axes-record xs l a es y st in
       let laid = laid-axes l xs (length (m .reals)) (length (m .counts)) w (stands-laid xs (length (m .reals)) (length (m .counts)) l (axes a es) y (axes-differ a es) st h j) (o .kind) in
@@ -90,8 +90,7 @@ module _ (xs : List ℕ) (s : Sample) (e : Float) (k : ℕ) where
       let ec : getD xs (w + 10) 0 + 7 + getD xs (w + 2) 0 * (3 * getD xs (w + 7) 0 + 2) ≡ after (axes a es) y .counts = rw (axs, mst, cc) (omega arith) in
       let was : gridAt l xs (m .reals) (m .counts) w ≡ model.axes (axesGridAt xs (m .reals) (m .counts) w) = node-axes l xs (m .reals) (m .counts) w (o .kind) in
       let t′ = subst (λ (g : model.Grid). Takes g s d k) was t in
-      let q′ = sym (ap (λ (g : model.Grid). keptGrid (trained d g)) was) ∙ q in
-      let i = axes-within xs m w s d k laid t′ e q′ in
+      let i = axes-within xs m w s d k laid t′ e in
       let same = absorbed-axes xs s e k w d m l (o .kind) in
       subst (λ (n : Memory). Tied (y .reals) (after (axes a es) y .reals) (y .counts) (after (axes a es) y .counts) m n (λ (n : Memory). gridAt l xs (n .reals) (n .counts) w) (trained d (gridAt l xs (m .reals) (m .counts) w))) same (record {
         within =
@@ -101,7 +100,7 @@ module _ (xs : List ℕ) (s : Sample) (e : Float) (k : ℕ) where
               few = λ lo hi h. i .few lo hi (omega arith);
               many = λ lo hi h. i .many lo hi (omega arith);
             };
-        reads = node-axes l xs _ _ w (o .kind) ∙ axes-grid-read xs m w s d k laid t′ e q′ ∙ sym (ap (trained d) was);
+        reads = node-axes l xs _ _ w (o .kind) ∙ axes-grid-read xs m w s d k laid t′ e ∙ sym (ap (trained d) was);
       })
 
   module _ (l : ℕ) (deeper : Ties l) where
@@ -112,14 +111,13 @@ module _ (xs : List ℕ) (s : Sample) (e : Float) (k : ℕ) where
         → childIn (gridAt l xs (n .reals) (n .counts)) at ≡ trainedChild d (childIn (gridAt l xs (m .reals) (m .counts)) at))
 
     hung : (q : Tree) (u : Tally) (at d : ℕ) (m : Memory) → (q ≡ nothing → ⊥) → at ≡ u .words → 1 ≤ u .words → Stands xs l q u → after q u .reals ≤ length (m .reals) → after q u .counts ≤ length (m .counts)
-        → TakesChild (childIn (gridAt l xs (m .reals) (m .counts)) at) s d k → keptChild (trainedChild d (childIn (gridAt l xs (m .reals) (m .counts)) at)) ≡ true → Hung q u at d m
+        → TakesChild (childIn (gridAt l xs (m .reals) (m .counts)) at) s d k → Hung q u at d m
     unfolding absorbedChild childIn trainChild
-    hung q u at d m there a n st h j t p =
+    hung q u at d m there a n st h j t =
         let z : at ≡ 0 → ⊥ = λ r. absurd (omega arith) in
         let G = gridAt l xs (m .reals) (m .counts) in
         let takes : Takes (G (u .words)) s d k = subst (λ (o : ℕ). Takes (G o) s d k) a (takes-grid G at s d k z t) in
-        let keeps : keptGrid (trained d (G (u .words))) ≡ true = sym (ap (λ (o : ℕ). keptGrid (trained d (G o))) a) ∙ grid-told G at (pathLeft s d) (weightsLeft s d) (placesIn s) e k z ∙ p in
-        let f = deeper q u m d there st h j takes keeps in
+        let f = deeper q u m d there st h j takes in
         let m′ = step l (u .words) d m in
         let size : length (m′ .reals) ≡ length (m .reals) = f .within .low 0 0 (omega arith) .size in
         let sizes : length (m′ .counts) ≡ length (m .counts) = f .within .few 0 0 (omega arith) .size in
@@ -127,11 +125,11 @@ module _ (xs : List ℕ) (s : Sample) (e : Float) (k : ℕ) where
         rw (ne-eqb at 0 z, a) (f .within, λ o x y. ap model.grid (sym (grid-alike xs (m′ .reals) (o .reals) (m′ .counts) (o .counts) l q u there st (omega (arith, h)) (omega (arith, j)) form x y) ∙ f .reads))
 
     pick : (q : Tree) (u : Tally) (at d : ℕ) (m : Memory) → at ≡ link q u → 1 ≤ u .words → Stands xs l q u → after q u .reals ≤ length (m .reals) → after q u .counts ≤ length (m .counts)
-        → TakesChild (childIn (gridAt l xs (m .reals) (m .counts)) at) s d k → keptChild (trainedChild d (childIn (gridAt l xs (m .reals) (m .counts)) at)) ≡ true → Hung q u at d m
+        → TakesChild (childIn (gridAt l xs (m .reals) (m .counts)) at) s d k → Hung q u at d m
     unfolding link absorbedChild childIn trainChild after
-    pick nothing u at d m a n st h j t p = rw a (within-same (u .reals) (u .reals) (u .counts) (u .counts) m, λ o x y. refl)
-    pick (axes b es) u at d m a n st h j t p = hung (axes b es) u at d m (axes-differ b es) a n st h j t p
-    pick (bins b ts) u at d m a n st h j t p = hung (bins b ts) u at d m (bins-differ b ts) a n st h j t p
+    pick nothing u at d m a n st h j t = rw a (within-same (u .reals) (u .reals) (u .counts) (u .counts) m, λ o x y. refl)
+    pick (axes b es) u at d m a n st h j t = hung (axes b es) u at d m (axes-differ b es) a n st h j t
+    pick (bins b ts) u at d m a n st h j t = hung (bins b ts) u at d m (bins-differ b ts) a n st h j t
 
     -- ---- a bins grid
 
@@ -164,8 +162,7 @@ module _ (xs : List ℕ) (s : Sample) (e : Float) (k : ℕ) where
       -- ---- one step at this bins grid
 
       module _ (m : Memory) (d : ℕ) (h : end .reals ≤ length (m .reals)) (g : end .counts ≤ length (m .counts))
-          (t : Takes (model.bins (headAt xs (m .reals) (m .counts) (y .words)) (binsIn (gridAt l xs (m .reals) (m .counts)) xs (m .reals) (m .counts) (y .words) 0 N)) s d k)
-          (q : keptGrid (trained d (model.bins (headAt xs (m .reals) (m .counts) (y .words)) (binsIn (gridAt l xs (m .reals) (m .counts)) xs (m .reals) (m .counts) (y .words) 0 N))) ≡ true) where
+          (t : Takes (model.bins (headAt xs (m .reals) (m .counts) (y .words)) (binsIn (gridAt l xs (m .reals) (m .counts)) xs (m .reals) (m .counts) (y .words) 0 N)) s d k) where
         abbrev w : ℕ
         w = y .words
 
@@ -205,11 +202,11 @@ module _ (xs : List ℕ) (s : Sample) (e : Float) (k : ℕ) where
         abbrev value : Float
         value = mul binary64 (mul binary64 v (getD (m .reals) (R + 14 + i) nan)) e
 
-        abbrev inner : StatisticsAccumulator
-        inner = joinedAt (spot i) (place i) value k m
+        abbrev inner : Gain
+        inner = gainAt (spot i) (place i) value k m
 
-        abbrev outer : StatisticsAccumulator
-        outer = joinedAt R C (mul binary64 e v) k m
+        abbrev outer : Gain
+        outer = gainAt R C (mul binary64 e v) k m
 
         abbrev last : Memory
         last = absorbedBin (absorbed l xs s e k) xs v e k w d i m
@@ -242,21 +239,12 @@ module _ (xs : List ℕ) (s : Sample) (e : Float) (k : ℕ) where
         places : C + 7 + 7 * N ≤ length (m .counts)
         places = let a = below b ts y in omega (arith, a .counts, taken-counts b y, from-counts, as-many, g)
 
-        -- what was judged
-        parts : (wellFormed (addedOf (H .own) (mul binary64 e v) k) ≡ true)
-            × (wellFormed (addedOf (binIn xs (m .reals) (m .counts) w i .own) (mul binary64 (mul binary64 v (binIn xs (m .reals) (m .counts) w i .probability)) e) k) ≡ true)
-            × (keptChild (trainedChild (d + 1) (childIn F (at i))) ≡ true)
-        parts =
-            let a = both (wellFormed (addedOf (H .own) (mul binary64 e v) k)) _ (bins-told F xs (m .reals) (m .counts) w N H s d k t e ∙ q) in
-            let c = both (wellFormed (addedOf (binIn xs (m .reals) (m .counts) w i .own) (mul binary64 (mul binary64 v (binIn xs (m .reals) (m .counts) w i .probability)) e) k)) (keptChild (trainedChild (d + 1) (childIn F (at i)))) (a .1) in
-            (a .0, c .0, c .1)
-
         child : Hung (childAt ts i) u (at i) (d + 1) m
         child =
             let r = child-record xs (suc l) b ts y i st (omega (arith, as-many, inside)) in
             let z = upto-end i inside in
             pick (childAt ts i) u (at i) (d + 1) m (r .linked) (omega (arith, r .behind .words, taken-words b y)) (stands-in xs l b ts y st i (omega (arith, as-many, inside))) (omega (arith, z .reals, h)) (omega (arith, z .counts, g))
-            (takes-below F xs (m .reals) (m .counts) w N H s d k t) (parts .2)
+            (takes-below F xs (m .reals) (m .counts) w N H s d k t)
 
         touched : Within R (R + 14 + 15 * N) C (C + 7 + 7 * N) deep last
         unfolding absorbedBin
@@ -272,19 +260,19 @@ module _ (xs : List ℕ) (s : Sample) (e : Float) (k : ℕ) where
             (child .0) touched
 
         head-trained : headAt xs (last .reals) (last .counts) w ≡ model.withHead H (addedOf (H .own) (mul binary64 e v) k)
-        unfolding headAt model.withHead absorbedBin joinedAt
+        unfolding headAt model.withHead absorbedBin gainAt
         head-trained =
             rw (head-read xs w i m deep outer inner (u .reals) (u′ .reals) (u .counts) (u′ .counts) inside room places (past i inside .0) (past i inside .1) (child .0)
-            ∙ with-kept (recordAt (m .reals) (m .counts) R C) (mul binary64 e v) k (head-sound F xs (m .reals) (m .counts) w N H s d k t) (t .number) (parts .0))
+            ∙ gain-all (recordAt (m .reals) (m .counts) R C) (mul binary64 e v) k)
 
         bin-trained : binIn xs (last .reals) (last .counts) w i
             ≡ model.withBin (binIn xs (m .reals) (m .counts) w i) (addedOf (binIn xs (m .reals) (m .counts) w i .own) (mul binary64 (mul binary64 v (binIn xs (m .reals) (m .counts) w i .probability)) e) k)
-        unfolding binIn model.withBin absorbedBin joinedAt
+        unfolding binIn model.withBin absorbedBin gainAt
         bin-trained =
             rw (
               chance-read xs w i m deep outer inner (u .reals) (u′ .reals) (u .counts) (u′ .counts) inside room places (past i inside .0) (past i inside .1) (child .0) i inside,
               spot-read xs w i m deep outer inner (u .reals) (u′ .reals) (u .counts) (u′ .counts) inside room places (past i inside .0) (past i inside .1) (child .0)
-                  ∙ with-kept (recordAt (m .reals) (m .counts) (spot i) (place i)) value k (spot-sound F xs (m .reals) (m .counts) w N H s d k t) (t .number) (parts .1),
+                  ∙ gain-all (recordAt (m .reals) (m .counts) (spot i) (place i)) value k,
             )
 
         child-trained : childIn (gridAt l xs (last .reals) (last .counts)) (at i) ≡ trainedChild (d + 1) (childIn F (at i))
@@ -355,22 +343,21 @@ module _ (xs : List ℕ) (s : Sample) (e : Float) (k : ℕ) where
           rw (ne-eqb (getD xs (y .words) 0) 1 z)
 
       bins-tied : (m : Memory) (d : ℕ) → end .reals ≤ length (m .reals) → end .counts ≤ length (m .counts)
-          → Takes (gridAt (suc l) xs (m .reals) (m .counts) (y .words)) s d k → keptGrid (trained d (gridAt (suc l) xs (m .reals) (m .counts) (y .words))) ≡ true
+          → Takes (gridAt (suc l) xs (m .reals) (m .counts) (y .words)) s d k
           → Tied (y .reals) (end .reals) (y .counts) (end .counts) m (step (suc l) (y .words) d m) (λ (n : Memory). gridAt (suc l) xs (n .reals) (n .counts) (y .words)) (trained d (gridAt (suc l) xs (m .reals) (m .counts) (y .words)))
-      bins-tied m d h g t q =
+      bins-tied m d h g t =
           let was = node-is m in
           let t′ = subst (λ (o : model.Grid). Takes o s d k) was t in
-          let q′ = sym (ap (λ (o : model.Grid). keptGrid (trained d o)) was) ∙ q in
           subst (λ (n : Memory). Tied (y .reals) (end .reals) (y .counts) (end .counts) m n (λ (n : Memory). gridAt (suc l) xs (n .reals) (n .counts) (y .words)) (trained d (gridAt (suc l) xs (m .reals) (m .counts) (y .words)))) (step-is m d)
-          (record { within = step-within m d h g t′ q′; reads = node-is _ ∙ step-trained m d h g t′ q′ ∙ sym (ap (trained d) was) })
+          (record { within = step-within m d h g t′; reads = node-is _ ∙ step-trained m d h g t′ ∙ sym (ap (trained d) was) })
 
   pub all-tied : (l : ℕ) → Ties l
-  all-tied zero nothing y m d n st h g t q = absurd (n refl)
-  all-tied zero (axes a es) y m d n st h g t q = axes-tied zero a es y m d st h g t q
-  all-tied zero (bins b ts) y m d n st h g t q = absurd (omega (arith, bins-record xs zero b ts y st .ranges .level))
-  all-tied (suc l) nothing y m d n st h g t q = absurd (n refl)
-  all-tied (suc l) (axes a es) y m d n st h g t q = axes-tied (suc l) a es y m d st h g t q
-  all-tied (suc l) (bins b ts) y m d n st h g t q = bins-tied l (all-tied l) b ts y st m d h g t q
+  all-tied zero nothing y m d n st h g t = absurd (n refl)
+  all-tied zero (axes a es) y m d n st h g t = axes-tied zero a es y m d st h g t
+  all-tied zero (bins b ts) y m d n st h g t = absurd (omega (arith, bins-record xs zero b ts y st .ranges .level))
+  all-tied (suc l) nothing y m d n st h g t = absurd (n refl)
+  all-tied (suc l) (axes a es) y m d n st h g t = axes-tied (suc l) a es y m d st h g t
+  all-tied (suc l) (bins b ts) y m d n st h g t = bins-tied l (all-tied l) b ts y st m d h g t
 
 -- ---- the whole call
 
@@ -403,7 +390,7 @@ module _ (table : List ℕ) (m : Memory) (s : Sample) (e : Float) (k : ℕ) wher
       let p = passed-stands table (c .needs) large (c .planned) in
       let rr : c .needs .reals ≡ after (p .tree) untaken .reals = ap (λ (n : Needs). n .reals) (p .needs) in
       let cc : c .needs .counts ≡ after (p .tree) untaken .counts = ap (λ (n : Needs). n .counts) (p .needs) in
-      let tied = all-tied table s e k 4 (p .tree) untaken m 0 (p .grid) (p .stands) (omega (arith, c .reals-fit)) (omega (arith, c .counts-fit)) (takes-root root s e k (c .well) none) (q .kept) in
+      let tied = all-tied table s e k 4 (p .tree) untaken m 0 (p .grid) (p .stands) (omega (arith, c .reals-fit)) (omega (arith, c .counts-fit)) (takes-root root s e k (c .well) none) in
       let done : stateEnd 0 (absorbed 4 table s e k 0 0 m) ≡ called = train-done table m s e k (absorbed 4 table s e k 0 0 m) fault none refl in
       let same : trainGrid root (pathLeft s 0) (weightsLeft s 0) (placesIn s) e k ≡ g = whole root s e k ∙ ap (λ (a : Paper model.Grid). gridOf a root) (sym (q .gave) ∙ given) in
       record {

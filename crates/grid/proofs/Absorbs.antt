@@ -6,38 +6,38 @@ use native.Mathlib.Omega.{arith}
 use borrow.Author.Tests.{ne-eqb}
 use lib.ListN.{getD, take}
 use lib.Ieee.{Float, nan, binary64, mul}
-use Rattle.accumulator.specs.declared.StatisticsAccumulator.{StatisticsAccumulator}
 use Rattle.grid.specs.declared.Sample.{Sample}
+use Rattle.grid.specs.declared.adding.Gain.{Gain}
 use Rattle.grid.specs.declared.axes.AxesAt.{AxesAt}
-use Rattle.grid.specs.Memory.{Memory, stored}
+use Rattle.grid.specs.Memory.{Memory}
 use Rattle.grid.specs.Drawn.{axesAt}
 use Rattle.grid.specs.Tree.{axesPlace}
 use Rattle.grid.specs.Trained.{binsOn, trainedOver}
-use Rattle.grid.specs.Absorbed.{placesIn, joinedAt, absorbedAxes, absorbedChild, absorbedBin, absorbedBins, absorbedNode, absorbed, admitted}
+use Rattle.grid.specs.Absorbed.{placesIn, gainAt, gained, absorbedAxes, absorbedChild, absorbedBin, absorbedBins, absorbedNode, absorbed, admitted}
 
 module _ (table : List ℕ) (s : Sample) (e : Float) (number w d : ℕ) where
-  pub axes-absorbed : (m t u : Memory) (g : AxesAt) (is : List ℕ) (own : StatisticsAccumulator) → g ≡ axesPlace table w
+  pub axes-absorbed : (m t u : Memory) (g : AxesAt) (is : List ℕ) (own : Gain) → g ≡ axesPlace table w
       → take (g .axes) is ≡ binsOn (axesAt (m .reals) (m .counts) (axesPlace table w)) (placesIn s)
-      → own ≡ joinedAt (getD table (w + 9) 0) (getD table (w + 10) 0) (mul binary64 e (getD (s .weights) d nan)) number m
+      → own ≡ gainAt (getD table (w + 9) 0) (getD table (w + 10) 0) (mul binary64 e (getD (s .weights) d nan)) number m
       → t ≡ trainedOver g (mul binary64 (getD (s .weights) d nan) e) (take (g .axes) is) m
-      → u ≡ stored (getD table (w + 9) 0) (getD table (w + 10) 0) own t → u ≡ absorbedAxes table s e number w d m
+      → u ≡ gained (getD table (w + 9) 0) (getD table (w + 10) 0) own t → u ≡ absorbedAxes table s e number w d m
   unfolding absorbedAxes
   axes-absorbed m t u g is own p q o h k =
-      k ∙ ap₂ (λ (a : StatisticsAccumulator) (y : Memory). stored (getD table (w + 9) 0) (getD table (w + 10) 0) a y) o
+      k ∙ ap₂ (λ (a : Gain) (y : Memory). gained (getD table (w + 9) 0) (getD table (w + 10) 0) a y) o
       (h ∙ ap₂ (λ (b : AxesAt) (js : List ℕ). trainedOver b (mul binary64 (getD (s .weights) d nan) e) js m) p q)
 
   module _ (f : ℕ → ℕ → Memory → Memory) where
-    pub bins-absorbed : (m below t u : Memory) (own inner : StatisticsAccumulator)
-        → own ≡ joinedAt (getD table (w + 5) 0) (getD table (w + 6) 0) (mul binary64 e (getD (s .weights) d nan)) number m
-        → inner ≡ joinedAt (getD table (w + 5) 0 + 14 + getD table (w + 2) 0 + 14 * getD (s .path) d 0) (getD table (w + 6) 0 + 7 + 7 * getD (s .path) d 0)
+    pub bins-absorbed : (m below t u : Memory) (own inner : Gain)
+        → own ≡ gainAt (getD table (w + 5) 0) (getD table (w + 6) 0) (mul binary64 e (getD (s .weights) d nan)) number m
+        → inner ≡ gainAt (getD table (w + 5) 0 + 14 + getD table (w + 2) 0 + 14 * getD (s .path) d 0) (getD table (w + 6) 0 + 7 + 7 * getD (s .path) d 0)
         (mul binary64 (mul binary64 (getD (s .weights) d nan) (getD (m .reals) (getD table (w + 5) 0 + 14 + getD (s .path) d 0) nan)) e) number m
         → below ≡ absorbedChild f (getD table (w + 7 + getD (s .path) d 0) 0) (d + 1) m
-        → t ≡ stored (getD table (w + 5) 0 + 14 + getD table (w + 2) 0 + 14 * getD (s .path) d 0) (getD table (w + 6) 0 + 7 + 7 * getD (s .path) d 0) inner below
-        → u ≡ stored (getD table (w + 5) 0) (getD table (w + 6) 0) own t → u ≡ absorbedBins f table s e number w d m
+        → t ≡ gained (getD table (w + 5) 0 + 14 + getD table (w + 2) 0 + 14 * getD (s .path) d 0) (getD table (w + 6) 0 + 7 + 7 * getD (s .path) d 0) inner below
+        → u ≡ gained (getD table (w + 5) 0) (getD table (w + 6) 0) own t → u ≡ absorbedBins f table s e number w d m
     unfolding absorbedBins absorbedBin
     bins-absorbed m below t u own inner o i b h k =
-        k ∙ ap₂ (λ (a : StatisticsAccumulator) (y : Memory). stored (getD table (w + 5) 0) (getD table (w + 6) 0) a y) o
-        (h ∙ ap₂ (λ (a : StatisticsAccumulator) (y : Memory). stored (getD table (w + 5) 0 + 14 + getD table (w + 2) 0 + 14 * getD (s .path) d 0) (getD table (w + 6) 0 + 7 + 7 * getD (s .path) d 0) a y) i b)
+        k ∙ ap₂ (λ (a : Gain) (y : Memory). gained (getD table (w + 5) 0) (getD table (w + 6) 0) a y) o
+        (h ∙ ap₂ (λ (a : Gain) (y : Memory). gained (getD table (w + 5) 0 + 14 + getD table (w + 2) 0 + 14 * getD (s .path) d 0) (getD table (w + 6) 0 + 7 + 7 * getD (s .path) d 0) a y) i b)
 
 -- ---- what hangs at a link
 

@@ -32,6 +32,7 @@ pub mod Accepts
 pub mod Absorbs
 pub mod Objections
 pub mod Formed
+pub mod Gains
 pub mod AbsorbedOwn
 pub mod AbsorbedTree
 pub mod Batches

@@ -4,16 +4,17 @@ use mathlib.Core.Bool.{true, cond}
 use mathlib.Core.List.{List}
 use Prim.Native.Nat.{ℕ, zero, suc, _+_, _-_, _*_}
 use lib.Dec.{eqb}
-use lib.ListN.{getD}
+use lib.ListN.{getD, set}
 use lib.Ieee.{Float, nan, binary64, mul}
 use Rattle.real.specs.Paper.{Paper, gives, refuses}
 use Rattle.accumulator.specs.declared.StatisticsAccumulator.{StatisticsAccumulator}
-use Rattle.accumulator.specs.Calls.{addSampleOf}
+use Rattle.accumulator.specs.Steps.{addedOf}
 use Rattle.model.specs.Grid.{Grid, Child}
 use Rattle.model.specs.Sound.{sound}
 use Rattle.model.specs.Train.{faultOf, faultOfChild, numbered}
 use Rattle.grid.specs.declared.Sample.{Sample}
-use Rattle.grid.specs.Memory.{Memory, recordAt, stored}
+use Rattle.grid.specs.declared.adding.Gain.{Gain}
+use Rattle.grid.specs.Memory.{Memory, memory, recordAt}
 use Rattle.grid.specs.Drawn.{axesAt}
 use Rattle.grid.specs.Tree.{axesPlace}
 use Rattle.grid.specs.Sampled.{entries, soundChild}
@@ -44,22 +45,35 @@ pub record TakesChild (c : Child) (s : Sample) (d n : ℕ) : Type 0 where
 
 -- ---- what it leaves
 
--- an accumulator with a value added; one that refuses it stays as it is
-unfoldable pub answered : StatisticsAccumulator → Paper StatisticsAccumulator → StatisticsAccumulator
-answered a (gives b) = b
-answered a (refuses n) = a
+-- the values of an accumulator that a sample changes
+unfoldable pub gainOf : StatisticsAccumulator → Gain
+gainOf a =
+    record {
+      sum = a .sum;
+      «sum_sq» = a .«sum_sq»;
+      «new_samples» = a .«new_samples»;
+      «new_zero_evaluations» = a .«new_zero_evaluations»;
+      «max_eval_positive» = a .«max_eval_positive»;
+      «max_eval_positive_number» = a .«max_eval_positive_number»;
+      «max_eval_negative» = a .«max_eval_negative»;
+      «max_eval_negative_number» = a .«max_eval_negative_number»;
+    }
 
-unfoldable pub withSample : StatisticsAccumulator → Float → ℕ → StatisticsAccumulator
-withSample a v number = answered a (addSampleOf a v number)
+-- what a value leaves in the record at r and c, as that stands in a memory
+unfoldable pub gainAt : ℕ → ℕ → Float → ℕ → Memory → Gain
+gainAt r c v number m = gainOf (addedOf (recordAt (m .reals) (m .counts) r c) v number)
 
--- the record at r and c with a value added, as it stands in a memory
-unfoldable pub joinedAt : ℕ → ℕ → Float → ℕ → Memory → StatisticsAccumulator
-joinedAt r c v number m = withSample (recordAt (m .reals) (m .counts) r c) v number
+-- these values put there; the rest of the record stays
+unfoldable pub gained : ℕ → ℕ → Gain → Memory → Memory
+gained r c g s =
+    memory
+    (set (set (set (set (s .reals) r (g .sum)) (r + 1) (g .«sum_sq»)) (r + 12) (g .«max_eval_positive»)) (r + 13) (g .«max_eval_negative»))
+    (set (set (set (set (s .counts) c (g .«new_samples»)) (c + 1) (g .«new_zero_evaluations»)) (c + 4) (g .«max_eval_positive_number»)) (c + 5) (g .«max_eval_negative_number»))
 
 -- an axes grid: weight · evaluation in a bin of each axis, evaluation · weight in its own accumulator
 unfoldable pub absorbedAxes : List ℕ → Sample → Float → ℕ → ℕ → ℕ → Memory → Memory
 absorbedAxes table s e number w d m =
-    stored (getD table (w + 9) 0) (getD table (w + 10) 0) (joinedAt (getD table (w + 9) 0) (getD table (w + 10) 0) (mul binary64 e (getD (s .weights) d nan)) number m)
+    gained (getD table (w + 9) 0) (getD table (w + 10) 0) (gainAt (getD table (w + 9) 0) (getD table (w + 10) 0) (mul binary64 e (getD (s .weights) d nan)) number m)
     (trainedOver (axesPlace table w) (mul binary64 (getD (s .weights) d nan) e) (binsOn (axesAt (m .reals) (m .counts) (axesPlace table w)) (placesIn s)) m)
 
 -- what hangs at a link
@@ -69,9 +83,9 @@ absorbedChild f link d m = cond (eqb link 0) m (f link d m)
 -- a bins grid: what hangs at the bin; (weight · probability) · evaluation in the bin's accumulator, evaluation · weight in its own
 unfoldable pub absorbedBin : (ℕ → ℕ → Memory → Memory) → List ℕ → Float → Float → ℕ → ℕ → ℕ → ℕ → Memory → Memory
 absorbedBin f table weight e number w d i m =
-    stored (getD table (w + 5) 0) (getD table (w + 6) 0) (joinedAt (getD table (w + 5) 0) (getD table (w + 6) 0) (mul binary64 e weight) number m)
-    (stored (getD table (w + 5) 0 + 14 + getD table (w + 2) 0 + 14 * i) (getD table (w + 6) 0 + 7 + 7 * i)
-    (joinedAt (getD table (w + 5) 0 + 14 + getD table (w + 2) 0 + 14 * i) (getD table (w + 6) 0 + 7 + 7 * i)
+    gained (getD table (w + 5) 0) (getD table (w + 6) 0) (gainAt (getD table (w + 5) 0) (getD table (w + 6) 0) (mul binary64 e weight) number m)
+    (gained (getD table (w + 5) 0 + 14 + getD table (w + 2) 0 + 14 * i) (getD table (w + 6) 0 + 7 + 7 * i)
+    (gainAt (getD table (w + 5) 0 + 14 + getD table (w + 2) 0 + 14 * i) (getD table (w + 6) 0 + 7 + 7 * i)
     (mul binary64 (mul binary64 weight (getD (m .reals) (getD table (w + 5) 0 + 14 + i) nan)) e) number m)
     (absorbedChild f (getD table (w + 7 + i) 0) (d + 1) m))
 

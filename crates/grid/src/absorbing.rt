@@ -1,4 +1,4 @@
-// A sample taken into the tree: the new records are read first, what hangs below is written first, so that all sees memory as it was.
+// A sample taken into the tree: what the records gain is read first, what hangs below is written first, so that all sees memory as it was.
 ghost use mathlib.Core.Path.{_≡_};
 ghost use mathlib.Core.Bool.{true};
 ghost use Prim.Native.Nat.{_+_, _≤_};
@@ -12,7 +12,6 @@ ghost use Rattle.grid.specs.Tree.{axesGridAt, headAt, childIn, binsIn, g
 ghost use Rattle.grid.specs.Sampled.{sampleIn, sampleOf, ChildLaid};
 ghost use Rattle.grid.specs.Absorbed.{Takes, TakesChild, absorbedAxes, absorbedChild, absorbedBins, absorbed, objectionOf, admitted};
 use crate::acceptance;
-use crate::accounts;
 use crate::adding;
 use crate::layout;
 use crate::training;
@@ -44,9 +43,9 @@ fn absorb_axes(
     let xs = *coordinates;
     let guesses = *near;
     let spots = training::locate(reals, counts, g, xs, guesses);
-    let own = adding::with_sample(reals, counts, r, c, evaluation * weight, number);
+    let own = adding::gain_at(reals, counts, r, c, evaluation * weight, number);
     training::train_axes(reals, counts, g, spots, weight * evaluation);
-    accounts::store(reals, counts, r, c, own);
+    adding::put(reals, counts, r, c, own);
 }
 
 // At what hangs at a link: nothing where it is 0.
@@ -121,10 +120,10 @@ fn absorb_bins(
     let c = table[w + 6] as usize;
     let link = table[w + 7 + bin] as usize;
     let value = (weight * reals[r + 14 + bin]) * evaluation;
-    let own = adding::with_sample(reals, counts, r, c, evaluation * weight, number);
+    let own = adding::gain_at(reals, counts, r, c, evaluation * weight, number);
     let inner_r = r + 14 + n + 14 * bin;
     let inner_c = c + 7 + 7 * bin;
-    let inner = adding::with_sample(reals, counts, inner_r, inner_c, value, number);
+    let inner = adding::gain_at(reals, counts, inner_r, inner_c, value, number);
     absorb_child(
         table,
         reals,
@@ -142,8 +141,8 @@ fn absorb_bins(
         weighed,
         many,
     );
-    accounts::store(reals, counts, inner_r, inner_c, inner);
-    accounts::store(reals, counts, r, c, own);
+    adding::put(reals, counts, inner_r, inner_c, inner);
+    adding::put(reals, counts, r, c, own);
 }
 
 // At the grid whose run begins at word w, below `depth` bins grids.

@@ -1,16 +1,16 @@
--- Both records are read before what hangs below is written, so all is the definition's step on memory as it was.
+-- What both records gain is read before what hangs below is written, so all is the definition's step on memory as it was.
 use mathlib.Core.Path.{_∙_, subst}
 use native.Mathlib.Omega.{arith}
 use Prim.Native.Nat.{_+_, _-_, _*_}
 use lib.ListN.{length, getD}
 use Rattle.model.specs.Grid.{Grid}
 use Rattle.grid.specs.Memory.{memory}
-use Rattle.grid.specs.Tree.{headAt, gridAt}
+use Rattle.grid.specs.Tree.{headAt, binIn, gridAt}
 use Rattle.grid.specs.Sampled.{ChildLaid}
 use Rattle.grid.specs.Absorbed.{Takes, absorbed}
 use Rattle.grid.proofs.Laid.{laid-axes, laid-bins, laid-head}
 use Rattle.grid.proofs.Sounds.{node-axes, node-bins}
-use Rattle.grid.proofs.Accepts.{formed, takes-below, takes-grid}
+use Rattle.grid.proofs.Accepts.{formed, head-sound, spot-sound, takes-below, takes-grid}
 use Rattle.grid.proofs.Absorbs.{bins-absorbed, nothing-absorbed, child-absorbed, absorbed-axes, absorbed-bins}
 use Rattle.grid.specs.Sampled.{sampleIn}
 use Prim.Native.Nat.{ℕ, _<_}
@@ -26,8 +26,8 @@ use Rattle.grid.proofs.absorbing.absorb_grid.Reads as absorb-grid
 use Rattle.grid.proofs.absorbing.absorb_grid.Kinds as absorb-grid-kinds
 use Rattle.grid.proofs.absorbing.+absorb_bins+absorb_child+absorb_grid.Lts-absorb_grid as absorb-grid-lts
 use Rattle.grid.proofs.absorbing.absorb_axes.Reads as absorb-axes-reads
-use Rattle.grid.proofs.accounts.store.Reads as store-reads
-use Rattle.grid.proofs.adding.with_sample.Reads as with-sample-reads
+use Rattle.grid.proofs.adding.put.Reads as put-reads
+use Rattle.grid.proofs.adding.gain_at.Reads as gain-at-reads
 use Rattle.grid.proofs.absorbing.+absorb_bins+absorb_child+absorb_grid.{statement}
 use Rattle.grid.proofs.absorbing.+absorb_bins+absorb_child+absorb_grid.Tie.{close}
 
@@ -70,411 +70,427 @@ absorb-grid-below t =
 
 -- src/absorbing.rt:110:15
 absorb-bins-mul-bin : (t : ℕ) → absorb-bins-lts.Need-mul-bin (
-  with-sample-reads.Asked,
-  with-sample-reads.Learnt,
+  gain-at-reads.Asked,
+  gain-at-reads.Learnt,
   absorb-child-below t,
   absorb-child.Post,
-  store-reads.Asked,
-  store-reads.Learnt,
+  put-reads.Asked,
+  put-reads.Learnt,
 ) (absorb-bins-at t) absorb-bins.Post
 absorb-bins-mul-bin t c = omega (arith, c .before .before .before .pre .1 .1)
 
 -- src/absorbing.rt:110:15
 absorb-bins-element-copy-out-bin : (t : ℕ) → absorb-bins-lts.Need-element-copy-out-bin (
-  with-sample-reads.Asked,
-  with-sample-reads.Learnt,
+  gain-at-reads.Asked,
+  gain-at-reads.Learnt,
   absorb-child-below t,
   absorb-child.Post,
-  store-reads.Asked,
-  store-reads.Learnt,
+  put-reads.Asked,
+  put-reads.Learnt,
 ) (absorb-bins-at t) absorb-bins.Post
 absorb-bins-element-copy-out-bin t c = omega (arith, c .before .before .before .pre .1 .1)
 
 -- src/absorbing.rt:111:18
 absorb-bins-mul-weight : (t : ℕ) → absorb-bins-lts.Need-mul-weight (
-  with-sample-reads.Asked,
-  with-sample-reads.Learnt,
+  gain-at-reads.Asked,
+  gain-at-reads.Learnt,
   absorb-child-below t,
   absorb-child.Post,
-  store-reads.Asked,
-  store-reads.Learnt,
+  put-reads.Asked,
+  put-reads.Learnt,
 ) (absorb-bins-at t) absorb-bins.Post
 absorb-bins-mul-weight t c = omega (arith, c .before .before .before .before .pre .1 .1)
 
 -- src/absorbing.rt:111:18
 absorb-bins-element-copy-out-weight : (t : ℕ) → absorb-bins-lts.Need-element-copy-out-weight (
-  with-sample-reads.Asked,
-  with-sample-reads.Learnt,
+  gain-at-reads.Asked,
+  gain-at-reads.Learnt,
   absorb-child-below t,
   absorb-child.Post,
-  store-reads.Asked,
-  store-reads.Learnt,
+  put-reads.Asked,
+  put-reads.Learnt,
 ) (absorb-bins-at t) absorb-bins.Post
 absorb-bins-element-copy-out-weight t c = omega (arith, c .before .before .before .before .pre .1 .1)
 
 -- src/absorbing.rt:112:19
 absorb-bins-add-n : (t : ℕ) → absorb-bins-lts.Need-add-n (
-  with-sample-reads.Asked,
-  with-sample-reads.Learnt,
+  gain-at-reads.Asked,
+  gain-at-reads.Learnt,
   absorb-child-below t,
   absorb-child.Post,
-  store-reads.Asked,
-  store-reads.Learnt,
+  put-reads.Asked,
+  put-reads.Learnt,
 ) (absorb-bins-at t) absorb-bins.Post
 absorb-bins-add-n t c = omega (arith, (c .before .before .before .before .before .pre .1 .0))
 
 -- src/absorbing.rt:112:13
 absorb-bins-mul-n : (t : ℕ) → absorb-bins-lts.Need-mul-n (
-  with-sample-reads.Asked,
-  with-sample-reads.Learnt,
+  gain-at-reads.Asked,
+  gain-at-reads.Learnt,
   absorb-child-below t,
   absorb-child.Post,
-  store-reads.Asked,
-  store-reads.Learnt,
+  put-reads.Asked,
+  put-reads.Learnt,
 ) (absorb-bins-at t) absorb-bins.Post
 absorb-bins-mul-n t c = omega (arith, (c .before .before .before .before .before .pre .1 .0))
 
 -- src/absorbing.rt:112:13
 absorb-bins-shared-slice-read-n : (t : ℕ) → absorb-bins-lts.Need-shared-slice-read-n (
-  with-sample-reads.Asked,
-  with-sample-reads.Learnt,
+  gain-at-reads.Asked,
+  gain-at-reads.Learnt,
   absorb-child-below t,
   absorb-child.Post,
-  store-reads.Asked,
-  store-reads.Learnt,
+  put-reads.Asked,
+  put-reads.Learnt,
 ) (absorb-bins-at t) absorb-bins.Post
 absorb-bins-shared-slice-read-n t c = omega (arith, (c .before .before .before .before .before .before .pre .1 .0))
 
 -- src/absorbing.rt:113:19
 absorb-bins-add-r : (t : ℕ) → absorb-bins-lts.Need-add-r (
-  with-sample-reads.Asked,
-  with-sample-reads.Learnt,
+  gain-at-reads.Asked,
+  gain-at-reads.Learnt,
   absorb-child-below t,
   absorb-child.Post,
-  store-reads.Asked,
-  store-reads.Learnt,
+  put-reads.Asked,
+  put-reads.Learnt,
 ) (absorb-bins-at t) absorb-bins.Post
 absorb-bins-add-r t c = omega (arith, (c .before .before .before .before .before .before .pre .1 .0))
 
 -- src/absorbing.rt:113:13
 absorb-bins-mul-r : (t : ℕ) → absorb-bins-lts.Need-mul-r (
-  with-sample-reads.Asked,
-  with-sample-reads.Learnt,
+  gain-at-reads.Asked,
+  gain-at-reads.Learnt,
   absorb-child-below t,
   absorb-child.Post,
-  store-reads.Asked,
-  store-reads.Learnt,
+  put-reads.Asked,
+  put-reads.Learnt,
 ) (absorb-bins-at t) absorb-bins.Post
 absorb-bins-mul-r t c = omega (arith, (c .before .before .before .before .before .before .pre .1 .0))
 
 -- src/absorbing.rt:113:13
 absorb-bins-shared-slice-read-r : (t : ℕ) → absorb-bins-lts.Need-shared-slice-read-r (
-  with-sample-reads.Asked,
-  with-sample-reads.Learnt,
+  gain-at-reads.Asked,
+  gain-at-reads.Learnt,
   absorb-child-below t,
   absorb-child.Post,
-  store-reads.Asked,
-  store-reads.Learnt,
+  put-reads.Asked,
+  put-reads.Learnt,
 ) (absorb-bins-at t) absorb-bins.Post
 absorb-bins-shared-slice-read-r t c = omega (arith, (c .before .before .before .before .before .before .before .pre .1 .0))
 
 -- src/absorbing.rt:114:19
 absorb-bins-add-c : (t : ℕ) → absorb-bins-lts.Need-add-c (
-  with-sample-reads.Asked,
-  with-sample-reads.Learnt,
+  gain-at-reads.Asked,
+  gain-at-reads.Learnt,
   absorb-child-below t,
   absorb-child.Post,
-  store-reads.Asked,
-  store-reads.Learnt,
+  put-reads.Asked,
+  put-reads.Learnt,
 ) (absorb-bins-at t) absorb-bins.Post
 absorb-bins-add-c t c = omega (arith, (c .before .before .before .before .before .before .before .pre .1 .0))
 
 -- src/absorbing.rt:114:13
 absorb-bins-mul-c : (t : ℕ) → absorb-bins-lts.Need-mul-c (
-  with-sample-reads.Asked,
-  with-sample-reads.Learnt,
+  gain-at-reads.Asked,
+  gain-at-reads.Learnt,
   absorb-child-below t,
   absorb-child.Post,
-  store-reads.Asked,
-  store-reads.Learnt,
+  put-reads.Asked,
+  put-reads.Learnt,
 ) (absorb-bins-at t) absorb-bins.Post
 absorb-bins-mul-c t c = omega (arith, (c .before .before .before .before .before .before .before .pre .1 .0))
 
 -- src/absorbing.rt:114:13
 absorb-bins-shared-slice-read-c : (t : ℕ) → absorb-bins-lts.Need-shared-slice-read-c (
-  with-sample-reads.Asked,
-  with-sample-reads.Learnt,
+  gain-at-reads.Asked,
+  gain-at-reads.Learnt,
   absorb-child-below t,
   absorb-child.Post,
-  store-reads.Asked,
-  store-reads.Learnt,
+  put-reads.Asked,
+  put-reads.Learnt,
 ) (absorb-bins-at t) absorb-bins.Post
 absorb-bins-shared-slice-read-c t c = omega (arith, (c .before .before .before .before .before .before .before .before .pre .1 .0))
 
 -- src/absorbing.rt:115:22
 absorb-bins-add-link : (t : ℕ) → absorb-bins-lts.Need-add-link (
-  with-sample-reads.Asked,
-  with-sample-reads.Learnt,
+  gain-at-reads.Asked,
+  gain-at-reads.Learnt,
   absorb-child-below t,
   absorb-child.Post,
-  store-reads.Asked,
-  store-reads.Learnt,
+  put-reads.Asked,
+  put-reads.Learnt,
 ) (absorb-bins-at t) absorb-bins.Post
 absorb-bins-add-link t c = omega (arith, (c .before .before .before .before .before .before .before .before .pre .1 .0), (formed (gridAt (c .before .before .before .before .before .before .before .before .args .level) (c .before .before .before .before .before .before .before .before .args .table .now) (c .before .before .before .before .before .before .before .before .args .reals .now) (c .before .before .before .before .before .before .before .before .args .counts .now)) (c .before .before .before .before .before .before .before .before .args .table .now) (c .before .before .before .before .before .before .before .before .args .reals .now) (c .before .before .before .before .before .before .before .before .args .counts .now) (c .before .before .before .before .before .before .before .before .args .w) (getD (c .before .before .before .before .before .before .before .before .args .table .now) ((c .before .before .before .before .before .before .before .before .args .w) + 2) 0) (headAt (c .before .before .before .before .before .before .before .before .args .table .now) (c .before .before .before .before .before .before .before .before .args .reals .now) (c .before .before .before .before .before .before .before .before .args .counts .now) (c .before .before .before .before .before .before .before .before .args .w)) (sampleIn (c .before .before .before .before .before .before .before .before .args .path .now) (c .before .before .before .before .before .before .before .before .args .levels) (c .before .before .before .before .before .before .before .before .args .weights .now) (c .before .before .before .before .before .before .before .before .args .weighed) (c .before .before .before .before .before .before .before .before .args .coordinates .now) (c .before .before .before .before .before .before .before .before .args .many)) (c .before .before .before .before .before .before .before .before .args .depth) (c .before .before .before .before .before .before .before .before .args .number) (c .before .before .before .before .before .before .before .before .pre .1 .2)) .bin)
 
 -- src/absorbing.rt:115:22
 absorb-bins-add-link-2 : (t : ℕ) → absorb-bins-lts.Need-add-link-2 (
-  with-sample-reads.Asked,
-  with-sample-reads.Learnt,
+  gain-at-reads.Asked,
+  gain-at-reads.Learnt,
   absorb-child-below t,
   absorb-child.Post,
-  store-reads.Asked,
-  store-reads.Learnt,
+  put-reads.Asked,
+  put-reads.Learnt,
 ) (absorb-bins-at t) absorb-bins.Post
 absorb-bins-add-link-2 t c = omega (arith, (c .before .before .before .before .before .before .before .before .pre .1 .0), (formed (gridAt (c .before .before .before .before .before .before .before .before .args .level) (c .before .before .before .before .before .before .before .before .args .table .now) (c .before .before .before .before .before .before .before .before .args .reals .now) (c .before .before .before .before .before .before .before .before .args .counts .now)) (c .before .before .before .before .before .before .before .before .args .table .now) (c .before .before .before .before .before .before .before .before .args .reals .now) (c .before .before .before .before .before .before .before .before .args .counts .now) (c .before .before .before .before .before .before .before .before .args .w) (getD (c .before .before .before .before .before .before .before .before .args .table .now) ((c .before .before .before .before .before .before .before .before .args .w) + 2) 0) (headAt (c .before .before .before .before .before .before .before .before .args .table .now) (c .before .before .before .before .before .before .before .before .args .reals .now) (c .before .before .before .before .before .before .before .before .args .counts .now) (c .before .before .before .before .before .before .before .before .args .w)) (sampleIn (c .before .before .before .before .before .before .before .before .args .path .now) (c .before .before .before .before .before .before .before .before .args .levels) (c .before .before .before .before .before .before .before .before .args .weights .now) (c .before .before .before .before .before .before .before .before .args .weighed) (c .before .before .before .before .before .before .before .before .args .coordinates .now) (c .before .before .before .before .before .before .before .before .args .many)) (c .before .before .before .before .before .before .before .before .args .depth) (c .before .before .before .before .before .before .before .before .args .number) (c .before .before .before .before .before .before .before .before .pre .1 .2)) .bin)
 
 -- src/absorbing.rt:115:16
 absorb-bins-mul-link : (t : ℕ) → absorb-bins-lts.Need-mul-link (
-  with-sample-reads.Asked,
-  with-sample-reads.Learnt,
+  gain-at-reads.Asked,
+  gain-at-reads.Learnt,
   absorb-child-below t,
   absorb-child.Post,
-  store-reads.Asked,
-  store-reads.Learnt,
+  put-reads.Asked,
+  put-reads.Learnt,
 ) (absorb-bins-at t) absorb-bins.Post
 absorb-bins-mul-link t c = omega (arith, (c .before .before .before .before .before .before .before .before .pre .1 .0), (formed (gridAt (c .before .before .before .before .before .before .before .before .args .level) (c .before .before .before .before .before .before .before .before .args .table .now) (c .before .before .before .before .before .before .before .before .args .reals .now) (c .before .before .before .before .before .before .before .before .args .counts .now)) (c .before .before .before .before .before .before .before .before .args .table .now) (c .before .before .before .before .before .before .before .before .args .reals .now) (c .before .before .before .before .before .before .before .before .args .counts .now) (c .before .before .before .before .before .before .before .before .args .w) (getD (c .before .before .before .before .before .before .before .before .args .table .now) ((c .before .before .before .before .before .before .before .before .args .w) + 2) 0) (headAt (c .before .before .before .before .before .before .before .before .args .table .now) (c .before .before .before .before .before .before .before .before .args .reals .now) (c .before .before .before .before .before .before .before .before .args .counts .now) (c .before .before .before .before .before .before .before .before .args .w)) (sampleIn (c .before .before .before .before .before .before .before .before .args .path .now) (c .before .before .before .before .before .before .before .before .args .levels) (c .before .before .before .before .before .before .before .before .args .weights .now) (c .before .before .before .before .before .before .before .before .args .weighed) (c .before .before .before .before .before .before .before .before .args .coordinates .now) (c .before .before .before .before .before .before .before .before .args .many)) (c .before .before .before .before .before .before .before .before .args .depth) (c .before .before .before .before .before .before .before .before .args .number) (c .before .before .before .before .before .before .before .before .pre .1 .2)) .bin)
 
 -- src/absorbing.rt:115:16
 absorb-bins-shared-slice-read-link : (t : ℕ) → absorb-bins-lts.Need-shared-slice-read-link (
-  with-sample-reads.Asked,
-  with-sample-reads.Learnt,
+  gain-at-reads.Asked,
+  gain-at-reads.Learnt,
   absorb-child-below t,
   absorb-child.Post,
-  store-reads.Asked,
-  store-reads.Learnt,
+  put-reads.Asked,
+  put-reads.Learnt,
 ) (absorb-bins-at t) absorb-bins.Post
 absorb-bins-shared-slice-read-link t c = omega (arith, (c .before .before .before .before .before .before .before .before .before .pre .1 .0), (formed (gridAt (c .before .before .before .before .before .before .before .before .before .args .level) (c .before .before .before .before .before .before .before .before .before .args .table .now) (c .before .before .before .before .before .before .before .before .before .args .reals .now) (c .before .before .before .before .before .before .before .before .before .args .counts .now)) (c .before .before .before .before .before .before .before .before .before .args .table .now) (c .before .before .before .before .before .before .before .before .before .args .reals .now) (c .before .before .before .before .before .before .before .before .before .args .counts .now) (c .before .before .before .before .before .before .before .before .before .args .w) (getD (c .before .before .before .before .before .before .before .before .before .args .table .now) ((c .before .before .before .before .before .before .before .before .before .args .w) + 2) 0) (headAt (c .before .before .before .before .before .before .before .before .before .args .table .now) (c .before .before .before .before .before .before .before .before .before .args .reals .now) (c .before .before .before .before .before .before .before .before .before .args .counts .now) (c .before .before .before .before .before .before .before .before .before .args .w)) (sampleIn (c .before .before .before .before .before .before .before .before .before .args .path .now) (c .before .before .before .before .before .before .before .before .before .args .levels) (c .before .before .before .before .before .before .before .before .before .args .weights .now) (c .before .before .before .before .before .before .before .before .before .args .weighed) (c .before .before .before .before .before .before .before .before .before .args .coordinates .now) (c .before .before .before .before .before .before .before .before .before .args .many)) (c .before .before .before .before .before .before .before .before .before .args .depth) (c .before .before .before .before .before .before .before .before .before .args .number) (c .before .before .before .before .before .before .before .before .before .pre .1 .2)) .bin)
 
 -- src/absorbing.rt:116:33
 absorb-bins-add-value : (t : ℕ) → absorb-bins-lts.Need-add-value (
-  with-sample-reads.Asked,
-  with-sample-reads.Learnt,
+  gain-at-reads.Asked,
+  gain-at-reads.Learnt,
   absorb-child-below t,
   absorb-child.Post,
-  store-reads.Asked,
-  store-reads.Learnt,
+  put-reads.Asked,
+  put-reads.Learnt,
 ) (absorb-bins-at t) absorb-bins.Post
 absorb-bins-add-value t c = omega (arith, (c .before .before .before .before .before .before .before .before .before .pre .1 .0), (formed (gridAt (c .before .before .before .before .before .before .before .before .before .args .level) (c .before .before .before .before .before .before .before .before .before .args .table .now) (c .before .before .before .before .before .before .before .before .before .args .reals .now) (c .before .before .before .before .before .before .before .before .before .args .counts .now)) (c .before .before .before .before .before .before .before .before .before .args .table .now) (c .before .before .before .before .before .before .before .before .before .args .reals .now) (c .before .before .before .before .before .before .before .before .before .args .counts .now) (c .before .before .before .before .before .before .before .before .before .args .w) (getD (c .before .before .before .before .before .before .before .before .before .args .table .now) ((c .before .before .before .before .before .before .before .before .before .args .w) + 2) 0) (headAt (c .before .before .before .before .before .before .before .before .before .args .table .now) (c .before .before .before .before .before .before .before .before .before .args .reals .now) (c .before .before .before .before .before .before .before .before .before .args .counts .now) (c .before .before .before .before .before .before .before .before .before .args .w)) (sampleIn (c .before .before .before .before .before .before .before .before .before .args .path .now) (c .before .before .before .before .before .before .before .before .before .args .levels) (c .before .before .before .before .before .before .before .before .before .args .weights .now) (c .before .before .before .before .before .before .before .before .before .args .weighed) (c .before .before .before .before .before .before .before .before .before .args .coordinates .now) (c .before .before .before .before .before .before .before .before .before .args .many)) (c .before .before .before .before .before .before .before .before .before .args .depth) (c .before .before .before .before .before .before .before .before .before .args .number) (c .before .before .before .before .before .before .before .before .before .pre .1 .2)) .bin)
 
 -- src/absorbing.rt:116:33
 absorb-bins-add-value-2 : (t : ℕ) → absorb-bins-lts.Need-add-value-2 (
-  with-sample-reads.Asked,
-  with-sample-reads.Learnt,
+  gain-at-reads.Asked,
+  gain-at-reads.Learnt,
   absorb-child-below t,
   absorb-child.Post,
-  store-reads.Asked,
-  store-reads.Learnt,
+  put-reads.Asked,
+  put-reads.Learnt,
 ) (absorb-bins-at t) absorb-bins.Post
 absorb-bins-add-value-2 t c = omega (arith, (c .before .before .before .before .before .before .before .before .before .pre .1 .0), (formed (gridAt (c .before .before .before .before .before .before .before .before .before .args .level) (c .before .before .before .before .before .before .before .before .before .args .table .now) (c .before .before .before .before .before .before .before .before .before .args .reals .now) (c .before .before .before .before .before .before .before .before .before .args .counts .now)) (c .before .before .before .before .before .before .before .before .before .args .table .now) (c .before .before .before .before .before .before .before .before .before .args .reals .now) (c .before .before .before .before .before .before .before .before .before .args .counts .now) (c .before .before .before .before .before .before .before .before .before .args .w) (getD (c .before .before .before .before .before .before .before .before .before .args .table .now) ((c .before .before .before .before .before .before .before .before .before .args .w) + 2) 0) (headAt (c .before .before .before .before .before .before .before .before .before .args .table .now) (c .before .before .before .before .before .before .before .before .before .args .reals .now) (c .before .before .before .before .before .before .before .before .before .args .counts .now) (c .before .before .before .before .before .before .before .before .before .args .w)) (sampleIn (c .before .before .before .before .before .before .before .before .before .args .path .now) (c .before .before .before .before .before .before .before .before .before .args .levels) (c .before .before .before .before .before .before .before .before .before .args .weights .now) (c .before .before .before .before .before .before .before .before .before .args .weighed) (c .before .before .before .before .before .before .before .before .before .args .coordinates .now) (c .before .before .before .before .before .before .before .before .before .args .many)) (c .before .before .before .before .before .before .before .before .before .args .depth) (c .before .before .before .before .before .before .before .before .before .args .number) (c .before .before .before .before .before .before .before .before .before .pre .1 .2)) .bin)
 
 -- src/absorbing.rt:116:27
 absorb-bins-mul-value : (t : ℕ) → absorb-bins-lts.Need-mul-value (
-  with-sample-reads.Asked,
-  with-sample-reads.Learnt,
+  gain-at-reads.Asked,
+  gain-at-reads.Learnt,
   absorb-child-below t,
   absorb-child.Post,
-  store-reads.Asked,
-  store-reads.Learnt,
+  put-reads.Asked,
+  put-reads.Learnt,
 ) (absorb-bins-at t) absorb-bins.Post
 absorb-bins-mul-value t c = omega (arith, (c .before .before .before .before .before .before .before .before .before .pre .1 .0), (formed (gridAt (c .before .before .before .before .before .before .before .before .before .args .level) (c .before .before .before .before .before .before .before .before .before .args .table .now) (c .before .before .before .before .before .before .before .before .before .args .reals .now) (c .before .before .before .before .before .before .before .before .before .args .counts .now)) (c .before .before .before .before .before .before .before .before .before .args .table .now) (c .before .before .before .before .before .before .before .before .before .args .reals .now) (c .before .before .before .before .before .before .before .before .before .args .counts .now) (c .before .before .before .before .before .before .before .before .before .args .w) (getD (c .before .before .before .before .before .before .before .before .before .args .table .now) ((c .before .before .before .before .before .before .before .before .before .args .w) + 2) 0) (headAt (c .before .before .before .before .before .before .before .before .before .args .table .now) (c .before .before .before .before .before .before .before .before .before .args .reals .now) (c .before .before .before .before .before .before .before .before .before .args .counts .now) (c .before .before .before .before .before .before .before .before .before .args .w)) (sampleIn (c .before .before .before .before .before .before .before .before .before .args .path .now) (c .before .before .before .before .before .before .before .before .before .args .levels) (c .before .before .before .before .before .before .before .before .before .args .weights .now) (c .before .before .before .before .before .before .before .before .before .args .weighed) (c .before .before .before .before .before .before .before .before .before .args .coordinates .now) (c .before .before .before .before .before .before .before .before .before .args .many)) (c .before .before .before .before .before .before .before .before .before .args .depth) (c .before .before .before .before .before .before .before .before .before .args .number) (c .before .before .before .before .before .before .before .before .before .pre .1 .2)) .bin)
 
 -- src/absorbing.rt:116:27
 absorb-bins-slice-read-value : (t : ℕ) → absorb-bins-lts.Need-slice-read-value (
-  with-sample-reads.Asked,
-  with-sample-reads.Learnt,
+  gain-at-reads.Asked,
+  gain-at-reads.Learnt,
   absorb-child-below t,
   absorb-child.Post,
-  store-reads.Asked,
-  store-reads.Learnt,
+  put-reads.Asked,
+  put-reads.Learnt,
 ) (absorb-bins-at t) absorb-bins.Post
 absorb-bins-slice-read-value t c = omega (arith, (c .before .before .before .before .before .before .before .before .before .before .pre .1 .0), (formed (gridAt (c .before .before .before .before .before .before .before .before .before .before .args .level) (c .before .before .before .before .before .before .before .before .before .before .args .table .now) (c .before .before .before .before .before .before .before .before .before .before .args .reals .now) (c .before .before .before .before .before .before .before .before .before .before .args .counts .now)) (c .before .before .before .before .before .before .before .before .before .before .args .table .now) (c .before .before .before .before .before .before .before .before .before .before .args .reals .now) (c .before .before .before .before .before .before .before .before .before .before .args .counts .now) (c .before .before .before .before .before .before .before .before .before .before .args .w) (getD (c .before .before .before .before .before .before .before .before .before .before .args .table .now) ((c .before .before .before .before .before .before .before .before .before .before .args .w) + 2) 0) (headAt (c .before .before .before .before .before .before .before .before .before .before .args .table .now) (c .before .before .before .before .before .before .before .before .before .before .args .reals .now) (c .before .before .before .before .before .before .before .before .before .before .args .counts .now) (c .before .before .before .before .before .before .before .before .before .before .args .w)) (sampleIn (c .before .before .before .before .before .before .before .before .before .before .args .path .now) (c .before .before .before .before .before .before .before .before .before .before .args .levels) (c .before .before .before .before .before .before .before .before .before .before .args .weights .now) (c .before .before .before .before .before .before .before .before .before .before .args .weighed) (c .before .before .before .before .before .before .before .before .before .before .args .coordinates .now) (c .before .before .before .before .before .before .before .before .before .before .args .many)) (c .before .before .before .before .before .before .before .before .before .before .args .depth) (c .before .before .before .before .before .before .before .before .before .before .args .number) (c .before .before .before .before .before .before .before .before .before .before .pre .1 .2)) .bin)
 
 -- src/absorbing.rt:117:9
-absorb-bins-with-sample-requires : (t : ℕ) → absorb-bins-lts.Need-with-sample-requires (
-  with-sample-reads.Asked,
-  with-sample-reads.Learnt,
+absorb-bins-gain-at-requires : (t : ℕ) → absorb-bins-lts.Need-gain-at-requires (
+  gain-at-reads.Asked,
+  gain-at-reads.Learnt,
   absorb-child-below t,
   absorb-child.Post,
-  store-reads.Asked,
-  store-reads.Learnt,
+  put-reads.Asked,
+  put-reads.Learnt,
 ) (absorb-bins-at t) absorb-bins.Post
-absorb-bins-with-sample-requires t c κs = (omega (arith, (c .before .before .before .before .before .before .before .before .before .before .before .before .pre .1 .0)), omega (arith, (c .before .before .before .before .before .before .before .before .before .before .before .before .pre .1 .0)))
+unfolding headAt
+absorb-bins-gain-at-requires t c κs =
+    let o = c .before .before .before .before .before .before .before .before .before .before .before .before in
+    let f = gridAt (o .args .level) (o .args .table .now) (o .args .reals .now) (o .args .counts .now) in
+    let n = getD (o .args .table .now) (o .args .w + 2) 0 in
+    let h = headAt (o .args .table .now) (o .args .reals .now) (o .args .counts .now) (o .args .w) in
+    let s = sampleIn (o .args .path .now) (o .args .levels) (o .args .weights .now) (o .args .weighed) (o .args .coordinates .now) (o .args .many) in
+    let b = formed f (o .args .table .now) (o .args .reals .now) (o .args .counts .now) (o .args .w) n h s (o .args .depth) (o .args .number) (o .pre .1 .2) in
+    (omega (arith, o .pre .1 .0, b .bin), omega (arith, o .pre .1 .0, b .bin), head-sound f (o .args .table .now) (o .args .reals .now) (o .args .counts .now) (o .args .w) n h s (o .args .depth) (o .args .number) (o .pre .1 .2))
 
 -- src/absorbing.rt:118:19
 absorb-bins-add-inner-r : (t : ℕ) → absorb-bins-lts.Need-add-inner-r (
-  with-sample-reads.Asked,
-  with-sample-reads.Learnt,
+  gain-at-reads.Asked,
+  gain-at-reads.Learnt,
   absorb-child-below t,
   absorb-child.Post,
-  store-reads.Asked,
-  store-reads.Learnt,
+  put-reads.Asked,
+  put-reads.Learnt,
 ) (absorb-bins-at t) absorb-bins.Post
 absorb-bins-add-inner-r t c = omega (arith, (c .before .before .before .before .before .before .before .before .before .before .before .before .before .pre .1 .0), (formed (gridAt (c .before .before .before .before .before .before .before .before .before .before .before .before .before .args .level) (c .before .before .before .before .before .before .before .before .before .before .before .before .before .args .table .now) (c .before .before .before .before .before .before .before .before .before .before .before .before .before .args .reals .now) (c .before .before .before .before .before .before .before .before .before .before .before .before .before .args .counts .now)) (c .before .before .before .before .before .before .before .before .before .before .before .before .before .args .table .now) (c .before .before .before .before .before .before .before .before .before .before .before .before .before .args .reals .now) (c .before .before .before .before .before .before .before .before .before .before .before .before .before .args .counts .now) (c .before .before .before .before .before .before .before .before .before .before .before .before .before .args .w) (getD (c .before .before .before .before .before .before .before .before .before .before .before .before .before .args .table .now) ((c .before .before .before .before .before .before .before .before .before .before .before .before .before .args .w) + 2) 0) (headAt (c .before .before .before .before .before .before .before .before .before .before .before .before .before .args .table .now) (c .before .before .before .before .before .before .before .before .before .before .before .before .before .args .reals .now) (c .before .before .before .before .before .before .before .before .before .before .before .before .before .args .counts .now) (c .before .before .before .before .before .before .before .before .before .before .before .before .before .args .w)) (sampleIn (c .before .before .before .before .before .before .before .before .before .before .before .before .before .args .path .now) (c .before .before .before .before .before .before .before .before .before .before .before .before .before .args .levels) (c .before .before .before .before .before .before .before .before .before .before .before .before .before .args .weights .now) (c .before .before .before .before .before .before .before .before .before .before .before .before .before .args .weighed) (c .before .before .before .before .before .before .before .before .before .before .before .before .before .args .coordinates .now) (c .before .before .before .before .before .before .before .before .before .before .before .before .before .args .many)) (c .before .before .before .before .before .before .before .before .before .before .before .before .before .args .depth) (c .before .before .before .before .before .before .before .before .before .before .before .before .before .args .number) (c .before .before .before .before .before .before .before .before .before .before .before .before .before .pre .1 .2)) .bin)
 
 -- src/absorbing.rt:118:19
 absorb-bins-add-inner-r-2 : (t : ℕ) → absorb-bins-lts.Need-add-inner-r-2 (
-  with-sample-reads.Asked,
-  with-sample-reads.Learnt,
+  gain-at-reads.Asked,
+  gain-at-reads.Learnt,
   absorb-child-below t,
   absorb-child.Post,
-  store-reads.Asked,
-  store-reads.Learnt,
+  put-reads.Asked,
+  put-reads.Learnt,
 ) (absorb-bins-at t) absorb-bins.Post
 absorb-bins-add-inner-r-2 t c = omega (arith, (c .before .before .before .before .before .before .before .before .before .before .before .before .before .pre .1 .0), (formed (gridAt (c .before .before .before .before .before .before .before .before .before .before .before .before .before .args .level) (c .before .before .before .before .before .before .before .before .before .before .before .before .before .args .table .now) (c .before .before .before .before .before .before .before .before .before .before .before .before .before .args .reals .now) (c .before .before .before .before .before .before .before .before .before .before .before .before .before .args .counts .now)) (c .before .before .before .before .before .before .before .before .before .before .before .before .before .args .table .now) (c .before .before .before .before .before .before .before .before .before .before .before .before .before .args .reals .now) (c .before .before .before .before .before .before .before .before .before .before .before .before .before .args .counts .now) (c .before .before .before .before .before .before .before .before .before .before .before .before .before .args .w) (getD (c .before .before .before .before .before .before .before .before .before .before .before .before .before .args .table .now) ((c .before .before .before .before .before .before .before .before .before .before .before .before .before .args .w) + 2) 0) (headAt (c .before .before .before .before .before .before .before .before .before .before .before .before .before .args .table .now) (c .before .before .before .before .before .before .before .before .before .before .before .before .before .args .reals .now) (c .before .before .before .before .before .before .before .before .before .before .before .before .before .args .counts .now) (c .before .before .before .before .before .before .before .before .before .before .before .before .before .args .w)) (sampleIn (c .before .before .before .before .before .before .before .before .before .before .before .before .before .args .path .now) (c .before .before .before .before .before .before .before .before .before .before .before .before .before .args .levels) (c .before .before .before .before .before .before .before .before .before .before .before .before .before .args .weights .now) (c .before .before .before .before .before .before .before .before .before .before .before .before .before .args .weighed) (c .before .before .before .before .before .before .before .before .before .before .before .before .before .args .coordinates .now) (c .before .before .before .before .before .before .before .before .before .before .before .before .before .args .many)) (c .before .before .before .before .before .before .before .before .before .before .before .before .before .args .depth) (c .before .before .before .before .before .before .before .before .before .before .before .before .before .args .number) (c .before .before .before .before .before .before .before .before .before .before .before .before .before .pre .1 .2)) .bin)
 
 -- src/absorbing.rt:118:32
 absorb-bins-mul-inner-r : (t : ℕ) → absorb-bins-lts.Need-mul-inner-r (
-  with-sample-reads.Asked,
-  with-sample-reads.Learnt,
+  gain-at-reads.Asked,
+  gain-at-reads.Learnt,
   absorb-child-below t,
   absorb-child.Post,
-  store-reads.Asked,
-  store-reads.Learnt,
+  put-reads.Asked,
+  put-reads.Learnt,
 ) (absorb-bins-at t) absorb-bins.Post
 absorb-bins-mul-inner-r t c = omega (arith, (c .before .before .before .before .before .before .before .before .before .before .before .before .before .pre .1 .0), (formed (gridAt (c .before .before .before .before .before .before .before .before .before .before .before .before .before .args .level) (c .before .before .before .before .before .before .before .before .before .before .before .before .before .args .table .now) (c .before .before .before .before .before .before .before .before .before .before .before .before .before .args .reals .now) (c .before .before .before .before .before .before .before .before .before .before .before .before .before .args .counts .now)) (c .before .before .before .before .before .before .before .before .before .before .before .before .before .args .table .now) (c .before .before .before .before .before .before .before .before .before .before .before .before .before .args .reals .now) (c .before .before .before .before .before .before .before .before .before .before .before .before .before .args .counts .now) (c .before .before .before .before .before .before .before .before .before .before .before .before .before .args .w) (getD (c .before .before .before .before .before .before .before .before .before .before .before .before .before .args .table .now) ((c .before .before .before .before .before .before .before .before .before .before .before .before .before .args .w) + 2) 0) (headAt (c .before .before .before .before .before .before .before .before .before .before .before .before .before .args .table .now) (c .before .before .before .before .before .before .before .before .before .before .before .before .before .args .reals .now) (c .before .before .before .before .before .before .before .before .before .before .before .before .before .args .counts .now) (c .before .before .before .before .before .before .before .before .before .before .before .before .before .args .w)) (sampleIn (c .before .before .before .before .before .before .before .before .before .before .before .before .before .args .path .now) (c .before .before .before .before .before .before .before .before .before .before .before .before .before .args .levels) (c .before .before .before .before .before .before .before .before .before .before .before .before .before .args .weights .now) (c .before .before .before .before .before .before .before .before .before .before .before .before .before .args .weighed) (c .before .before .before .before .before .before .before .before .before .before .before .before .before .args .coordinates .now) (c .before .before .before .before .before .before .before .before .before .before .before .before .before .args .many)) (c .before .before .before .before .before .before .before .before .before .before .before .before .before .args .depth) (c .before .before .before .before .before .before .before .before .before .before .before .before .before .args .number) (c .before .before .before .before .before .before .before .before .before .before .before .before .before .pre .1 .2)) .bin)
 
 -- src/absorbing.rt:118:19
 absorb-bins-add-inner-r-3 : (t : ℕ) → absorb-bins-lts.Need-add-inner-r-3 (
-  with-sample-reads.Asked,
-  with-sample-reads.Learnt,
+  gain-at-reads.Asked,
+  gain-at-reads.Learnt,
   absorb-child-below t,
   absorb-child.Post,
-  store-reads.Asked,
-  store-reads.Learnt,
+  put-reads.Asked,
+  put-reads.Learnt,
 ) (absorb-bins-at t) absorb-bins.Post
 absorb-bins-add-inner-r-3 t c = omega (arith, (c .before .before .before .before .before .before .before .before .before .before .before .before .before .pre .1 .0), (formed (gridAt (c .before .before .before .before .before .before .before .before .before .before .before .before .before .args .level) (c .before .before .before .before .before .before .before .before .before .before .before .before .before .args .table .now) (c .before .before .before .before .before .before .before .before .before .before .before .before .before .args .reals .now) (c .before .before .before .before .before .before .before .before .before .before .before .before .before .args .counts .now)) (c .before .before .before .before .before .before .before .before .before .before .before .before .before .args .table .now) (c .before .before .before .before .before .before .before .before .before .before .before .before .before .args .reals .now) (c .before .before .before .before .before .before .before .before .before .before .before .before .before .args .counts .now) (c .before .before .before .before .before .before .before .before .before .before .before .before .before .args .w) (getD (c .before .before .before .before .before .before .before .before .before .before .before .before .before .args .table .now) ((c .before .before .before .before .before .before .before .before .before .before .before .before .before .args .w) + 2) 0) (headAt (c .before .before .before .before .before .before .before .before .before .before .before .before .before .args .table .now) (c .before .before .before .before .before .before .before .before .before .before .before .before .before .args .reals .now) (c .before .before .before .before .before .before .before .before .before .before .before .before .before .args .counts .now) (c .before .before .before .before .before .before .before .before .before .before .before .before .before .args .w)) (sampleIn (c .before .before .before .before .before .before .before .before .before .before .before .before .before .args .path .now) (c .before .before .before .before .before .before .before .before .before .before .before .before .before .args .levels) (c .before .before .before .before .before .before .before .before .before .before .before .before .before .args .weights .now) (c .before .before .before .before .before .before .before .before .before .before .before .before .before .args .weighed) (c .before .before .before .before .before .before .before .before .before .before .before .before .before .args .coordinates .now) (c .before .before .before .before .before .before .before .before .before .before .before .before .before .args .many)) (c .before .before .before .before .before .before .before .before .before .before .before .before .before .args .depth) (c .before .before .before .before .before .before .before .before .before .before .before .before .before .args .number) (c .before .before .before .before .before .before .before .before .before .before .before .before .before .pre .1 .2)) .bin)
 
 -- src/absorbing.rt:119:19
 absorb-bins-add-inner-c : (t : ℕ) → absorb-bins-lts.Need-add-inner-c (
-  with-sample-reads.Asked,
-  with-sample-reads.Learnt,
+  gain-at-reads.Asked,
+  gain-at-reads.Learnt,
   absorb-child-below t,
   absorb-child.Post,
-  store-reads.Asked,
-  store-reads.Learnt,
+  put-reads.Asked,
+  put-reads.Learnt,
 ) (absorb-bins-at t) absorb-bins.Post
 absorb-bins-add-inner-c t c = omega (arith, (c .before .before .before .before .before .before .before .before .before .before .before .before .before .pre .1 .0), (formed (gridAt (c .before .before .before .before .before .before .before .before .before .before .before .before .before .args .level) (c .before .before .before .before .before .before .before .before .before .before .before .before .before .args .table .now) (c .before .before .before .before .before .before .before .before .before .before .before .before .before .args .reals .now) (c .before .before .before .before .before .before .before .before .before .before .before .before .before .args .counts .now)) (c .before .before .before .before .before .before .before .before .before .before .before .before .before .args .table .now) (c .before .before .before .before .before .before .before .before .before .before .before .before .before .args .reals .now) (c .before .before .before .before .before .before .before .before .before .before .before .before .before .args .counts .now) (c .before .before .before .before .before .before .before .before .before .before .before .before .before .args .w) (getD (c .before .before .before .before .before .before .before .before .before .before .before .before .before .args .table .now) ((c .before .before .before .before .before .before .before .before .before .before .before .before .before .args .w) + 2) 0) (headAt (c .before .before .before .before .before .before .before .before .before .before .before .before .before .args .table .now) (c .before .before .before .before .before .before .before .before .before .before .before .before .before .args .reals .now) (c .before .before .before .before .before .before .before .before .before .before .before .before .before .args .counts .now) (c .before .before .before .before .before .before .before .before .before .before .before .before .before .args .w)) (sampleIn (c .before .before .before .before .before .before .before .before .before .before .before .before .before .args .path .now) (c .before .before .before .before .before .before .before .before .before .before .before .before .before .args .levels) (c .before .before .before .before .before .before .before .before .before .before .before .before .before .args .weights .now) (c .before .before .before .before .before .before .before .before .before .before .before .before .before .args .weighed) (c .before .before .before .before .before .before .before .before .before .before .before .before .before .args .coordinates .now) (c .before .before .before .before .before .before .before .before .before .before .before .before .before .args .many)) (c .before .before .before .before .before .before .before .before .before .before .before .before .before .args .depth) (c .before .before .before .before .before .before .before .before .before .before .before .before .before .args .number) (c .before .before .before .before .before .before .before .before .before .before .before .before .before .pre .1 .2)) .bin)
 
 -- src/absorbing.rt:119:27
 absorb-bins-mul-inner-c : (t : ℕ) → absorb-bins-lts.Need-mul-inner-c (
-  with-sample-reads.Asked,
-  with-sample-reads.Learnt,
+  gain-at-reads.Asked,
+  gain-at-reads.Learnt,
   absorb-child-below t,
   absorb-child.Post,
-  store-reads.Asked,
-  store-reads.Learnt,
+  put-reads.Asked,
+  put-reads.Learnt,
 ) (absorb-bins-at t) absorb-bins.Post
 absorb-bins-mul-inner-c t c = omega (arith, (c .before .before .before .before .before .before .before .before .before .before .before .before .before .pre .1 .0), (formed (gridAt (c .before .before .before .before .before .before .before .before .before .before .before .before .before .args .level) (c .before .before .before .before .before .before .before .before .before .before .before .before .before .args .table .now) (c .before .before .before .before .before .before .before .before .before .before .before .before .before .args .reals .now) (c .before .before .before .before .before .before .before .before .before .before .before .before .before .args .counts .now)) (c .before .before .before .before .before .before .before .before .before .before .before .before .before .args .table .now) (c .before .before .before .before .before .before .before .before .before .before .before .before .before .args .reals .now) (c .before .before .before .before .before .before .before .before .before .before .before .before .before .args .counts .now) (c .before .before .before .before .before .before .before .before .before .before .before .before .before .args .w) (getD (c .before .before .before .before .before .before .before .before .before .before .before .before .before .args .table .now) ((c .before .before .before .before .before .before .before .before .before .before .before .before .before .args .w) + 2) 0) (headAt (c .before .before .before .before .before .before .before .before .before .before .before .before .before .args .table .now) (c .before .before .before .before .before .before .before .before .before .before .before .before .before .args .reals .now) (c .before .before .before .before .before .before .before .before .before .before .before .before .before .args .counts .now) (c .before .before .before .before .before .before .before .before .before .before .before .before .before .args .w)) (sampleIn (c .before .before .before .before .before .before .before .before .before .before .before .before .before .args .path .now) (c .before .before .before .before .before .before .before .before .before .before .before .before .before .args .levels) (c .before .before .before .before .before .before .before .before .before .before .before .before .before .args .weights .now) (c .before .before .before .before .before .before .before .before .before .before .before .before .before .args .weighed) (c .before .before .before .before .before .before .before .before .before .before .before .before .before .args .coordinates .now) (c .before .before .before .before .before .before .before .before .before .before .before .before .before .args .many)) (c .before .before .before .before .before .before .before .before .before .before .before .before .before .args .depth) (c .before .before .before .before .before .before .before .before .before .before .before .before .before .args .number) (c .before .before .before .before .before .before .before .before .before .before .before .before .before .pre .1 .2)) .bin)
 
 -- src/absorbing.rt:119:19
 absorb-bins-add-inner-c-2 : (t : ℕ) → absorb-bins-lts.Need-add-inner-c-2 (
-  with-sample-reads.Asked,
-  with-sample-reads.Learnt,
+  gain-at-reads.Asked,
+  gain-at-reads.Learnt,
   absorb-child-below t,
   absorb-child.Post,
-  store-reads.Asked,
-  store-reads.Learnt,
+  put-reads.Asked,
+  put-reads.Learnt,
 ) (absorb-bins-at t) absorb-bins.Post
 absorb-bins-add-inner-c-2 t c = omega (arith, (c .before .before .before .before .before .before .before .before .before .before .before .before .before .pre .1 .0), (formed (gridAt (c .before .before .before .before .before .before .before .before .before .before .before .before .before .args .level) (c .before .before .before .before .before .before .before .before .before .before .before .before .before .args .table .now) (c .before .before .before .before .before .before .before .before .before .before .before .before .before .args .reals .now) (c .before .before .before .before .before .before .before .before .before .before .before .before .before .args .counts .now)) (c .before .before .before .before .before .before .before .before .before .before .before .before .before .args .table .now) (c .before .before .before .before .before .before .before .before .before .before .before .before .before .args .reals .now) (c .before .before .before .before .before .before .before .before .before .before .before .before .before .args .counts .now) (c .before .before .before .before .before .before .before .before .before .before .before .before .before .args .w) (getD (c .before .before .before .before .before .before .before .before .before .before .before .before .before .args .table .now) ((c .before .before .before .before .before .before .before .before .before .before .before .before .before .args .w) + 2) 0) (headAt (c .before .before .before .before .before .before .before .before .before .before .before .before .before .args .table .now) (c .before .before .before .before .before .before .before .before .before .before .before .before .before .args .reals .now) (c .before .before .before .before .before .before .before .before .before .before .before .before .before .args .counts .now) (c .before .before .before .before .before .before .before .before .before .before .before .before .before .args .w)) (sampleIn (c .before .before .before .before .before .before .before .before .before .before .before .before .before .args .path .now) (c .before .before .before .before .before .before .before .before .before .before .before .before .before .args .levels) (c .before .before .before .before .before .before .before .before .before .before .before .before .before .args .weights .now) (c .before .before .before .before .before .before .before .before .before .before .before .before .before .args .weighed) (c .before .before .before .before .before .before .before .before .before .before .before .before .before .args .coordinates .now) (c .before .before .before .before .before .before .before .before .before .before .before .before .before .args .many)) (c .before .before .before .before .before .before .before .before .before .before .before .before .before .args .depth) (c .before .before .before .before .before .before .before .before .before .before .before .before .before .args .number) (c .before .before .before .before .before .before .before .before .before .before .before .before .before .pre .1 .2)) .bin)
 
 -- src/absorbing.rt:120:9
-absorb-bins-with-sample-requires-2 : (t : ℕ) → absorb-bins-lts.Need-with-sample-requires-2 (
-  with-sample-reads.Asked,
-  with-sample-reads.Learnt,
+absorb-bins-gain-at-requires-2 : (t : ℕ) → absorb-bins-lts.Need-gain-at-requires-2 (
+  gain-at-reads.Asked,
+  gain-at-reads.Learnt,
   absorb-child-below t,
   absorb-child.Post,
-  store-reads.Asked,
-  store-reads.Learnt,
+  put-reads.Asked,
+  put-reads.Learnt,
 ) (absorb-bins-at t) absorb-bins.Post
-absorb-bins-with-sample-requires-2 t c κs = (omega (arith, (c .before .before .before .before .before .before .before .before .before .before .before .before .before .before .before .pre .1 .0), (formed (gridAt (c .before .before .before .before .before .before .before .before .before .before .before .before .before .before .before .args .level) (c .before .before .before .before .before .before .before .before .before .before .before .before .before .before .before .args .table .now) (c .before .before .before .before .before .before .before .before .before .before .before .before .before .before .before .args .reals .now) (c .before .before .before .before .before .before .before .before .before .before .before .before .before .before .before .args .counts .now)) (c .before .before .before .before .before .before .before .before .before .before .before .before .before .before .before .args .table .now) (c .before .before .before .before .before .before .before .before .before .before .before .before .before .before .before .args .reals .now) (c .before .before .before .before .before .before .before .before .before .before .before .before .before .before .before .args .counts .now) (c .before .before .before .before .before .before .before .before .before .before .before .before .before .before .before .args .w) (getD (c .before .before .before .before .before .before .before .before .before .before .before .before .before .before .before .args .table .now) ((c .before .before .before .before .before .before .before .before .before .before .before .before .before .before .before .args .w) + 2) 0) (headAt (c .before .before .before .before .before .before .before .before .before .before .before .before .before .before .before .args .table .now) (c .before .before .before .before .before .before .before .before .before .before .before .before .before .before .before .args .reals .now) (c .before .before .before .before .before .before .before .before .before .before .before .before .before .before .before .args .counts .now) (c .before .before .before .before .before .before .before .before .before .before .before .before .before .before .before .args .w)) (sampleIn (c .before .before .before .before .before .before .before .before .before .before .before .before .before .before .before .args .path .now) (c .before .before .before .before .before .before .before .before .before .before .before .before .before .before .before .args .levels) (c .before .before .before .before .before .before .before .before .before .before .before .before .before .before .before .args .weights .now) (c .before .before .before .before .before .before .before .before .before .before .before .before .before .before .before .args .weighed) (c .before .before .before .before .before .before .before .before .before .before .before .before .before .before .before .args .coordinates .now) (c .before .before .before .before .before .before .before .before .before .before .before .before .before .before .before .args .many)) (c .before .before .before .before .before .before .before .before .before .before .before .before .before .before .before .args .depth) (c .before .before .before .before .before .before .before .before .before .before .before .before .before .before .before .args .number) (c .before .before .before .before .before .before .before .before .before .before .before .before .before .before .before .pre .1 .2)) .bin), omega (arith, (c .before .before .before .before .before .before .before .before .before .before .before .before .before .before .before .pre .1 .0), (formed (gridAt (c .before .before .before .before .before .before .before .before .before .before .before .before .before .before .before .args .level) (c .before .before .before .before .before .before .before .before .before .before .before .before .before .before .before .args .table .now) (c .before .before .before .before .before .before .before .before .before .before .before .before .before .before .before .args .reals .now) (c .before .before .before .before .before .before .before .before .before .before .before .before .before .before .before .args .counts .now)) (c .before .before .before .before .before .before .before .before .before .before .before .before .before .before .before .args .table .now) (c .before .before .before .before .before .before .before .before .before .before .before .before .before .before .before .args .reals .now) (c .before .before .before .before .before .before .before .before .before .before .before .before .before .before .before .args .counts .now) (c .before .before .before .before .before .before .before .before .before .before .before .before .before .before .before .args .w) (getD (c .before .before .before .before .before .before .before .before .before .before .before .before .before .before .before .args .table .now) ((c .before .before .before .before .before .before .before .before .before .before .before .before .before .before .before .args .w) + 2) 0) (headAt (c .before .before .before .before .before .before .before .before .before .before .before .before .before .before .before .args .table .now) (c .before .before .before .before .before .before .before .before .before .before .before .before .before .before .before .args .reals .now) (c .before .before .before .before .before .before .before .before .before .before .before .before .before .before .before .args .counts .now) (c .before .before .before .before .before .before .before .before .before .before .before .before .before .before .before .args .w)) (sampleIn (c .before .before .before .before .before .before .before .before .before .before .before .before .before .before .before .args .path .now) (c .before .before .before .before .before .before .before .before .before .before .before .before .before .before .before .args .levels) (c .before .before .before .before .before .before .before .before .before .before .before .before .before .before .before .args .weights .now) (c .before .before .before .before .before .before .before .before .before .before .before .before .before .before .before .args .weighed) (c .before .before .before .before .before .before .before .before .before .before .before .before .before .before .before .args .coordinates .now) (c .before .before .before .before .before .before .before .before .before .before .before .before .before .before .before .args .many)) (c .before .before .before .before .before .before .before .before .before .before .before .before .before .before .before .args .depth) (c .before .before .before .before .before .before .before .before .before .before .before .before .before .before .before .args .number) (c .before .before .before .before .before .before .before .before .before .before .before .before .before .before .before .pre .1 .2)) .bin))
+unfolding binIn
+absorb-bins-gain-at-requires-2 t c κs =
+    let o = c .before .before .before .before .before .before .before .before .before .before .before .before .before .before .before in
+    let f = gridAt (o .args .level) (o .args .table .now) (o .args .reals .now) (o .args .counts .now) in
+    let n = getD (o .args .table .now) (o .args .w + 2) 0 in
+    let h = headAt (o .args .table .now) (o .args .reals .now) (o .args .counts .now) (o .args .w) in
+    let s = sampleIn (o .args .path .now) (o .args .levels) (o .args .weights .now) (o .args .weighed) (o .args .coordinates .now) (o .args .many) in
+    let b = formed f (o .args .table .now) (o .args .reals .now) (o .args .counts .now) (o .args .w) n h s (o .args .depth) (o .args .number) (o .pre .1 .2) in
+    (omega (arith, o .pre .1 .0, b .bin), omega (arith, o .pre .1 .0, b .bin), spot-sound f (o .args .table .now) (o .args .reals .now) (o .args .counts .now) (o .args .w) n h s (o .args .depth) (o .args .number) (o .pre .1 .2))
 
 -- src/absorbing.rt:130:9
 absorb-bins-add-absorb-child : (t : ℕ) → absorb-bins-lts.Need-add-absorb-child (
-  with-sample-reads.Asked,
-  with-sample-reads.Learnt,
+  gain-at-reads.Asked,
+  gain-at-reads.Learnt,
   absorb-child-below t,
   absorb-child.Post,
-  store-reads.Asked,
-  store-reads.Learnt,
+  put-reads.Asked,
+  put-reads.Learnt,
 ) (absorb-bins-at t) absorb-bins.Post
 absorb-bins-add-absorb-child t c = omega (arith, c .before .before .before .before .before .before .before .before .before .before .before .before .before .before .before .before .before .before .pre .1 .1)
 
 -- src/absorbing.rt:121:5
 absorb-bins-absorb-child-requires : (t : ℕ) → absorb-bins-lts.Need-absorb-child-requires (
-  with-sample-reads.Asked,
-  with-sample-reads.Learnt,
+  gain-at-reads.Asked,
+  gain-at-reads.Learnt,
   absorb-child-below t,
   absorb-child.Post,
-  store-reads.Asked,
-  store-reads.Learnt,
+  put-reads.Asked,
+  put-reads.Learnt,
 ) (absorb-bins-at t) absorb-bins.Post
 unfolding ChildLaid
 absorb-bins-absorb-child-requires t c κs = (omega (arith, c .before .before .before .before .before .before .before .before .before .before .before .before .before .before .before .before .before .before .pre .0), (λ z. (c .before .before .before .before .before .before .before .before .before .before .before .before .before .before .before .before .before .before .pre .1 .0) .children (getD (c .before .before .before .before .before .before .before .before .before .before .before .before .before .before .before .before .before .before .args .path .now) (c .before .before .before .before .before .before .before .before .before .before .before .before .before .before .before .before .before .before .args .depth) 0) ((formed (gridAt (c .before .before .before .before .before .before .before .before .before .before .before .before .before .before .before .before .before .before .args .level) (c .before .before .before .before .before .before .before .before .before .before .before .before .before .before .before .before .before .before .args .table .now) (c .before .before .before .before .before .before .before .before .before .before .before .before .before .before .before .before .before .before .args .reals .now) (c .before .before .before .before .before .before .before .before .before .before .before .before .before .before .before .before .before .before .args .counts .now)) (c .before .before .before .before .before .before .before .before .before .before .before .before .before .before .before .before .before .before .args .table .now) (c .before .before .before .before .before .before .before .before .before .before .before .before .before .before .before .before .before .before .args .reals .now) (c .before .before .before .before .before .before .before .before .before .before .before .before .before .before .before .before .before .before .args .counts .now) (c .before .before .before .before .before .before .before .before .before .before .before .before .before .before .before .before .before .before .args .w) (getD (c .before .before .before .before .before .before .before .before .before .before .before .before .before .before .before .before .before .before .args .table .now) ((c .before .before .before .before .before .before .before .before .before .before .before .before .before .before .before .before .before .before .args .w) + 2) 0) (headAt (c .before .before .before .before .before .before .before .before .before .before .before .before .before .before .before .before .before .before .args .table .now) (c .before .before .before .before .before .before .before .before .before .before .before .before .before .before .before .before .before .before .args .reals .now) (c .before .before .before .before .before .before .before .before .before .before .before .before .before .before .before .before .before .before .args .counts .now) (c .before .before .before .before .before .before .before .before .before .before .before .before .before .before .before .before .before .before .args .w)) (sampleIn (c .before .before .before .before .before .before .before .before .before .before .before .before .before .before .before .before .before .before .args .path .now) (c .before .before .before .before .before .before .before .before .before .before .before .before .before .before .before .before .before .before .args .levels) (c .before .before .before .before .before .before .before .before .before .before .before .before .before .before .before .before .before .before .args .weights .now) (c .before .before .before .before .before .before .before .before .before .before .before .before .before .before .before .before .before .before .args .weighed) (c .before .before .before .before .before .before .before .before .before .before .before .before .before .before .before .before .before .before .args .coordinates .now) (c .before .before .before .before .before .before .before .before .before .before .before .before .before .before .before .before .before .before .args .many)) (c .before .before .before .before .before .before .before .before .before .before .before .before .before .before .before .before .before .before .args .depth) (c .before .before .before .before .before .before .before .before .before .before .before .before .before .before .before .before .before .before .args .number) (c .before .before .before .before .before .before .before .before .before .before .before .before .before .before .before .before .before .before .pre .1 .2)) .bin) z, omega (arith, c .before .before .before .before .before .before .before .before .before .before .before .before .before .before .before .before .before .before .pre .1 .1), takes-below (gridAt (c .before .before .before .before .before .before .before .before .before .before .before .before .before .before .before .before .before .before .args .level) (c .before .before .before .before .before .before .before .before .before .before .before .before .before .before .before .before .before .before .args .table .now) (c .before .before .before .before .before .before .before .before .before .before .before .before .before .before .before .before .before .before .args .reals .now) (c .before .before .before .before .before .before .before .before .before .before .before .before .before .before .before .before .before .before .args .counts .now)) (c .before .before .before .before .before .before .before .before .before .before .before .before .before .before .before .before .before .before .args .table .now) (c .before .before .before .before .before .before .before .before .before .before .before .before .before .before .before .before .before .before .args .reals .now) (c .before .before .before .before .before .before .before .before .before .before .before .before .before .before .before .before .before .before .args .counts .now) (c .before .before .before .before .before .before .before .before .before .before .before .before .before .before .before .before .before .before .args .w) (getD (c .before .before .before .before .before .before .before .before .before .before .before .before .before .before .before .before .before .before .args .table .now) ((c .before .before .before .before .before .before .before .before .before .before .before .before .before .before .before .before .before .before .args .w) + 2) 0) (headAt (c .before .before .before .before .before .before .before .before .before .before .before .before .before .before .before .before .before .before .args .table .now) (c .before .before .before .before .before .before .before .before .before .before .before .before .before .before .before .before .before .before .args .reals .now) (c .before .before .before .before .before .before .before .before .before .before .before .before .before .before .before .before .before .before .args .counts .now) (c .before .before .before .before .before .before .before .before .before .before .before .before .before .before .before .before .before .before .args .w)) (sampleIn (c .before .before .before .before .before .before .before .before .before .before .before .before .before .before .before .before .before .before .args .path .now) (c .before .before .before .before .before .before .before .before .before .before .before .before .before .before .before .before .before .before .args .levels) (c .before .before .before .before .before .before .before .before .before .before .before .before .before .before .before .before .before .before .args .weights .now) (c .before .before .before .before .before .before .before .before .before .before .before .before .before .before .before .before .before .before .args .weighed) (c .before .before .before .before .before .before .before .before .before .before .before .before .before .before .before .before .before .before .args .coordinates .now) (c .before .before .before .before .before .before .before .before .before .before .before .before .before .before .before .before .before .before .args .many)) (c .before .before .before .before .before .before .before .before .before .before .before .before .before .before .before .before .before .before .args .depth) (c .before .before .before .before .before .before .before .before .before .before .before .before .before .before .before .before .before .before .args .number) (c .before .before .before .before .before .before .before .before .before .before .before .before .before .before .before .before .before .before .pre .1 .2)))
 
 -- src/absorbing.rt:138:5
-absorb-bins-store-requires : (t : ℕ) → absorb-bins-lts.Need-store-requires (
-  with-sample-reads.Asked,
-  with-sample-reads.Learnt,
+absorb-bins-put-requires : (t : ℕ) → absorb-bins-lts.Need-put-requires (
+  gain-at-reads.Asked,
+  gain-at-reads.Learnt,
   absorb-child-below t,
   absorb-child.Post,
-  store-reads.Asked,
-  store-reads.Learnt,
+  put-reads.Asked,
+  put-reads.Learnt,
 ) (absorb-bins-at t) absorb-bins.Post
-absorb-bins-store-requires t c κs = (omega (arith, (c .before .before .before .before .before .before .before .before .before .before .before .before .before .before .before .before .before .before .before .before .before .before .before .before .before .pre .1 .0), (formed (gridAt (c .before .before .before .before .before .before .before .before .before .before .before .before .before .before .before .before .before .before .before .before .before .before .before .before .before .args .level) (c .before .before .before .before .before .before .before .before .before .before .before .before .before .before .before .before .before .before .before .before .before .before .before .before .before .args .table .now) (c .before .before .before .before .before .before .before .before .before .before .before .before .before .before .before .before .before .before .before .before .before .before .before .before .before .args .reals .now) (c .before .before .before .before .before .before .before .before .before .before .before .before .before .before .before .before .before .before .before .before .before .before .before .before .before .args .counts .now)) (c .before .before .before .before .before .before .before .before .before .before .before .before .before .before .before .before .before .before .before .before .before .before .before .before .before .args .table .now) (c .before .before .before .before .before .before .before .before .before .before .before .before .before .before .before .before .before .before .before .before .before .before .before .before .before .args .reals .now) (c .before .before .before .before .before .before .before .before .before .before .before .before .before .before .before .before .before .before .before .before .before .before .before .before .before .args .counts .now) (c .before .before .before .before .before .before .before .before .before .before .before .before .before .before .before .before .before .before .before .before .before .before .before .before .before .args .w) (getD (c .before .before .before .before .before .before .before .before .before .before .before .before .before .before .before .before .before .before .before .before .before .before .before .before .before .args .table .now) ((c .before .before .before .before .before .before .before .before .before .before .before .before .before .before .before .before .before .before .before .before .before .before .before .before .before .args .w) + 2) 0) (headAt (c .before .before .before .before .before .before .before .before .before .before .before .before .before .before .before .before .before .before .before .before .before .before .before .before .before .args .table .now) (c .before .before .before .before .before .before .before .before .before .before .before .before .before .before .before .before .before .before .before .before .before .before .before .before .before .args .reals .now) (c .before .before .before .before .before .before .before .before .before .before .before .before .before .before .before .before .before .before .before .before .before .before .before .before .before .args .counts .now) (c .before .before .before .before .before .before .before .before .before .before .before .before .before .before .before .before .before .before .before .before .before .before .before .before .before .args .w)) (sampleIn (c .before .before .before .before .before .before .before .before .before .before .before .before .before .before .before .before .before .before .before .before .before .before .before .before .before .args .path .now) (c .before .before .before .before .before .before .before .before .before .before .before .before .before .before .before .before .before .before .before .before .before .before .before .before .before .args .levels) (c .before .before .before .before .before .before .before .before .before .before .before .before .before .before .before .before .before .before .before .before .before .before .before .before .before .args .weights .now) (c .before .before .before .before .before .before .before .before .before .before .before .before .before .before .before .before .before .before .before .before .before .before .before .before .before .args .weighed) (c .before .before .before .before .before .before .before .before .before .before .before .before .before .before .before .before .before .before .before .before .before .before .before .before .before .args .coordinates .now) (c .before .before .before .before .before .before .before .before .before .before .before .before .before .before .before .before .before .before .before .before .before .before .before .before .before .args .many)) (c .before .before .before .before .before .before .before .before .before .before .before .before .before .before .before .before .before .before .before .before .before .before .before .before .before .args .depth) (c .before .before .before .before .before .before .before .before .before .before .before .before .before .before .before .before .before .before .before .before .before .before .before .before .before .args .number) (c .before .before .before .before .before .before .before .before .before .before .before .before .before .before .before .before .before .before .before .before .before .before .before .before .before .pre .1 .2)) .bin, c .before .before .before .before .before .before .absorb-child .kept .1 .0), omega (arith, (c .before .before .before .before .before .before .before .before .before .before .before .before .before .before .before .before .before .before .before .before .before .before .before .before .before .pre .1 .0), (formed (gridAt (c .before .before .before .before .before .before .before .before .before .before .before .before .before .before .before .before .before .before .before .before .before .before .before .before .before .args .level) (c .before .before .before .before .before .before .before .before .before .before .before .before .before .before .before .before .before .before .before .before .before .before .before .before .before .args .table .now) (c .before .before .before .before .before .before .before .before .before .before .before .before .before .before .before .before .before .before .before .before .before .before .before .before .before .args .reals .now) (c .before .before .before .before .before .before .before .before .before .before .before .before .before .before .before .before .before .before .before .before .before .before .before .before .before .args .counts .now)) (c .before .before .before .before .before .before .before .before .before .before .before .before .before .before .before .before .before .before .before .before .before .before .before .before .before .args .table .now) (c .before .before .before .before .before .before .before .before .before .before .before .before .before .before .before .before .before .before .before .before .before .before .before .before .before .args .reals .now) (c .before .before .before .before .before .before .before .before .before .before .before .before .before .before .before .before .before .before .before .before .before .before .before .before .before .args .counts .now) (c .before .before .before .before .before .before .before .before .before .before .before .before .before .before .before .before .before .before .before .before .before .before .before .before .before .args .w) (getD (c .before .before .before .before .before .before .before .before .before .before .before .before .before .before .before .before .before .before .before .before .before .before .before .before .before .args .table .now) ((c .before .before .before .before .before .before .before .before .before .before .before .before .before .before .before .before .before .before .before .before .before .before .before .before .before .args .w) + 2) 0) (headAt (c .before .before .before .before .before .before .before .before .before .before .before .before .before .before .before .before .before .before .before .before .before .before .before .before .before .args .table .now) (c .before .before .before .before .before .before .before .before .before .before .before .before .before .before .before .before .before .before .before .before .before .before .before .before .before .args .reals .now) (c .before .before .before .before .before .before .before .before .before .before .before .before .before .before .before .before .before .before .before .before .before .before .before .before .before .args .counts .now) (c .before .before .before .before .before .before .before .before .before .before .before .before .before .before .before .before .before .before .before .before .before .before .before .before .before .args .w)) (sampleIn (c .before .before .before .before .before .before .before .before .before .before .before .before .before .before .before .before .before .before .before .before .before .before .before .before .before .args .path .now) (c .before .before .before .before .before .before .before .before .before .before .before .before .before .before .before .before .before .before .before .before .before .before .before .before .before .args .levels) (c .before .before .before .before .before .before .before .before .before .before .before .before .before .before .before .before .before .before .before .before .before .before .before .before .before .args .weights .now) (c .before .before .before .before .before .before .before .before .before .before .before .before .before .before .before .before .before .before .before .before .before .before .before .before .before .args .weighed) (c .before .before .before .before .before .before .before .before .before .before .before .before .before .before .before .before .before .before .before .before .before .before .before .before .before .args .coordinates .now) (c .before .before .before .before .before .before .before .before .before .before .before .before .before .before .before .before .before .before .before .before .before .before .before .before .before .args .many)) (c .before .before .before .before .before .before .before .before .before .before .before .before .before .before .before .before .before .before .before .before .before .before .before .before .before .args .depth) (c .before .before .before .before .before .before .before .before .before .before .before .before .before .before .before .before .before .before .before .before .before .before .before .before .before .args .number) (c .before .before .before .before .before .before .before .before .before .before .before .before .before .before .before .before .before .before .before .before .before .before .before .before .before .pre .1 .2)) .bin, c .before .before .before .before .before .before .absorb-child .kept .1 .1 .0))
+absorb-bins-put-requires t c κs = (omega (arith, (c .before .before .before .before .before .before .before .before .before .before .before .before .before .before .before .before .before .before .before .before .before .before .before .before .before .pre .1 .0), (formed (gridAt (c .before .before .before .before .before .before .before .before .before .before .before .before .before .before .before .before .before .before .before .before .before .before .before .before .before .args .level) (c .before .before .before .before .before .before .before .before .before .before .before .before .before .before .before .before .before .before .before .before .before .before .before .before .before .args .table .now) (c .before .before .before .before .before .before .before .before .before .before .before .before .before .before .before .before .before .before .before .before .before .before .before .before .before .args .reals .now) (c .before .before .before .before .before .before .before .before .before .before .before .before .before .before .before .before .before .before .before .before .before .before .before .before .before .args .counts .now)) (c .before .before .before .before .before .before .before .before .before .before .before .before .before .before .before .before .before .before .before .before .before .before .before .before .before .args .table .now) (c .before .before .before .before .before .before .before .before .before .before .before .before .before .before .before .before .before .before .before .before .before .before .before .before .before .args .reals .now) (c .before .before .before .before .before .before .before .before .before .before .before .before .before .before .before .before .before .before .before .before .before .before .before .before .before .args .counts .now) (c .before .before .before .before .before .before .before .before .before .before .before .before .before .before .before .before .before .before .before .before .before .before .before .before .before .args .w) (getD (c .before .before .before .before .before .before .before .before .before .before .before .before .before .before .before .before .before .before .before .before .before .before .before .before .before .args .table .now) ((c .before .before .before .before .before .before .before .before .before .before .before .before .before .before .before .before .before .before .before .before .before .before .before .before .before .args .w) + 2) 0) (headAt (c .before .before .before .before .before .before .before .before .before .before .before .before .before .before .before .before .before .before .before .before .before .before .before .before .before .args .table .now) (c .before .before .before .before .before .before .before .before .before .before .before .before .before .before .before .before .before .before .before .before .before .before .before .before .before .args .reals .now) (c .before .before .before .before .before .before .before .before .before .before .before .before .before .before .before .before .before .before .before .before .before .before .before .before .before .args .counts .now) (c .before .before .before .before .before .before .before .before .before .before .before .before .before .before .before .before .before .before .before .before .before .before .before .before .before .args .w)) (sampleIn (c .before .before .before .before .before .before .before .before .before .before .before .before .before .before .before .before .before .before .before .before .before .before .before .before .before .args .path .now) (c .before .before .before .before .before .before .before .before .before .before .before .before .before .before .before .before .before .before .before .before .before .before .before .before .before .args .levels) (c .before .before .before .before .before .before .before .before .before .before .before .before .before .before .before .before .before .before .before .before .before .before .before .before .before .args .weights .now) (c .before .before .before .before .before .before .before .before .before .before .before .before .before .before .before .before .before .before .before .before .before .before .before .before .before .args .weighed) (c .before .before .before .before .before .before .before .before .before .before .before .before .before .before .before .before .before .before .before .before .before .before .before .before .before .args .coordinates .now) (c .before .before .before .before .before .before .before .before .before .before .before .before .before .before .before .before .before .before .before .before .before .before .before .before .before .args .many)) (c .before .before .before .before .before .before .before .before .before .before .before .before .before .before .before .before .before .before .before .before .before .before .before .before .before .args .depth) (c .before .before .before .before .before .before .before .before .before .before .before .before .before .before .before .before .before .before .before .before .before .before .before .before .before .args .number) (c .before .before .before .before .before .before .before .before .before .before .before .before .before .before .before .before .before .before .before .before .before .before .before .before .before .pre .1 .2)) .bin, c .before .before .before .before .before .before .absorb-child .kept .1 .0), omega (arith, (c .before .before .before .before .before .before .before .before .before .before .before .before .before .before .before .before .before .before .before .before .before .before .before .before .before .pre .1 .0), (formed (gridAt (c .before .before .before .before .before .before .before .before .before .before .before .before .before .before .before .before .before .before .before .before .before .before .before .before .before .args .level) (c .before .before .before .before .before .before .before .before .before .before .before .before .before .before .before .before .before .before .before .before .before .before .before .before .before .args .table .now) (c .before .before .before .before .before .before .before .before .before .before .before .before .before .before .before .before .before .before .before .before .before .before .before .before .before .args .reals .now) (c .before .before .before .before .before .before .before .before .before .before .before .before .before .before .before .before .before .before .before .before .before .before .before .before .before .args .counts .now)) (c .before .before .before .before .before .before .before .before .before .before .before .before .before .before .before .before .before .before .before .before .before .before .before .before .before .args .table .now) (c .before .before .before .before .before .before .before .before .before .before .before .before .before .before .before .before .before .before .before .before .before .before .before .before .before .args .reals .now) (c .before .before .before .before .before .before .before .before .before .before .before .before .before .before .before .before .before .before .before .before .before .before .before .before .before .args .counts .now) (c .before .before .before .before .before .before .before .before .before .before .before .before .before .before .before .before .before .before .before .before .before .before .before .before .before .args .w) (getD (c .before .before .before .before .before .before .before .before .before .before .before .before .before .before .before .before .before .before .before .before .before .before .before .before .before .args .table .now) ((c .before .before .before .before .before .before .before .before .before .before .before .before .before .before .before .before .before .before .before .before .before .before .before .before .before .args .w) + 2) 0) (headAt (c .before .before .before .before .before .before .before .before .before .before .before .before .before .before .before .before .before .before .before .before .before .before .before .before .before .args .table .now) (c .before .before .before .before .before .before .before .before .before .before .before .before .before .before .before .before .before .before .before .before .before .before .before .before .before .args .reals .now) (c .before .before .before .before .before .before .before .before .before .before .before .before .before .before .before .before .before .before .before .before .before .before .before .before .before .args .counts .now) (c .before .before .before .before .before .before .before .before .before .before .before .before .before .before .before .before .before .before .before .before .before .before .before .before .before .args .w)) (sampleIn (c .before .before .before .before .before .before .before .before .before .before .before .before .before .before .before .before .before .before .before .before .before .before .before .before .before .args .path .now) (c .before .before .before .before .before .before .before .before .before .before .before .before .before .before .before .before .before .before .before .before .before .before .before .before .before .args .levels) (c .before .before .before .before .before .before .before .before .before .before .before .before .before .before .before .before .before .before .before .before .before .before .before .before .before .args .weights .now) (c .before .before .before .before .before .before .before .before .before .before .before .before .before .before .before .before .before .before .before .before .before .before .before .before .before .args .weighed) (c .before .before .before .before .before .before .before .before .before .before .before .before .before .before .before .before .before .before .before .before .before .before .before .before .before .args .coordinates .now) (c .before .before .before .before .before .before .before .before .before .before .before .before .before .before .before .before .before .before .before .before .before .before .before .before .before .args .many)) (c .before .before .before .before .before .before .before .before .before .before .before .before .before .before .before .before .before .before .before .before .before .before .before .before .before .args .depth) (c .before .before .before .before .before .before .before .before .before .before .before .before .before .before .before .before .before .before .before .before .before .before .before .before .before .args .number) (c .before .before .before .before .before .before .before .before .before .before .before .before .before .before .before .before .before .before .before .before .before .before .before .before .before .pre .1 .2)) .bin, c .before .before .before .before .before .before .absorb-child .kept .1 .1 .0))
 
 -- src/absorbing.rt:139:5
-absorb-bins-store-requires-2 : (t : ℕ) → absorb-bins-lts.Need-store-requires-2 (
-  with-sample-reads.Asked,
-  with-sample-reads.Learnt,
+absorb-bins-put-requires-2 : (t : ℕ) → absorb-bins-lts.Need-put-requires-2 (
+  gain-at-reads.Asked,
+  gain-at-reads.Learnt,
   absorb-child-below t,
   absorb-child.Post,
-  store-reads.Asked,
-  store-reads.Learnt,
+  put-reads.Asked,
+  put-reads.Learnt,
 ) (absorb-bins-at t) absorb-bins.Post
-absorb-bins-store-requires-2 t c κs = (omega (arith, (c .before .before .before .before .before .before .before .before .before .before .before .before .before .before .before .before .before .before .before .before .before .before .before .before .before .before .before .before .before .before .before .before .pre .1 .0), c .before .before .before .before .before .before .before .before .before .before .before .before .before .absorb-child .kept .1 .0, c .before .before .before .before .before .before .store .kept .0), omega (arith, (c .before .before .before .before .before .before .before .before .before .before .before .before .before .before .before .before .before .before .before .before .before .before .before .before .before .before .before .before .before .before .before .before .pre .1 .0), c .before .before .before .before .before .before .before .before .before .before .before .before .before .absorb-child .kept .1 .1 .0, c .before .before .before .before .before .before .store .kept .1 .0))
+absorb-bins-put-requires-2 t c κs = (omega (arith, (c .before .before .before .before .before .before .before .before .before .before .before .before .before .before .before .before .before .before .before .before .before .before .before .before .before .before .before .before .before .before .before .before .pre .1 .0), c .before .before .before .before .before .before .before .before .before .before .before .before .before .absorb-child .kept .1 .0, c .before .before .before .before .before .before .put .kept .0), omega (arith, (c .before .before .before .before .before .before .before .before .before .before .before .before .before .before .before .before .before .before .before .before .before .before .before .before .before .before .before .before .before .before .before .before .pre .1 .0), c .before .before .before .before .before .before .before .before .before .before .before .before .before .absorb-child .kept .1 .1 .0, c .before .before .before .before .before .before .put .kept .1 .0))
 
 -- src/absorbing.rt:89:1
 absorb-bins-same-length : (t : ℕ) → absorb-bins-lts.Need-same-length (
-  with-sample-reads.Asked,
-  with-sample-reads.Learnt,
+  gain-at-reads.Asked,
+  gain-at-reads.Learnt,
   absorb-child-below t,
   absorb-child.Post,
-  store-reads.Asked,
-  store-reads.Learnt,
+  put-reads.Asked,
+  put-reads.Learnt,
 ) (absorb-bins-at t) absorb-bins.Post
-absorb-bins-same-length t c = c .before .before .before .before .store2 .kept .0 ∙ c .before .before .before .before .before .before .before .before .before .before .before .store .kept .0 ∙ c .before .before .before .before .before .before .before .before .before .before .before .before .before .before .before .before .before .before .absorb-child .kept .1 .0
+absorb-bins-same-length t c = c .before .before .before .before .put2 .kept .0 ∙ c .before .before .before .before .before .before .before .before .before .before .before .put .kept .0 ∙ c .before .before .before .before .before .before .before .before .before .before .before .before .before .before .before .before .before .before .absorb-child .kept .1 .0
 
 -- src/absorbing.rt:89:1
 absorb-bins-same-length-2 : (t : ℕ) → absorb-bins-lts.Need-same-length-2 (
-  with-sample-reads.Asked,
-  with-sample-reads.Learnt,
+  gain-at-reads.Asked,
+  gain-at-reads.Learnt,
   absorb-child-below t,
   absorb-child.Post,
-  store-reads.Asked,
-  store-reads.Learnt,
+  put-reads.Asked,
+  put-reads.Learnt,
 ) (absorb-bins-at t) absorb-bins.Post
-absorb-bins-same-length-2 t c = c .before .before .before .before .store2 .kept .1 .0 ∙ c .before .before .before .before .before .before .before .before .before .before .before .store .kept .1 .0 ∙ c .before .before .before .before .before .before .before .before .before .before .before .before .before .before .before .before .before .before .absorb-child .kept .1 .1 .0
+absorb-bins-same-length-2 t c = c .before .before .before .before .put2 .kept .1 .0 ∙ c .before .before .before .before .before .before .before .before .before .before .before .put .kept .1 .0 ∙ c .before .before .before .before .before .before .before .before .before .before .before .before .before .before .before .before .before .before .absorb-child .kept .1 .1 .0
 
 -- src/absorbing.rt:89:1
 absorb-bins-returns : (t : ℕ) → absorb-bins-lts.Need-returns (
-  with-sample-reads.Asked,
-  with-sample-reads.Learnt,
+  gain-at-reads.Asked,
+  gain-at-reads.Learnt,
   absorb-child-below t,
   absorb-child.Post,
-  store-reads.Asked,
-  store-reads.Learnt,
+  put-reads.Asked,
+  put-reads.Learnt,
 ) (absorb-bins-at t) absorb-bins.Post
-absorb-bins-returns t c = bins-absorbed (c .before .before .before .before .before .before .before .before .before .before .before .before .before .before .before .before .before .before .before .before .before .before .before .before .before .before .before .before .before .before .before .before .before .before .before .before .before .args .table .now) (sampleIn (c .before .before .before .before .before .before .before .before .before .before .before .before .before .before .before .before .before .before .before .before .before .before .before .before .before .before .before .before .before .before .before .before .before .before .before .before .before .args .path .now) (c .before .before .before .before .before .before .before .before .before .before .before .before .before .before .before .before .before .before .before .before .before .before .before .before .before .before .before .before .before .before .before .before .before .before .before .before .before .args .levels) (c .before .before .before .before .before .before .before .before .before .before .before .before .before .before .before .before .before .before .before .before .before .before .before .before .before .before .before .before .before .before .before .before .before .before .before .before .before .args .weights .now) (c .before .before .before .before .before .before .before .before .before .before .before .before .before .before .before .before .before .before .before .before .before .before .before .before .before .before .before .before .before .before .before .before .before .before .before .before .before .args .weighed) (c .before .before .before .before .before .before .before .before .before .before .before .before .before .before .before .before .before .before .before .before .before .before .before .before .before .before .before .before .before .before .before .before .before .before .before .before .before .args .coordinates .now) (c .before .before .before .before .before .before .before .before .before .before .before .before .before .before .before .before .before .before .before .before .before .before .before .before .before .before .before .before .before .before .before .before .before .before .before .before .before .args .many)) (c .before .before .before .before .before .before .before .before .before .before .before .before .before .before .before .before .before .before .before .before .before .before .before .before .before .before .before .before .before .before .before .before .before .before .before .before .before .args .evaluation) (c .before .before .before .before .before .before .before .before .before .before .before .before .before .before .before .before .before .before .before .before .before .before .before .before .before .before .before .before .before .before .before .before .before .before .before .before .before .args .number) (c .before .before .before .before .before .before .before .before .before .before .before .before .before .before .before .before .before .before .before .before .before .before .before .before .before .before .before .before .before .before .before .before .before .before .before .before .before .args .w) (c .before .before .before .before .before .before .before .before .before .before .before .before .before .before .before .before .before .before .before .before .before .before .before .before .before .before .before .before .before .before .before .before .before .before .before .before .before .args .depth) (absorbed (c .before .before .before .before .before .before .before .before .before .before .before .before .before .before .before .before .before .before .before .before .before .before .before .before .before .before .before .before .before .before .before .before .before .before .before .before .before .args .level) (c .before .before .before .before .before .before .before .before .before .before .before .before .before .before .before .before .before .before .before .before .before .before .before .before .before .before .before .before .before .before .before .before .before .before .before .before .before .args .table .now) (sampleIn (c .before .before .before .before .before .before .before .before .before .before .before .before .before .before .before .before .before .before .before .before .before .before .before .before .before .before .before .before .before .before .before .before .before .before .before .before .before .args .path .now) (c .before .before .before .before .before .before .before .before .before .before .before .before .before .before .before .before .before .before .before .before .before .before .before .before .before .before .before .before .before .before .before .before .before .before .before .before .before .args .levels) (c .before .before .before .before .before .before .before .before .before .before .before .before .before .before .before .before .before .before .before .before .before .before .before .before .before .before .before .before .before .before .before .before .before .before .before .before .before .args .weights .now) (c .before .before .before .before .before .before .before .before .before .before .before .before .before .before .before .before .before .before .before .before .before .before .before .before .before .before .before .before .before .before .before .before .before .before .before .before .before .args .weighed) (c .before .before .before .before .before .before .before .before .before .before .before .before .before .before .before .before .before .before .before .before .before .before .before .before .before .before .before .before .before .before .before .before .before .before .before .before .before .args .coordinates .now) (c .before .before .before .before .before .before .before .before .before .before .before .before .before .before .before .before .before .before .before .before .before .before .before .before .before .before .before .before .before .before .before .before .before .before .before .before .before .args .many)) (c .before .before .before .before .before .before .before .before .before .before .before .before .before .before .before .before .before .before .before .before .before .before .before .before .before .before .before .before .before .before .before .before .before .before .before .before .before .args .evaluation) (c .before .before .before .before .before .before .before .before .before .before .before .before .before .before .before .before .before .before .before .before .before .before .before .before .before .before .before .before .before .before .before .before .before .before .before .before .before .args .number)) (memory (c .before .before .before .before .before .before .before .before .before .before .before .before .before .before .before .before .before .before .before .before .before .before .before .before .before .before .before .before .before .before .before .before .before .before .before .before .before .args .reals .now) (c .before .before .before .before .before .before .before .before .before .before .before .before .before .before .before .before .before .before .before .before .before .before .before .before .before .before .before .before .before .before .before .before .before .before .before .before .before .args .counts .now)) (memory (c .before .before .before .before .before .before .before .before .before .before .before .before .before .before .before .before .before .before .absorb-child .last .1 .0) (c .before .before .before .before .before .before .before .before .before .before .before .before .before .before .before .before .before .before .absorb-child .last .1 .1 .0)) (memory (c .before .before .before .before .before .before .before .before .before .before .before .store .last .0) (c .before .before .before .before .before .before .before .before .before .before .before .store .last .1 .0)) (memory (c .before .before .before .before .store2 .last .0) (c .before .before .before .before .store2 .last .1 .0)) (c .before .before .before .before .before .before .before .before .before .before .before .before .before .before .before .before .before .before .before .before .before .before .before .before .with-sample .result) (c .before .before .before .before .before .before .before .before .before .before .before .before .before .before .before .before .before .before .before .before .before .with-sample2 .result) (c .before .before .before .before .before .before .before .before .before .before .before .before .before .before .before .before .before .before .before .before .before .before .before .before .with-sample .ensures) (c .before .before .before .before .before .before .before .before .before .before .before .before .before .before .before .before .before .before .before .before .before .with-sample2 .ensures) (c .before .before .before .before .before .before .before .before .before .before .before .before .before .before .before .before .before .before .absorb-child .ensures) (c .before .before .before .before .before .before .before .before .before .before .before .store .ensures) (c .before .before .before .before .store2 .ensures)
+absorb-bins-returns t c = bins-absorbed (c .before .before .before .before .before .before .before .before .before .before .before .before .before .before .before .before .before .before .before .before .before .before .before .before .before .before .before .before .before .before .before .before .before .before .before .before .before .args .table .now) (sampleIn (c .before .before .before .before .before .before .before .before .before .before .before .before .before .before .before .before .before .before .before .before .before .before .before .before .before .before .before .before .before .before .before .before .before .before .before .before .before .args .path .now) (c .before .before .before .before .before .before .before .before .before .before .before .before .before .before .before .before .before .before .before .before .before .before .before .before .before .before .before .before .before .before .before .before .before .before .before .before .before .args .levels) (c .before .before .before .before .before .before .before .before .before .before .before .before .before .before .before .before .before .before .before .before .before .before .before .before .before .before .before .before .before .before .before .before .before .before .before .before .before .args .weights .now) (c .before .before .before .before .before .before .before .before .before .before .before .before .before .before .before .before .before .before .before .before .before .before .before .before .before .before .before .before .before .before .before .before .before .before .before .before .before .args .weighed) (c .before .before .before .before .before .before .before .before .before .before .before .before .before .before .before .before .before .before .before .before .before .before .before .before .before .before .before .before .before .before .before .before .before .before .before .before .before .args .coordinates .now) (c .before .before .before .before .before .before .before .before .before .before .before .before .before .before .before .before .before .before .before .before .before .before .before .before .before .before .before .before .before .before .before .before .before .before .before .before .before .args .many)) (c .before .before .before .before .before .before .before .before .before .before .before .before .before .before .before .before .before .before .before .before .before .before .before .before .before .before .before .before .before .before .before .before .before .before .before .before .before .args .evaluation) (c .before .before .before .before .before .before .before .before .before .before .before .before .before .before .before .before .before .before .before .before .before .before .before .before .before .before .before .before .before .before .before .before .before .before .before .before .before .args .number) (c .before .before .before .before .before .before .before .before .before .before .before .before .before .before .before .before .before .before .before .before .before .before .before .before .before .before .before .before .before .before .before .before .before .before .before .before .before .args .w) (c .before .before .before .before .before .before .before .before .before .before .before .before .before .before .before .before .before .before .before .before .before .before .before .before .before .before .before .before .before .before .before .before .before .before .before .before .before .args .depth) (absorbed (c .before .before .before .before .before .before .before .before .before .before .before .before .before .before .before .before .before .before .before .before .before .before .before .before .before .before .before .before .before .before .before .before .before .before .before .before .before .args .level) (c .before .before .before .before .before .before .before .before .before .before .before .before .before .before .before .before .before .before .before .before .before .before .before .before .before .before .before .before .before .before .before .before .before .before .before .before .before .args .table .now) (sampleIn (c .before .before .before .before .before .before .before .before .before .before .before .before .before .before .before .before .before .before .before .before .before .before .before .before .before .before .before .before .before .before .before .before .before .before .before .before .before .args .path .now) (c .before .before .before .before .before .before .before .before .before .before .before .before .before .before .before .before .before .before .before .before .before .before .before .before .before .before .before .before .before .before .before .before .before .before .before .before .before .args .levels) (c .before .before .before .before .before .before .before .before .before .before .before .before .before .before .before .before .before .before .before .before .before .before .before .before .before .before .before .before .before .before .before .before .before .before .before .before .before .args .weights .now) (c .before .before .before .before .before .before .before .before .before .before .before .before .before .before .before .before .before .before .before .before .before .before .before .before .before .before .before .before .before .before .before .before .before .before .before .before .before .args .weighed) (c .before .before .before .before .before .before .before .before .before .before .before .before .before .before .before .before .before .before .before .before .before .before .before .before .before .before .before .before .before .before .before .before .before .before .before .before .before .args .coordinates .now) (c .before .before .before .before .before .before .before .before .before .before .before .before .before .before .before .before .before .before .before .before .before .before .before .before .before .before .before .before .before .before .before .before .before .before .before .before .before .args .many)) (c .before .before .before .before .before .before .before .before .before .before .before .before .before .before .before .before .before .before .before .before .before .before .before .before .before .before .before .before .before .before .before .before .before .before .before .before .before .args .evaluation) (c .before .before .before .before .before .before .before .before .before .before .before .before .before .before .before .before .before .before .before .before .before .before .before .before .before .before .before .before .before .before .before .before .before .before .before .before .before .args .number)) (memory (c .before .before .before .before .before .before .before .before .before .before .before .before .before .before .before .before .before .before .before .before .before .before .before .before .before .before .before .before .before .before .before .before .before .before .before .before .before .args .reals .now) (c .before .before .before .before .before .before .before .before .before .before .before .before .before .before .before .before .before .before .before .before .before .before .before .before .before .before .before .before .before .before .before .before .before .before .before .before .before .args .counts .now)) (memory (c .before .before .before .before .before .before .before .before .before .before .before .before .before .before .before .before .before .before .absorb-child .last .1 .0) (c .before .before .before .before .before .before .before .before .before .before .before .before .before .before .before .before .before .before .absorb-child .last .1 .1 .0)) (memory (c .before .before .before .before .before .before .before .before .before .before .before .put .last .0) (c .before .before .before .before .before .before .before .before .before .before .before .put .last .1 .0)) (memory (c .before .before .before .before .put2 .last .0) (c .before .before .before .before .put2 .last .1 .0)) (c .before .before .before .before .before .before .before .before .before .before .before .before .before .before .before .before .before .before .before .before .before .before .before .before .gain-at .result) (c .before .before .before .before .before .before .before .before .before .before .before .before .before .before .before .before .before .before .before .before .before .gain-at2 .result) (c .before .before .before .before .before .before .before .before .before .before .before .before .before .before .before .before .before .before .before .before .before .before .before .before .gain-at .ensures) (c .before .before .before .before .before .before .before .before .before .before .before .before .before .before .before .before .before .before .before .before .before .gain-at2 .ensures) (c .before .before .before .before .before .before .before .before .before .before .before .before .before .before .before .before .before .before .absorb-child .ensures) (c .before .before .before .before .before .before .before .before .before .before .before .put .ensures) (c .before .before .before .before .put2 .ensures)
 
 -- src/absorbing.rt:67:9
 absorb-child-returns : (t : ℕ) → absorb-child-lts.Need-returns (
@@ -614,12 +630,12 @@ absorb-grid-returns-2 t c = c .before .before .before .before .absorb-bins .ensu
 pub +absorb-bins+absorb-child+absorb-grid-spec : {M : Type 1} → statement M
 +absorb-bins+absorb-child+absorb-grid-spec =
     close μ-absorb-bins μ-absorb-child μ-absorb-grid (λ t. absorb-bins-lts.spec (
-      with-sample-reads.Asked,
-      with-sample-reads.Learnt,
+      gain-at-reads.Asked,
+      gain-at-reads.Learnt,
       absorb-child-below t,
       absorb-child.Post,
-      store-reads.Asked,
-      store-reads.Learnt,
+      put-reads.Asked,
+      put-reads.Learnt,
     )
     (absorb-bins-at t)
     absorb-bins.Post
@@ -644,7 +660,7 @@ pub +absorb-bins+absorb-child+absorb-grid-spec : {M : Type 1} → statement M
     (absorb-bins-add-value-2 t)
     (absorb-bins-mul-value t)
     (absorb-bins-slice-read-value t)
-    (absorb-bins-with-sample-requires t)
+    (absorb-bins-gain-at-requires t)
     (absorb-bins-add-inner-r t)
     (absorb-bins-add-inner-r-2 t)
     (absorb-bins-mul-inner-r t)
@@ -652,11 +668,11 @@ pub +absorb-bins+absorb-child+absorb-grid-spec : {M : Type 1} → statement M
     (absorb-bins-add-inner-c t)
     (absorb-bins-mul-inner-c t)
     (absorb-bins-add-inner-c-2 t)
-    (absorb-bins-with-sample-requires-2 t)
+    (absorb-bins-gain-at-requires-2 t)
     (absorb-bins-add-absorb-child t)
     (absorb-bins-absorb-child-requires t)
-    (absorb-bins-store-requires t)
-    (absorb-bins-store-requires-2 t)
+    (absorb-bins-put-requires t)
+    (absorb-bins-put-requires-2 t)
     (absorb-bins-same-length t)
     (absorb-bins-same-length-2 t)
     (absorb-bins-returns t))
