@@ -4,7 +4,7 @@ use mathlib.Core.List.{List}
 use Prim.Native.Nat.{ℕ, zero, suc, _+_, _-_, _*_, _≤_}
 use native.Mathlib.Omega.{arith}
 use borrow.Author.Tests.{ne-eqb}
-use lib.ListN.{getD, take}
+use lib.ListN.{getD}
 use lib.Ieee.{Float, nan, binary64, mul}
 use Rattle.grid.specs.declared.Sample.{Sample}
 use Rattle.grid.specs.declared.adding.Gain.{Gain}
@@ -17,9 +17,9 @@ use Rattle.grid.specs.Absorbed.{placesIn, gainAt, gained, absorbedAxes, 
 
 module _ (table : List ℕ) (s : Sample) (e : Float) (number w d : ℕ) where
   pub axes-absorbed : (m t u : Memory) (g : AxesAt) (is : List ℕ) (own : Gain) → g ≡ axesPlace table w
-      → take (g .axes) is ≡ binsOn (axesAt (m .reals) (m .counts) (axesPlace table w)) (placesIn s)
+      → is ≡ binsOn (axesAt (m .reals) (m .counts) (axesPlace table w)) (placesIn s)
       → own ≡ gainAt (getD table (w + 9) 0) (getD table (w + 10) 0) (mul binary64 e (getD (s .weights) d nan)) number m
-      → t ≡ trainedOver g (mul binary64 (getD (s .weights) d nan) e) (take (g .axes) is) m
+      → t ≡ trainedOver g (mul binary64 (getD (s .weights) d nan) e) is m
       → u ≡ gained (getD table (w + 9) 0) (getD table (w + 10) 0) own t → u ≡ absorbedAxes table s e number w d m
   unfolding absorbedAxes
   axes-absorbed m t u g is own p q o h k =

@@ -6,7 +6,7 @@ use Prim.Native.Nat.{ℕ, zero, suc, _+_, _-_, _*_, _^_, _≤_, _<_}
 use native.Mathlib.Omega.{arith}
 use borrow.Author.Tests.{ltb-true, ltb-false, leb-true, eqb-true, ne-eqb}
 use lib.Dec.{leb, ltb, eqb}
-use lib.ListN.{length, take, drop, getD, set, length-drop}
+use lib.ListN.{length, drop, getD, set, length-drop}
 use lib.Seq.{length-take-le}
 use lib.Ieee.{Float, nan, binary64, add, mul}
 use Rattle.real.specs.Finite.{finiteOf}
@@ -25,7 +25,7 @@ use Rattle.grid.specs.declared.Sample.{Sample}
 use Rattle.grid.specs.declared.axes.AxesAt.{AxesAt}
 use Rattle.grid.specs.Layout.{stretch, axisReals, axisCounts, binAt, binsFrom, axisAt, axesFrom}
 use Rattle.grid.specs.Memory.{memory, Asked, recordAt}
-use Rattle.grid.specs.Drawn.{Standing, axesAt, Stands}
+use Rattle.grid.specs.Drawn.{Standing, axesAt}
 use Rattle.grid.specs.Tree.{axesPlace, axesGridAt, binIn, childIn, binsIn, AxesLaid}
 use Rattle.grid.specs.Judged.{soundBin}
 use Rattle.grid.specs.Sampled.{entries, soundChild}
@@ -280,21 +280,20 @@ module _ (table : List ℕ) (reals : List Float) (counts : List ℕ) (w : ℕ) (
         length-on (getD table (w + 2) 0) (axesAt reals counts (axesPlace table w)) (placesIn s)
         (length-axes (getD table (w + 7) 0) reals counts (getD table (w + 2) 0) (getD table (w + 9) 0 + 14) (getD table (w + 10) 0 + 7)) spread
 
-    -- the same for a place that the code has read, and the bins that it has found there
+    -- the same for a place that the code has read
     module _ (g : AxesAt) (p : g ≡ axesPlace table w) where
-      pub axes-placed : Stands reals counts g × (allInUnit (entries nan (s .coordinates) 0 (g .axes)) ≡ true)
-      axes-placed =
-          subst (λ (o : AxesAt). Stands reals counts o × (allInUnit (entries nan (s .coordinates) 0 (o .axes)) ≡ true)) (sym p)
-          (sound-stands table reals counts w a (t .well), as-many)
+      pub spots-there : binsOn (axesAt reals counts g) (entries nan (s .coordinates) 0 (g .axes)) ≡ spots
+      spots-there = ap (λ (o : AxesAt). binsOn (axesAt reals counts o) (entries nan (s .coordinates) 0 (o .axes))) p ∙ ap (λ (k : ℕ). binsOn (axesAt reals counts (axesPlace table w)) (entries nan (s .coordinates) 0 k)) as-wide
 
-      module _ (is : List ℕ) (q : take (g .axes) is ≡ binsOn (axesAt reals counts g) (entries nan (s .coordinates) 0 (g .axes))) where
-        pub spots-found : take (g .axes) is ≡ spots
-        spots-found = q ∙ ap (λ (o : AxesAt). binsOn (axesAt reals counts o) (entries nan (s .coordinates) 0 (o .axes))) p ∙ ap (λ (k : ℕ). binsOn (axesAt reals counts (axesPlace table w)) (entries nan (s .coordinates) 0 k)) as-wide
+      pub fit-there : (v : Float) → cellsFit (g .most) v (binsOn (axesAt reals counts g) (entries nan (s .coordinates) 0 (g .axes))) (g .reals) (g .counts) (memory reals counts)
+          ≡ cellsFit (axesPlace table w .most) v spots (axesPlace table w .reals) (axesPlace table w .counts) (memory reals counts)
+      fit-there v = ap₂ (λ (o : AxesAt) (is : List ℕ). cellsFit (o .most) v is (o .reals) (o .counts) (memory reals counts)) p spots-there
 
-        pub cells-of : (g .axes ≤ 8) × CellsOf g (take (g .axes) is) (memory reals counts)
-        cells-of =
-            rw spots-found (subst (λ (o : AxesAt). (o .axes ≤ 8) × CellsOf o spots (memory reals counts)) (sym p)
-            (sound-stands table reals counts w a (t .well) .0, (sound-stands table reals counts w a (t .well) .1, spots-many, spots-asked)))
+      pub cells-of : CellsOf g (entries nan (s .coordinates) 0 (g .axes)) (memory reals counts)
+      cells-of =
+          let asked = subst (λ (k : ℕ). Asked (Cell (axesPlace table w .most)) (axesPlace table w .most) (binsOn (axesAt reals counts (axesPlace table w)) (entries nan (s .coordinates) 0 k)) (axesPlace table w .reals) (axesPlace table w .counts) (memory reals counts))
+          (sym as-wide) spots-asked in
+          subst (λ (o : AxesAt). CellsOf o (entries nan (s .coordinates) 0 (o .axes)) (memory reals counts)) (sym p) (sound-stands table reals counts w a (t .well), as-many, asked)
 
     pub alone : weightsLeft s d ≡ weight ∷ []
     alone = one-left nan (s .weights) d (s .given) (omega (arith, form .weight)) ∙ ap (λ (ws : List Float). weight ∷ ws) (none-left nan (s .weights) (d + 1) (s .given) (omega (arith, form .weight)))

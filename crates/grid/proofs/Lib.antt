@@ -28,6 +28,7 @@ pub mod States
 pub mod Trains
 pub mod Trained
 pub mod Adds
+pub mod Spots
 pub mod Accepts
 pub mod Absorbs
 pub mod Objections

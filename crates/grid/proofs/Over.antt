@@ -1,11 +1,9 @@
 -- A step at each axis, from axis to axis: where every step keeps to its own axis and reads as the model's, so do all of them.
-use mathlib.Core.Path.{_≡_, refl, sym, ap, ap₂, _∙_, subst}
+use mathlib.Core.Path.{_≡_, refl, sym, ap, ap₂, _∙_}
 use mathlib.Core.List.{List, [], _∷_}
-use Prim.Native.Nat.{ℕ, suc, _+_, _-_, _*_, _≤_, _<_}
-use native.Mathlib.Numerals.{add-one}
+use Prim.Native.Nat.{ℕ, suc, _+_, _*_, _≤_}
 use native.Mathlib.Omega.{arith}
-use lib.ListN.{length, drop, getD, drop-of-length-le}
-use lib.Seq.{drop-cons}
+use lib.ListN.{length, getD}
 use lib.Ieee.{nan}
 use Rattle.model.specs.Axes.{Axis}
 use Rattle.grid.specs.Layout.{axisReals, axisCounts, axisAt, axesFrom}
@@ -99,30 +97,3 @@ module _ {X : Type 0} (m : ℕ) (f : ℕ → ℕ → X → Memory → Memory) (P
           (same-sym nan r₁ _ _ _ (p .reals-above r₁ _ (omega arith))) (same-sym 0 c₁ _ _ _ (p .counts-above c₁ _ (omega arith))) in
           let held = holding-on xs c₁ s s₁ (λ lo hi i. p .counts-above lo hi i) (d .1) in
           ap₂ (λ (b : Axis) (bs : List Axis). b ∷ bs) first (over-tied xs r₁ c₁ s₁ held next ∙ ap (λ (bs : List Axis). eachAxis h bs xs) (sym up))
-
--- ---- a loop over the axes: the step at axis d, and those that are left after it
-module _ {X : Type 0} (m : ℕ) (f : ℕ → ℕ → X → Memory → Memory) (e : X) where
-  pub over-next : (xs : List X) (d r c : ℕ) (s : Memory) → d < length xs
-      → overAxes f m (drop (d + 1) xs) (r + (6 * m + 1)) (c + (3 * m + 2)) (f r c (getD xs d e) s) ≡ overAxes f m (drop d xs) r c s
-  unfolding overAxes axisReals axisCounts
-  over-next xs d r c s h = rw (drop-cons xs d e h, add-one)
-
-  pub over-out : (xs : List X) (d r c : ℕ) (s : Memory) → length xs ≤ d → overAxes f m (drop d xs) r c s ≡ s
-  unfolding overAxes
-  over-out xs d r c s h = ap (λ (l : List X). overAxes f m l r c s) (drop-of-length-le xs h)
-
-  module _ (P : ℕ → ℕ → X → Memory → Type 0) where
-    pub asked-here : (xs : List X) (d r c : ℕ) (s : Memory) → d < length xs → Asked P m (drop d xs) r c s → P r c (getD xs d e) s
-    unfolding Asked
-    asked-here xs d r c s h a = (subst (λ (l : List X). Asked P m l r c s) (drop-cons xs d e h) a) .0
-
-    pub asked-later : (xs : List X) (d r c : ℕ) (s : Memory) → d < length xs → Asked P m (drop d xs) r c s → Asked P m (drop (d + 1) xs) (r + (6 * m + 1)) (c + (3 * m + 2)) s
-    unfolding Asked axisReals axisCounts
-    asked-later xs d r c s h a =
-        subst (λ (n : ℕ). Asked P m (drop n xs) (r + (6 * m + 1)) (c + (3 * m + 2)) s) (sym (add-one d)) ((subst (λ (l : List X). Asked P m l r c s) (drop-cons xs d e h) a) .1)
-
-    pub asked-left : Local m f P → Frames m f P → (xs : List X) (d r c : ℕ) (s : Memory) → d < length xs → Asked P m (drop d xs) r c s
-        → Asked P m (drop (d + 1) xs) (r + (6 * m + 1)) (c + (3 * m + 2)) (f r c (getD xs d e) s)
-    asked-left loc frames xs d r c s h a =
-        subst (λ (n : ℕ). Asked P m (drop n xs) (r + (6 * m + 1)) (c + (3 * m + 2)) (f r c (getD xs d e) s)) (sym (add-one d))
-        (asked-next m f P loc frames (getD xs d e) (drop (suc d) xs) r c s (subst (λ (l : List X). Asked P m l r c s) (drop-cons xs d e h) a))

@@ -13,6 +13,7 @@ use Rattle.model.specs.Axes.{Axis}
 use Rattle.grid.specs.declared.axes.AxesAt.{AxesAt}
 use Rattle.grid.specs.Layout.{axisReals, axisCounts}
 use Rattle.grid.specs.Memory.{Memory, memory, overAxes, Asked}
+use Rattle.grid.specs.Drawn.{axesAt, Stands}
 
 -- every coordinate is a number in [0, 1]
 unfoldable pub allInUnit : List Float → Bool
@@ -57,8 +58,10 @@ cellsFit m v (i ∷ is) r c s = cellFits m v r c i s && cellsFit m v is (r + axi
 abbrev pub trainedOver : AxesAt → Float → List ℕ → Memory → Memory
 trainedOver g v is s = overAxes (trainedAt (g .most) v) (g .most) is (g .reals) (g .counts) s
 
-abbrev pub CellsOf : AxesAt → List ℕ → Memory → Type 0
-CellsOf g is s = (g .most ≤ 1024) × (length is ≡ g .axes) × Asked (Cell (g .most)) (g .most) is (g .reals) (g .counts) s
+-- what a sample with these coordinates asks of them: they stand in memory, each coordinate is a number in [0, 1], and its bin has a cell
+abbrev pub CellsOf : AxesAt → List Float → Memory → Type 0
+CellsOf g xs s =
+    Stands (s .reals) (s .counts) g × (allInUnit xs ≡ true) × Asked (Cell (g .most)) (g .most) (binsOn (axesAt (s .reals) (s .counts) g) xs) (g .reals) (g .counts) s
 
 -- ---- the sample's form, at an axes grid of k axes and where nothing hangs
 unfoldable pub formFault : ℕ → List ℕ → List Float → List Float → ℕ

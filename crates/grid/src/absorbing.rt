@@ -40,11 +40,8 @@ fn absorb_axes(
     let g = layout::axes_place(table, w);
     let r = table[w + 9] as usize;
     let c = table[w + 10] as usize;
-    let xs = *coordinates;
-    let guesses = *near;
-    let spots = training::locate(reals, counts, g, xs, guesses);
     let own = adding::gain_at(reals, counts, r, c, evaluation * weight, number);
-    training::train_axes(reals, counts, g, spots, weight * evaluation);
+    training::train_axes(reals, counts, g, coordinates, near, weight * evaluation);
     adding::put(reals, counts, r, c, own);
 }
 

@@ -37,10 +37,7 @@ fn axes_accept(
 {
     let weight = weights[depth];
     let g = layout::axes_place(table, w);
-    let xs = *coordinates;
-    let guesses = *near;
-    let spots = training::locate(reals, counts, g, xs, guesses);
-    let fit = training::cells_fit(reals, counts, g, spots, weight * evaluation);
+    let fit = training::axes_fit(reals, counts, g, coordinates, near, weight * evaluation);
     let r = table[w + 9] as usize;
     let c = table[w + 10] as usize;
     let own = adding::fits_with(reals, counts, r, c, evaluation * weight, number);
@@ -247,8 +244,7 @@ pub fn objection(
     if !real::finite(evaluation) {
         return 7;
     }
-    let ws = *weights;
-    if !training::are_finite(ws, weighed) {
+    if !training::are_finite(weights, weighed) {
         return 7;
     }
     if !grid_accepts(

@@ -34,8 +34,7 @@ fn axes_fault(
     if many != table[w + 2] as usize {
         return 4;
     }
-    let xs = *coordinates;
-    if !training::are_in_unit(xs, many) {
+    if !training::are_in_unit(coordinates, many) {
         return 5;
     }
     0

@@ -1,22 +1,21 @@
-// Training axes: the bins that a sample joins are found and judged first; only then is anything written.
+// Training axes: whether a sample may join its bins is judged first, on all of them; only then is anything written.
 ghost use mathlib.Core.Path.{_≡_};
 ghost use mathlib.Core.Bool.{true};
 ghost use Prim.Native.Nat.{_≤_};
-ghost use lib.ListN.{take};
 ghost use lib.Ieee.{nan};
 ghost use Rattle.axis.specs.Edges.{wellFormed, inUnit, binOf};
 ghost use Rattle.grid.specs.Sampled.{entries};
 ghost use Rattle.real.specs.Total.{allFinite};
 ghost use Rattle.accumulator.specs.Steps.{zeroCount};
-ghost use Rattle.grid.specs.Drawn.{axesAt, Stands};
+ghost use Rattle.grid.specs.Drawn.{axesAt};
 ghost use Rattle.grid.specs.Memory.{memory};
 ghost use Rattle.grid.specs.Trained.{allInUnit, binsOn, trainedAt, Cell, cellFits, cellsFit, trainedOver, CellsOf};
 use crate::axes::AxesAt;
 
 // Whether the first n coordinates are numbers in [0, 1].
-pub fn are_in_unit(xs: [f64; 8], n: usize) -> bool
+pub fn are_in_unit(xs: &[f64; 8], n: usize) -> bool
     requires { ⌜ n ≤ 8 ⌝ }
-    ensures { λ r. ⌜ r ≡ allInUnit (entries nan xs 0 n) ⌝ }
+    ensures { λ r. ⌜ r ≡ allInUnit (entries nan (now (xs .entry)) 0 n) ⌝ }
 {
     let mut ok = true;
     let mut i = 0;
@@ -28,9 +27,9 @@ pub fn are_in_unit(xs: [f64; 8], n: usize) -> bool
 }
 
 // Whether the first n weights are finite.
-pub fn are_finite(ws: [f64; 5], n: usize) -> bool
+pub fn are_finite(ws: &[f64; 5], n: usize) -> bool
     requires { ⌜ n ≤ 5 ⌝ }
-    ensures { λ r. ⌜ r ≡ allFinite (entries nan ws 0 n) ⌝ }
+    ensures { λ r. ⌜ r ≡ allFinite (entries nan (now (ws .entry)) 0 n) ⌝ }
 {
     let mut ok = true;
     let mut i = 0;
@@ -53,32 +52,6 @@ fn bin_near(edges: &[f64], x: f64, guess: usize) -> usize
         }
     }
     axis::edges::bin_of(edges, x)
-}
-
-// The bin of each coordinate on its axis; for each a guess, which may be any number.
-pub fn locate(
-    reals: &[f64],
-    counts: &[u64],
-    g: AxesAt,
-    xs: [f64; 8],
-    near: [usize; 8],
-) -> [usize; 8]
-    requires { ⌜ Stands (now reals) (now counts) g × (allInUnit (entries nan xs 0 (g .axes)) ≡ true) ⌝ }
-    ensures { λ r. ⌜ take (g .axes) r ≡ binsOn (axesAt (now (reals .entry)) (now (counts .entry)) g) (entries nan xs 0 (g .axes)) ⌝ }
-{
-    let mut bins = [0usize; 8];
-    let mut at = g.reals;
-    let mut place = g.counts;
-    let mut done = 0;
-    while done < g.axes {
-        let held = counts[place] as usize;
-        let end = at + held + 1;
-        bins[done] = bin_near(&reals[at..end], xs[done], near[done]);
-        at = at + (6 * g.most + 1);
-        place = place + (3 * g.most + 2);
-        done += 1;
-    }
-    bins
 }
 
 // 1 for a zero.
@@ -109,17 +82,27 @@ fn cell_fits(
         & (zeros <= 9007199254740992)
 }
 
-// Whether v may join a bin of each axis.
-pub fn cells_fit(reals: &[f64], counts: &[u64], g: AxesAt, bins: [usize; 8], v: f64) -> bool
-    requires { ⌜ (g .axes ≤ 8) × CellsOf g (take (g .axes) bins) (memory (now reals) (now counts)) ⌝ }
-    ensures { λ o. ⌜ o ≡ cellsFit (g .most) v (take (g .axes) bins) (g .reals) (g .counts) (memory (now (reals .entry)) (now (counts .entry))) ⌝ }
+// Whether v may join each coordinate's bin on its axis; for each bin a guess, which may be any number.
+pub fn axes_fit(
+    reals: &[f64],
+    counts: &[u64],
+    g: AxesAt,
+    xs: &[f64; 8],
+    near: &[usize; 8],
+    v: f64,
+) -> bool
+    requires { ⌜ CellsOf g (entries nan (now xs) 0 (g .axes)) (memory (now reals) (now counts)) ⌝ }
+    ensures { λ o. ⌜ o ≡ cellsFit (g .most) v (binsOn (axesAt (now (reals .entry)) (now (counts .entry)) g) (entries nan (now (xs .entry)) 0 (g .axes))) (g .reals) (g .counts) (memory (now (reals .entry)) (now (counts .entry))) ⌝ }
 {
     let mut ok = true;
     let mut at = g.reals;
     let mut place = g.counts;
     let mut done = 0;
     while done < g.axes {
-        ok = ok & cell_fits(reals, counts, g.most, at, place, bins[done], v);
+        let held = counts[place] as usize;
+        let end = at + held + 1;
+        let bin = bin_near(&reals[at..end], xs[done], near[done]);
+        ok = ok & cell_fits(reals, counts, g.most, at, place, bin, v);
         at = at + (6 * g.most + 1);
         place = place + (3 * g.most + 2);
         done += 1;
@@ -156,16 +139,26 @@ fn train_axis(
     counts[zeros_at] = zeros;
 }
 
-// v joins a bin of each axis.
-pub fn train_axes(reals: &mut [f64], counts: &mut [u64], g: AxesAt, bins: [usize; 8], v: f64)
-    requires { ⌜ (g .axes ≤ 8) × CellsOf g (take (g .axes) bins) (memory (now reals) (now counts)) ⌝ }
-    ensures { λ _. ⌜ memory (now (reals .exit)) (now (counts .exit)) ≡ trainedOver g v (take (g .axes) bins) (memory (now (reals .entry)) (now (counts .entry))) ⌝ }
+// v joins each coordinate's bin on its axis. An axis's edges are written by no other's training, so each bin is found as it was.
+pub fn train_axes(
+    reals: &mut [f64],
+    counts: &mut [u64],
+    g: AxesAt,
+    xs: &[f64; 8],
+    near: &[usize; 8],
+    v: f64,
+)
+    requires { ⌜ CellsOf g (entries nan (now xs) 0 (g .axes)) (memory (now reals) (now counts)) ⌝ }
+    ensures { λ _. ⌜ memory (now (reals .exit)) (now (counts .exit)) ≡ trainedOver g v (binsOn (axesAt (now (reals .entry)) (now (counts .entry)) g) (entries nan (now (xs .entry)) 0 (g .axes))) (memory (now (reals .entry)) (now (counts .entry))) ⌝ }
 {
     let mut at = g.reals;
     let mut place = g.counts;
     let mut done = 0;
     while done < g.axes {
-        train_axis(reals, counts, g.most, at, place, bins[done], v);
+        let held = counts[place] as usize;
+        let end = at + held + 1;
+        let bin = bin_near(&reals[at..end], xs[done], near[done]);
+        train_axis(reals, counts, g.most, at, place, bin, v);
         at = at + (6 * g.most + 1);
         place = place + (3 * g.most + 2);
         done += 1;

@@ -45,23 +45,23 @@ returns-4 c = object-finite (rootOf (c .before .before .before .before .before .
 
 -- src/acceptance.rt:220:9
 are-finite-requires : tie.Need-are-finite-requires
-are-finite-requires c κs = five-weights (c .before .before .before .before .before .before .before .before .before .before .args .table .now) (c .before .before .before .before .before .before .before .before .before .before .args .reals .now) (c .before .before .before .before .before .before .before .before .before .before .args .counts .now) (sampleIn (c .before .before .before .before .before .before .before .before .before .before .args .path .now) (c .before .before .before .before .before .before .before .before .before .before .args .levels) (c .before .before .before .before .before .before .before .before .before .before .args .weights .now) (c .before .before .before .before .before .before .before .before .before .before .args .weighed) (c .before .before .before .before .before .before .before .before .before .before .args .coordinates .now) (c .before .before .before .before .before .before .before .before .before .before .args .many)) (sym (c .before .before .before .before .grid-fault .ensures) ∙ c .before .before .before .if3 .left)
+are-finite-requires c κs = five-weights (c .before .before .before .before .before .before .before .before .before .args .table .now) (c .before .before .before .before .before .before .before .before .before .args .reals .now) (c .before .before .before .before .before .before .before .before .before .args .counts .now) (sampleIn (c .before .before .before .before .before .before .before .before .before .args .path .now) (c .before .before .before .before .before .before .before .before .before .args .levels) (c .before .before .before .before .before .before .before .before .before .args .weights .now) (c .before .before .before .before .before .before .before .before .before .args .weighed) (c .before .before .before .before .before .before .before .before .before .args .coordinates .now) (c .before .before .before .before .before .before .before .before .before .args .many)) (sym (c .before .before .before .grid-fault .ensures) ∙ c .before .before .if3 .left)
 
 -- src/acceptance.rt:221:9
 returns-5 : tie.Need-returns-5
-returns-5 c = object-finite (rootOf (c .before .before .before .before .before .before .before .before .before .before .before .before .args .table .now) (c .before .before .before .before .before .before .before .before .before .before .before .before .args .reals .now) (c .before .before .before .before .before .before .before .before .before .before .before .before .args .counts .now)) (sampleIn (c .before .before .before .before .before .before .before .before .before .before .before .before .args .path .now) (c .before .before .before .before .before .before .before .before .before .before .before .before .args .levels) (c .before .before .before .before .before .before .before .before .before .before .before .before .args .weights .now) (c .before .before .before .before .before .before .before .before .before .before .before .before .args .weighed) (c .before .before .before .before .before .before .before .before .before .before .before .before .args .coordinates .now) (c .before .before .before .before .before .before .before .before .before .before .before .before .args .many)) (c .before .before .before .before .before .before .before .before .before .before .before .before .args .evaluation) (c .before .before .before .before .before .before .before .before .before .before .before .before .args .number) (number-good (c .before .before .before .before .before .before .before .before .before .before .before .before .args .number) (c .before .before .before .before .before .before .before .before .if1 .left) (c .before .before .before .before .before .before .before .if2 .left)) (sym (c .before .before .before .before .before .before .grid-fault .ensures) ∙ c .before .before .before .before .before .if3 .left) (ap₂ _&&_ (passed (c .before .before .before .before .finite .ensures) (c .before .before .before .if4 .left)) (failed (c .before .are-finite .ensures) (c .if5 .taken)))
+returns-5 c = object-finite (rootOf (c .before .before .before .before .before .before .before .before .before .before .before .args .table .now) (c .before .before .before .before .before .before .before .before .before .before .before .args .reals .now) (c .before .before .before .before .before .before .before .before .before .before .before .args .counts .now)) (sampleIn (c .before .before .before .before .before .before .before .before .before .before .before .args .path .now) (c .before .before .before .before .before .before .before .before .before .before .before .args .levels) (c .before .before .before .before .before .before .before .before .before .before .before .args .weights .now) (c .before .before .before .before .before .before .before .before .before .before .before .args .weighed) (c .before .before .before .before .before .before .before .before .before .before .before .args .coordinates .now) (c .before .before .before .before .before .before .before .before .before .before .before .args .many)) (c .before .before .before .before .before .before .before .before .before .before .before .args .evaluation) (c .before .before .before .before .before .before .before .before .before .before .before .args .number) (number-good (c .before .before .before .before .before .before .before .before .before .before .before .args .number) (c .before .before .before .before .before .before .before .if1 .left) (c .before .before .before .before .before .before .if2 .left)) (sym (c .before .before .before .before .before .grid-fault .ensures) ∙ c .before .before .before .before .if3 .left) (ap₂ _&&_ (passed (c .before .before .before .finite .ensures) (c .before .before .if4 .left)) (failed (c .before .are-finite .ensures) (c .if5 .taken)))
 
 -- src/acceptance.rt:223:9
 grid-accepts-requires : tie.Need-grid-accepts-requires
-grid-accepts-requires c κs = (c .before .before .before .before .before .before .before .before .before .before .before .before .pre .0, omega arith, record { well = c .before .before .before .before .before .before .before .before .before .before .before .before .pre .1; form = (sym (c .before .before .before .before .before .before .grid-fault .ensures) ∙ c .before .before .before .before .before .if3 .left); number = (number-good (c .before .before .before .before .before .before .before .before .before .before .before .before .args .number) (c .before .before .before .before .before .before .before .before .if1 .left) (c .before .before .before .before .before .before .before .if2 .left)) })
+grid-accepts-requires c κs = (c .before .before .before .before .before .before .before .before .before .before .before .pre .0, omega arith, record { well = c .before .before .before .before .before .before .before .before .before .before .before .pre .1; form = (sym (c .before .before .before .before .before .grid-fault .ensures) ∙ c .before .before .before .before .if3 .left); number = (number-good (c .before .before .before .before .before .before .before .before .before .before .before .args .number) (c .before .before .before .before .before .before .before .if1 .left) (c .before .before .before .before .before .before .if2 .left)) })
 
 -- src/acceptance.rt:224:9
 returns-6 : tie.Need-returns-6
-returns-6 c = object-kept (rootOf (c .before .before .before .before .before .before .before .before .before .before .before .before .before .before .args .table .now) (c .before .before .before .before .before .before .before .before .before .before .before .before .before .before .args .reals .now) (c .before .before .before .before .before .before .before .before .before .before .before .before .before .before .args .counts .now)) (sampleIn (c .before .before .before .before .before .before .before .before .before .before .before .before .before .before .args .path .now) (c .before .before .before .before .before .before .before .before .before .before .before .before .before .before .args .levels) (c .before .before .before .before .before .before .before .before .before .before .before .before .before .before .args .weights .now) (c .before .before .before .before .before .before .before .before .before .before .before .before .before .before .args .weighed) (c .before .before .before .before .before .before .before .before .before .before .before .before .before .before .args .coordinates .now) (c .before .before .before .before .before .before .before .before .before .before .before .before .before .before .args .many)) (c .before .before .before .before .before .before .before .before .before .before .before .before .before .before .args .evaluation) (c .before .before .before .before .before .before .before .before .before .before .before .before .before .before .args .number) (number-good (c .before .before .before .before .before .before .before .before .before .before .before .before .before .before .args .number) (c .before .before .before .before .before .before .before .before .before .before .if1 .left) (c .before .before .before .before .before .before .before .before .before .if2 .left)) (sym (c .before .before .before .before .before .before .before .before .grid-fault .ensures) ∙ c .before .before .before .before .before .before .before .if3 .left) (ap₂ _&&_ (passed (c .before .before .before .before .before .before .finite .ensures) (c .before .before .before .before .before .if4 .left)) (passed (c .before .before .before .are-finite .ensures) (c .before .before .if5 .left))) (failed (c .before .grid-accepts .ensures) (c .if6 .taken))
+returns-6 c = object-kept (rootOf (c .before .before .before .before .before .before .before .before .before .before .before .before .before .args .table .now) (c .before .before .before .before .before .before .before .before .before .before .before .before .before .args .reals .now) (c .before .before .before .before .before .before .before .before .before .before .before .before .before .args .counts .now)) (sampleIn (c .before .before .before .before .before .before .before .before .before .before .before .before .before .args .path .now) (c .before .before .before .before .before .before .before .before .before .before .before .before .before .args .levels) (c .before .before .before .before .before .before .before .before .before .before .before .before .before .args .weights .now) (c .before .before .before .before .before .before .before .before .before .before .before .before .before .args .weighed) (c .before .before .before .before .before .before .before .before .before .before .before .before .before .args .coordinates .now) (c .before .before .before .before .before .before .before .before .before .before .before .before .before .args .many)) (c .before .before .before .before .before .before .before .before .before .before .before .before .before .args .evaluation) (c .before .before .before .before .before .before .before .before .before .before .before .before .before .args .number) (number-good (c .before .before .before .before .before .before .before .before .before .before .before .before .before .args .number) (c .before .before .before .before .before .before .before .before .before .if1 .left) (c .before .before .before .before .before .before .before .before .if2 .left)) (sym (c .before .before .before .before .before .before .before .grid-fault .ensures) ∙ c .before .before .before .before .before .before .if3 .left) (ap₂ _&&_ (passed (c .before .before .before .before .before .finite .ensures) (c .before .before .before .before .if4 .left)) (passed (c .before .before .before .are-finite .ensures) (c .before .before .if5 .left))) (failed (c .before .grid-accepts .ensures) (c .if6 .taken))
 
 -- src/acceptance.rt:190:1
 returns-7 : tie.Need-returns-7
-returns-7 c = object-none (rootOf (c .before .before .before .before .before .before .before .before .before .before .before .before .before .before .args .table .now) (c .before .before .before .before .before .before .before .before .before .before .before .before .before .before .args .reals .now) (c .before .before .before .before .before .before .before .before .before .before .before .before .before .before .args .counts .now)) (sampleIn (c .before .before .before .before .before .before .before .before .before .before .before .before .before .before .args .path .now) (c .before .before .before .before .before .before .before .before .before .before .before .before .before .before .args .levels) (c .before .before .before .before .before .before .before .before .before .before .before .before .before .before .args .weights .now) (c .before .before .before .before .before .before .before .before .before .before .before .before .before .before .args .weighed) (c .before .before .before .before .before .before .before .before .before .before .before .before .before .before .args .coordinates .now) (c .before .before .before .before .before .before .before .before .before .before .before .before .before .before .args .many)) (c .before .before .before .before .before .before .before .before .before .before .before .before .before .before .args .evaluation) (c .before .before .before .before .before .before .before .before .before .before .before .before .before .before .args .number) (number-good (c .before .before .before .before .before .before .before .before .before .before .before .before .before .before .args .number) (c .before .before .before .before .before .before .before .before .before .before .if1 .left) (c .before .before .before .before .before .before .before .before .before .if2 .left)) (sym (c .before .before .before .before .before .before .before .before .grid-fault .ensures) ∙ c .before .before .before .before .before .before .before .if3 .left) (ap₂ _&&_ (passed (c .before .before .before .before .before .before .finite .ensures) (c .before .before .before .before .before .if4 .left)) (passed (c .before .before .before .are-finite .ensures) (c .before .before .if5 .left))) (passed (c .before .grid-accepts .ensures) (c .if6 .left))
+returns-7 c = object-none (rootOf (c .before .before .before .before .before .before .before .before .before .before .before .before .before .args .table .now) (c .before .before .before .before .before .before .before .before .before .before .before .before .before .args .reals .now) (c .before .before .before .before .before .before .before .before .before .before .before .before .before .args .counts .now)) (sampleIn (c .before .before .before .before .before .before .before .before .before .before .before .before .before .args .path .now) (c .before .before .before .before .before .before .before .before .before .before .before .before .before .args .levels) (c .before .before .before .before .before .before .before .before .before .before .before .before .before .args .weights .now) (c .before .before .before .before .before .before .before .before .before .before .before .before .before .args .weighed) (c .before .before .before .before .before .before .before .before .before .before .before .before .before .args .coordinates .now) (c .before .before .before .before .before .before .before .before .before .before .before .before .before .args .many)) (c .before .before .before .before .before .before .before .before .before .before .before .before .before .args .evaluation) (c .before .before .before .before .before .before .before .before .before .before .before .before .before .args .number) (number-good (c .before .before .before .before .before .before .before .before .before .before .before .before .before .args .number) (c .before .before .before .before .before .before .before .before .before .if1 .left) (c .before .before .before .before .before .before .before .before .if2 .left)) (sym (c .before .before .before .before .before .before .before .grid-fault .ensures) ∙ c .before .before .before .before .before .before .if3 .left) (ap₂ _&&_ (passed (c .before .before .before .before .before .finite .ensures) (c .before .before .before .before .if4 .left)) (passed (c .before .before .before .are-finite .ensures) (c .before .before .if5 .left))) (passed (c .before .grid-accepts .ensures) (c .if6 .left))
 
 pub objection-spec : {M : Type 1} → statement M
 objection-spec =

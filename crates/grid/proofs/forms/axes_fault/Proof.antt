@@ -46,17 +46,17 @@ returns-3 c = rw ((none-left 0 (c .before .before .before .before .before .args 
 
 -- src/forms.rt:37:9
 are-in-unit-requires : tie.Need-are-in-unit-requires
-are-in-unit-requires c κs = omega (arith, c .before .before .before .before .before .before .pre .1, c .before .if3 .left)
+are-in-unit-requires c κs = omega (arith, c .before .before .before .before .before .pre .1, c .if3 .left)
 
 -- src/forms.rt:38:9
 returns-4 : tie.Need-returns-4
 unfolding formFault
-returns-4 c = rw ((none-left 0 (c .before .before .before .before .before .before .before .before .args .path .now) (c .before .before .before .before .before .before .before .before .args .depth) (c .before .before .before .before .before .before .before .before .args .levels) (c .before .before .before .before .before .before .if1 .left)), (many-left nan (c .before .before .before .before .before .before .before .before .args .weights .now) (c .before .before .before .before .before .before .before .before .args .depth) (c .before .before .before .before .before .before .before .before .args .weighed - (c .before .before .before .before .before .before .before .before .args .depth))), (eq-eqb (c .before .before .before .before .before .before .before .before .args .weighed - (c .before .before .before .before .before .before .before .before .args .depth)) 1 (omega (arith, c .before .before .before .before .before .if2 .left))), (many-left nan (c .before .before .before .before .before .before .before .before .args .coordinates .now) 0 (c .before .before .before .before .before .before .before .before .args .many)), eq-eqb (c .before .before .before .before .before .before .before .before .args .many) (getD (c .before .before .before .before .before .before .before .before .args .table .now) (c .before .before .before .before .before .before .before .before .args .w + 2) 0) (c .before .before .before .if3 .left), sym (c .before .are-in-unit .ensures) ∙ not-true (c .before .are-in-unit .result) (c .if4 .taken))
+returns-4 c = rw ((none-left 0 (c .before .before .before .before .before .before .before .args .path .now) (c .before .before .before .before .before .before .before .args .depth) (c .before .before .before .before .before .before .before .args .levels) (c .before .before .before .before .before .if1 .left)), (many-left nan (c .before .before .before .before .before .before .before .args .weights .now) (c .before .before .before .before .before .before .before .args .depth) (c .before .before .before .before .before .before .before .args .weighed - (c .before .before .before .before .before .before .before .args .depth))), (eq-eqb (c .before .before .before .before .before .before .before .args .weighed - (c .before .before .before .before .before .before .before .args .depth)) 1 (omega (arith, c .before .before .before .before .if2 .left))), (many-left nan (c .before .before .before .before .before .before .before .args .coordinates .now) 0 (c .before .before .before .before .before .before .before .args .many)), eq-eqb (c .before .before .before .before .before .before .before .args .many) (getD (c .before .before .before .before .before .before .before .args .table .now) (c .before .before .before .before .before .before .before .args .w + 2) 0) (c .before .before .if3 .left), sym (c .before .are-in-unit .ensures) ∙ not-true (c .before .are-in-unit .result) (c .if4 .taken))
 
 -- src/forms.rt:14:1
 returns-5 : tie.Need-returns-5
 unfolding formFault
-returns-5 c = rw ((none-left 0 (c .before .before .before .before .before .before .before .before .args .path .now) (c .before .before .before .before .before .before .before .before .args .depth) (c .before .before .before .before .before .before .before .before .args .levels) (c .before .before .before .before .before .before .if1 .left)), (many-left nan (c .before .before .before .before .before .before .before .before .args .weights .now) (c .before .before .before .before .before .before .before .before .args .depth) (c .before .before .before .before .before .before .before .before .args .weighed - (c .before .before .before .before .before .before .before .before .args .depth))), (eq-eqb (c .before .before .before .before .before .before .before .before .args .weighed - (c .before .before .before .before .before .before .before .before .args .depth)) 1 (omega (arith, c .before .before .before .before .before .if2 .left))), (many-left nan (c .before .before .before .before .before .before .before .before .args .coordinates .now) 0 (c .before .before .before .before .before .before .before .before .args .many)), eq-eqb (c .before .before .before .before .before .before .before .before .args .many) (getD (c .before .before .before .before .before .before .before .before .args .table .now) (c .before .before .before .before .before .before .before .before .args .w + 2) 0) (c .before .before .before .if3 .left), sym (c .before .are-in-unit .ensures) ∙ not-false (c .before .are-in-unit .result) (c .if4 .left))
+returns-5 c = rw ((none-left 0 (c .before .before .before .before .before .before .before .args .path .now) (c .before .before .before .before .before .before .before .args .depth) (c .before .before .before .before .before .before .before .args .levels) (c .before .before .before .before .before .if1 .left)), (many-left nan (c .before .before .before .before .before .before .before .args .weights .now) (c .before .before .before .before .before .before .before .args .depth) (c .before .before .before .before .before .before .before .args .weighed - (c .before .before .before .before .before .before .before .args .depth))), (eq-eqb (c .before .before .before .before .before .before .before .args .weighed - (c .before .before .before .before .before .before .before .args .depth)) 1 (omega (arith, c .before .before .before .before .if2 .left))), (many-left nan (c .before .before .before .before .before .before .before .args .coordinates .now) 0 (c .before .before .before .before .before .before .before .args .many)), eq-eqb (c .before .before .before .before .before .before .before .args .many) (getD (c .before .before .before .before .before .before .before .args .table .now) (c .before .before .before .before .before .before .before .args .w + 2) 0) (c .before .before .if3 .left), sym (c .before .are-in-unit .ensures) ∙ not-false (c .before .are-in-unit .result) (c .if4 .left))
 
 pub axes-fault-spec : {M : Type 1} → statement M
 axes-fault-spec =

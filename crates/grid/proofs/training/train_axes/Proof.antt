@@ -1,95 +1,123 @@
-use mathlib.Core.Path.{subst}
-use Rattle.grid.proofs.Trains.{next-cell, trained-local, trained-frames}
-use mathlib.Core.Path.{_≡_, refl, sym, ap, _∙_}
+-- Each bin is found on memory in which the earlier axes are trained already: what is left there is as it was.
+use mathlib.Core.Path.{_≡_, refl, sym, ap, _∙_, subst}
+use mathlib.Core.List.{List}
 use Prim.Native.Nat.{ℕ, _+_, _-_, _*_, _≤_}
 use native.Mathlib.Omega.{arith}
-use lib.ListN.{length, take, drop}
-use lib.Seq.{getD-take}
-use Rattle.grid.specs.Memory.{Memory, memory, overAxes, Asked}
-use Rattle.grid.specs.Trained.{Cell, trainedAt}
-use Rattle.grid.proofs.Over.{over-next, over-out, asked-here, asked-left}
+use lib.ListN.{length, getD}
+use Rattle.grid.specs.Memory.{Memory, memory, overAxes}
+use Rattle.grid.specs.Trained.{trainedAt}
+use Rattle.grid.proofs.Standing.{next}
+use Rattle.grid.proofs.Draws.{asked-part}
+use Rattle.grid.proofs.Spots.{spotsLeft, Left, spots-all, left-all, unit-here, cell-here, left-trained, trained-on, trained-none}
 use Rattle.grid.proofs.training.train_axes.Statement.{statement}
 use Rattle.grid.proofs.training.train_axes.Tie as tie
 use Rattle.grid.proofs.training.train_axes.Reads as reads
 use Rattle.grid.proofs.training.train_axes.Lts as lts
+use Rattle.grid.proofs.training.bin_near.Reads as bin-near-reads
 use Rattle.grid.proofs.training.train_axis.Reads as train-axis-reads
 
 abbrev Inv-loop : tie.InvT-loop
-Inv-loop reals₀ counts₀ g v bins at₀ place₀ done₀ reals counts at place done = (done ≤ g .axes) × (length reals ≡ length reals₀) × (length counts ≡ length counts₀) × Asked (Cell (g .most)) (g .most) (drop done (take (g .axes) bins)) at place (memory reals counts)
-    × (overAxes (trainedAt (g .most) v) (g .most) (drop done (take (g .axes) bins)) at place (memory reals counts) ≡ overAxes (trainedAt (g .most) v) (g .most) (take (g .axes) bins) (g .reals) (g .counts) (memory reals₀ counts₀))
+Inv-loop reals₀ counts₀ g xs near v at₀ place₀ done₀ reals counts at place done =
+    (done ≤ g .axes) × (length reals ≡ length reals₀) × (length counts ≡ length counts₀) × Left (g .most) (g .axes) xs done at place (memory reals counts)
+    × (overAxes (trainedAt (g .most) v) (g .most) (spotsLeft (g .most) (g .axes) xs done at place (memory reals counts)) at place (memory reals counts)
+    ≡ overAxes (trainedAt (g .most) v) (g .most) (spotsLeft (g .most) (g .axes) xs 0 (g .reals) (g .counts) (memory reals₀ counts₀)) (g .reals) (g .counts) (memory reals₀ counts₀))
 
 abbrev μ-loop : tie.MeasureT-loop
-μ-loop reals₀ counts₀ g v bins at₀ place₀ done₀ reals counts at place done = g .axes - done
+μ-loop reals₀ counts₀ g xs near v at₀ place₀ done₀ reals counts at place done = g .axes - done
 
--- src/training.rt:112:5
 loop-holds : tie.Need-loop-holds Inv-loop μ-loop
-loop-holds c = (omega arith, refl, refl, c .before .before .pre .1 .2, refl)
+loop-holds c = (omega arith, refl, refl, left-all (c .before .before .args .g .most) (c .before .before .args .g .axes) (c .before .before .args .xs .now) (c .before .before .args .g .reals) (c .before .before .args .g .counts) (memory (c .before .before .args .reals .now) (c .before .before .args .counts .now)) (c .before .before .pre .0 .2) (c .before .before .pre .1) (c .before .before .pre .2), refl)
 
--- src/training.rt:113:54
-mul-train-axis : tie.Need-mul-train-axis Inv-loop μ-loop
-mul-train-axis c = omega (arith, c .before .before .if1 .taken, c .before .before .before .before .before .before .before .pre .0)
+mul-held : tie.Need-mul-held Inv-loop μ-loop
+mul-held c = let n = next (c .before .before .before .before .before .args .g .most) (c .before .before .loop .reals) (c .before .before .loop .counts) (c .before .before .before .before .before .args .g .axes) (c .before .before .loop .done) (c .before .before .loop .at) (c .before .before .loop .place) (c .if1 .taken) (c .before .before .loop .inv .3 .standing) in omega (arith, c .before .before .loop .inv .1, c .before .before .loop .inv .2)
 
--- src/training.rt:113:54
-array-read-train-axis : tie.Need-array-read-train-axis Inv-loop μ-loop
-array-read-train-axis c = omega (arith, c .before .before .if1 .taken, c .before .before .before .before .before .before .before .pre .0)
+slice-read-held : tie.Need-slice-read-held Inv-loop μ-loop
+slice-read-held c = let n = next (c .before .before .before .before .before .before .args .g .most) (c .before .before .before .loop .reals) (c .before .before .before .loop .counts) (c .before .before .before .before .before .before .args .g .axes) (c .before .before .before .loop .done) (c .before .before .before .loop .at) (c .before .before .before .loop .place) (c .before .if1 .taken) (c .before .before .before .loop .inv .3 .standing) in omega (arith, c .before .before .before .loop .inv .1, c .before .before .before .loop .inv .2)
 
--- src/training.rt:113:9
+add-end : tie.Need-add-end Inv-loop μ-loop
+add-end c = let n = next (c .before .before .before .before .before .before .args .g .most) (c .before .before .before .loop .reals) (c .before .before .before .loop .counts) (c .before .before .before .before .before .before .args .g .axes) (c .before .before .before .loop .done) (c .before .before .before .loop .at) (c .before .before .before .loop .place) (c .before .if1 .taken) (c .before .before .before .loop .inv .3 .standing) in omega (arith, c .before .before .before .loop .inv .1, c .before .before .before .loop .inv .2)
+
+add-end-2 : tie.Need-add-end-2 Inv-loop μ-loop
+add-end-2 c = let n = next (c .before .before .before .before .before .before .args .g .most) (c .before .before .before .loop .reals) (c .before .before .before .loop .counts) (c .before .before .before .before .before .before .args .g .axes) (c .before .before .before .loop .done) (c .before .before .before .loop .at) (c .before .before .before .loop .place) (c .before .if1 .taken) (c .before .before .before .loop .inv .3 .standing) in omega (arith, c .before .before .before .loop .inv .1, c .before .before .before .loop .inv .2)
+
+mul-bin-near : tie.Need-mul-bin-near Inv-loop μ-loop
+mul-bin-near c = let n = next (c .before .before .before .before .before .before .args .g .most) (c .before .before .before .loop .reals) (c .before .before .before .loop .counts) (c .before .before .before .before .before .before .args .g .axes) (c .before .before .before .loop .done) (c .before .before .before .loop .at) (c .before .before .before .loop .place) (c .before .if1 .taken) (c .before .before .before .loop .inv .3 .standing) in omega (arith, c .before .before .before .loop .inv .1, c .before .before .before .loop .inv .2)
+
+sub-bin-near : tie.Need-sub-bin-near Inv-loop μ-loop
+sub-bin-near c = let n = next (c .before .before .before .before .before .before .args .g .most) (c .before .before .before .loop .reals) (c .before .before .before .loop .counts) (c .before .before .before .before .before .before .args .g .axes) (c .before .before .before .loop .done) (c .before .before .before .loop .at) (c .before .before .before .loop .place) (c .before .if1 .taken) (c .before .before .before .loop .inv .3 .standing) in omega (arith, c .before .before .before .loop .inv .1, c .before .before .before .loop .inv .2)
+
+part-bin-near-start : tie.Need-part-bin-near-start Inv-loop μ-loop
+part-bin-near-start c = let n = next (c .before .before .before .before .before .before .before .args .g .most) (c .before .before .before .before .loop .reals) (c .before .before .before .before .loop .counts) (c .before .before .before .before .before .before .before .args .g .axes) (c .before .before .before .before .loop .done) (c .before .before .before .before .loop .at) (c .before .before .before .before .loop .place) (c .before .before .if1 .taken) (c .before .before .before .before .loop .inv .3 .standing) in omega (arith, c .before .before .before .before .loop .inv .1, c .before .before .before .before .loop .inv .2)
+
+part-bin-near-end : tie.Need-part-bin-near-end Inv-loop μ-loop
+part-bin-near-end c = let n = next (c .before .before .before .before .before .before .before .args .g .most) (c .before .before .before .before .loop .reals) (c .before .before .before .before .loop .counts) (c .before .before .before .before .before .before .before .args .g .axes) (c .before .before .before .before .loop .done) (c .before .before .before .before .loop .at) (c .before .before .before .before .loop .place) (c .before .before .if1 .taken) (c .before .before .before .before .loop .inv .3 .standing) in omega (arith, c .before .before .before .before .loop .inv .1, c .before .before .before .before .loop .inv .2)
+
+mul-bin-near-2 : tie.Need-mul-bin-near-2 Inv-loop μ-loop
+mul-bin-near-2 c = omega (arith, c .before .before .before .if1 .taken, c .before .before .before .before .before .before .before .before .pre .0 .0)
+
+element-copy-out-bin-near : tie.Need-element-copy-out-bin-near Inv-loop μ-loop
+element-copy-out-bin-near c = omega (arith, c .before .before .before .if1 .taken, c .before .before .before .before .before .before .before .before .pre .0 .0)
+
+mul-bin-near-3 : tie.Need-mul-bin-near-3 Inv-loop μ-loop
+mul-bin-near-3 c = omega (arith, c .before .before .before .before .if1 .taken, c .before .before .before .before .before .before .before .before .before .pre .0 .0)
+
+element-copy-out-bin-near-2 : tie.Need-element-copy-out-bin-near-2 Inv-loop μ-loop
+element-copy-out-bin-near-2 c = omega (arith, c .before .before .before .before .if1 .taken, c .before .before .before .before .before .before .before .before .before .pre .0 .0)
+
+bin-near-requires : tie.Need-bin-near-requires Inv-loop μ-loop
+bin-near-requires c κs = let n = next (c .before .before .before .before .before .before .before .before .before .before .args .g .most) (c .before .before .before .before .before .before .before .loop .reals) (c .before .before .before .before .before .before .before .loop .counts) (c .before .before .before .before .before .before .before .before .before .before .args .g .axes) (c .before .before .before .before .before .before .before .loop .done) (c .before .before .before .before .before .before .before .loop .at) (c .before .before .before .before .before .before .before .loop .place) (c .before .before .before .before .before .if1 .taken) (c .before .before .before .before .before .before .before .loop .inv .3 .standing) in
+    (asked-part (c .before .before .before .before .before .before .before .loop .at) (getD (c .before .before .before .before .before .before .before .loop .counts) (c .before .before .before .before .before .before .before .loop .place) 0) (c .before .before .before .before .before .before .before .loop .reals) (n .edges), unit-here (c .before .before .before .before .before .before .before .before .before .before .args .g .most) (c .before .before .before .before .before .before .before .before .before .before .args .g .axes) (c .before .before .before .before .before .before .before .before .before .before .args .xs .now) (c .before .before .before .before .before .before .before .loop .done) (c .before .before .before .before .before .before .before .loop .at) (c .before .before .before .before .before .before .before .loop .place) (memory (c .before .before .before .before .before .before .before .loop .reals) (c .before .before .before .before .before .before .before .loop .counts)) (c .before .before .before .before .before .if1 .taken) (c .before .before .before .before .before .before .before .loop .inv .3))
+
 train-axis-requires : tie.Need-train-axis-requires Inv-loop μ-loop
-train-axis-requires c κs = (c .before .before .before .before .before .before .before .pre .1 .0, next-cell (c .before .before .before .before .before .before .before .args .g .most) (c .before .before .before .before .before .before .before .args .g .axes) (c .before .before .before .before .before .before .before .args .t4) (c .before .before .before .before .loop .done) (c .before .before .before .before .loop .at) (c .before .before .before .before .loop .place) (memory (c .before .before .before .before .loop .reals) (c .before .before .before .before .loop .counts)) (c .before .before .if1 .taken) (asked-here (c .before .before .before .before .before .before .before .args .g .most) (trainedAt (c .before .before .before .before .before .before .before .args .g .most) (c .before .before .before .before .before .before .before .args .v)) 0 (Cell (c .before .before .before .before .before .before .before .args .g .most)) (take (c .before .before .before .before .before .before .before .args .g .axes) (c .before .before .before .before .before .before .before .args .t4)) (c .before .before .before .before .loop .done) (c .before .before .before .before .loop .at) (c .before .before .before .before .loop .place) (memory (c .before .before .before .before .loop .reals) (c .before .before .before .before .loop .counts)) (omega (arith, (c .before .before .before .before .before .before .before .pre .1 .1), c .before .before .if1 .taken)) ((c .before .before .before .before .loop .inv) .3)))
+train-axis-requires c κs = (c .before .before .before .before .before .before .before .before .before .before .before .before .before .pre .0 .1, cell-here (c .before .before .before .before .before .before .before .before .before .before .before .before .before .args .g .most) (c .before .before .before .before .before .before .before .before .before .before .before .before .before .args .g .axes) (c .before .before .before .before .before .before .before .before .before .before .before .before .before .args .xs .now) (c .before .before .before .before .before .before .before .before .before .before .loop .done) (c .before .before .before .before .before .before .before .before .before .before .loop .at) (c .before .before .before .before .before .before .before .before .before .before .loop .place) (memory (c .before .before .before .before .before .before .before .before .before .before .loop .reals) (c .before .before .before .before .before .before .before .before .before .before .loop .counts)) (c .before .before .before .before .before .before .before .before .if1 .taken) (c .before .before .before .before .before .before .before .before .before .before .loop .inv .3) (c .before .before .bin-near .result) (c .before .before .bin-near .ensures))
 
--- src/training.rt:114:20
 mul-at : tie.Need-mul-at Inv-loop μ-loop
-mul-at c = let n = (asked-here (c .before .before .before .before .before .before .before .before .before .before .before .before .before .args .g .most) (trainedAt (c .before .before .before .before .before .before .before .before .before .before .before .before .before .args .g .most) (c .before .before .before .before .before .before .before .before .before .before .before .before .before .args .v)) 0 (Cell (c .before .before .before .before .before .before .before .before .before .before .before .before .before .args .g .most)) (take (c .before .before .before .before .before .before .before .before .before .before .before .before .before .args .g .axes) (c .before .before .before .before .before .before .before .before .before .before .before .before .before .args .t4)) (c .before .before .before .before .before .before .before .before .before .before .loop .done) (c .before .before .before .before .before .before .before .before .before .before .loop .at) (c .before .before .before .before .before .before .before .before .before .before .loop .place) (memory (c .before .before .before .before .before .before .before .before .before .before .loop .reals) (c .before .before .before .before .before .before .before .before .before .before .loop .counts)) (omega (arith, (c .before .before .before .before .before .before .before .before .before .before .before .before .before .pre .1 .1), c .before .before .before .before .before .before .before .before .if1 .taken)) ((c .before .before .before .before .before .before .before .before .before .before .loop .inv) .3)) in omega arith
+mul-at c = let n = next (c .before .before .before .before .before .before .before .before .before .before .before .before .before .before .before .before .before .before .before .args .g .most) (c .before .before .before .before .before .before .before .before .before .before .before .before .before .before .before .before .loop .reals) (c .before .before .before .before .before .before .before .before .before .before .before .before .before .before .before .before .loop .counts) (c .before .before .before .before .before .before .before .before .before .before .before .before .before .before .before .before .before .before .before .args .g .axes) (c .before .before .before .before .before .before .before .before .before .before .before .before .before .before .before .before .loop .done) (c .before .before .before .before .before .before .before .before .before .before .before .before .before .before .before .before .loop .at) (c .before .before .before .before .before .before .before .before .before .before .before .before .before .before .before .before .loop .place) (c .before .before .before .before .before .before .before .before .before .before .before .before .before .before .if1 .taken) (c .before .before .before .before .before .before .before .before .before .before .before .before .before .before .before .before .loop .inv .3 .standing) in omega (arith, c .before .before .before .before .before .before .before .before .before .before .before .before .before .before .before .before .loop .inv .1, c .before .before .before .before .before .before .before .before .before .before .before .before .before .before .before .before .loop .inv .2)
 
--- src/training.rt:114:20
 add-at : tie.Need-add-at Inv-loop μ-loop
-add-at c = let n = (asked-here (c .before .before .before .before .before .before .before .before .before .before .before .before .before .args .g .most) (trainedAt (c .before .before .before .before .before .before .before .before .before .before .before .before .before .args .g .most) (c .before .before .before .before .before .before .before .before .before .before .before .before .before .args .v)) 0 (Cell (c .before .before .before .before .before .before .before .before .before .before .before .before .before .args .g .most)) (take (c .before .before .before .before .before .before .before .before .before .before .before .before .before .args .g .axes) (c .before .before .before .before .before .before .before .before .before .before .before .before .before .args .t4)) (c .before .before .before .before .before .before .before .before .before .before .loop .done) (c .before .before .before .before .before .before .before .before .before .before .loop .at) (c .before .before .before .before .before .before .before .before .before .before .loop .place) (memory (c .before .before .before .before .before .before .before .before .before .before .loop .reals) (c .before .before .before .before .before .before .before .before .before .before .loop .counts)) (omega (arith, (c .before .before .before .before .before .before .before .before .before .before .before .before .before .pre .1 .1), c .before .before .before .before .before .before .before .before .if1 .taken)) ((c .before .before .before .before .before .before .before .before .before .before .loop .inv) .3)) in omega arith
+add-at c = let n = next (c .before .before .before .before .before .before .before .before .before .before .before .before .before .before .before .before .before .before .before .args .g .most) (c .before .before .before .before .before .before .before .before .before .before .before .before .before .before .before .before .loop .reals) (c .before .before .before .before .before .before .before .before .before .before .before .before .before .before .before .before .loop .counts) (c .before .before .before .before .before .before .before .before .before .before .before .before .before .before .before .before .before .before .before .args .g .axes) (c .before .before .before .before .before .before .before .before .before .before .before .before .before .before .before .before .loop .done) (c .before .before .before .before .before .before .before .before .before .before .before .before .before .before .before .before .loop .at) (c .before .before .before .before .before .before .before .before .before .before .before .before .before .before .before .before .loop .place) (c .before .before .before .before .before .before .before .before .before .before .before .before .before .before .if1 .taken) (c .before .before .before .before .before .before .before .before .before .before .before .before .before .before .before .before .loop .inv .3 .standing) in omega (arith, c .before .before .before .before .before .before .before .before .before .before .before .before .before .before .before .before .loop .inv .1, c .before .before .before .before .before .before .before .before .before .before .before .before .before .before .before .before .loop .inv .2)
 
--- src/training.rt:114:14
 add-at-2 : tie.Need-add-at-2 Inv-loop μ-loop
-add-at-2 c = let n = (asked-here (c .before .before .before .before .before .before .before .before .before .before .before .before .before .args .g .most) (trainedAt (c .before .before .before .before .before .before .before .before .before .before .before .before .before .args .g .most) (c .before .before .before .before .before .before .before .before .before .before .before .before .before .args .v)) 0 (Cell (c .before .before .before .before .before .before .before .before .before .before .before .before .before .args .g .most)) (take (c .before .before .before .before .before .before .before .before .before .before .before .before .before .args .g .axes) (c .before .before .before .before .before .before .before .before .before .before .before .before .before .args .t4)) (c .before .before .before .before .before .before .before .before .before .before .loop .done) (c .before .before .before .before .before .before .before .before .before .before .loop .at) (c .before .before .before .before .before .before .before .before .before .before .loop .place) (memory (c .before .before .before .before .before .before .before .before .before .before .loop .reals) (c .before .before .before .before .before .before .before .before .before .before .loop .counts)) (omega (arith, (c .before .before .before .before .before .before .before .before .before .before .before .before .before .pre .1 .1), c .before .before .before .before .before .before .before .before .if1 .taken)) ((c .before .before .before .before .before .before .before .before .before .before .loop .inv) .3)) in omega arith
+add-at-2 c = let n = next (c .before .before .before .before .before .before .before .before .before .before .before .before .before .before .before .before .before .before .before .args .g .most) (c .before .before .before .before .before .before .before .before .before .before .before .before .before .before .before .before .loop .reals) (c .before .before .before .before .before .before .before .before .before .before .before .before .before .before .before .before .loop .counts) (c .before .before .before .before .before .before .before .before .before .before .before .before .before .before .before .before .before .before .before .args .g .axes) (c .before .before .before .before .before .before .before .before .before .before .before .before .before .before .before .before .loop .done) (c .before .before .before .before .before .before .before .before .before .before .before .before .before .before .before .before .loop .at) (c .before .before .before .before .before .before .before .before .before .before .before .before .before .before .before .before .loop .place) (c .before .before .before .before .before .before .before .before .before .before .before .before .before .before .if1 .taken) (c .before .before .before .before .before .before .before .before .before .before .before .before .before .before .before .before .loop .inv .3 .standing) in omega (arith, c .before .before .before .before .before .before .before .before .before .before .before .before .before .before .before .before .loop .inv .1, c .before .before .before .before .before .before .before .before .before .before .before .before .before .before .before .before .loop .inv .2)
 
--- src/training.rt:115:26
 mul-place : tie.Need-mul-place Inv-loop μ-loop
-mul-place c = let n = (asked-here (c .before .before .before .before .before .before .before .before .before .before .before .before .before .before .args .g .most) (trainedAt (c .before .before .before .before .before .before .before .before .before .before .before .before .before .before .args .g .most) (c .before .before .before .before .before .before .before .before .before .before .before .before .before .before .args .v)) 0 (Cell (c .before .before .before .before .before .before .before .before .before .before .before .before .before .before .args .g .most)) (take (c .before .before .before .before .before .before .before .before .before .before .before .before .before .before .args .g .axes) (c .before .before .before .before .before .before .before .before .before .before .before .before .before .before .args .t4)) (c .before .before .before .before .before .before .before .before .before .before .before .loop .done) (c .before .before .before .before .before .before .before .before .before .before .before .loop .at) (c .before .before .before .before .before .before .before .before .before .before .before .loop .place) (memory (c .before .before .before .before .before .before .before .before .before .before .before .loop .reals) (c .before .before .before .before .before .before .before .before .before .before .before .loop .counts)) (omega (arith, (c .before .before .before .before .before .before .before .before .before .before .before .before .before .before .pre .1 .1), c .before .before .before .before .before .before .before .before .before .if1 .taken)) ((c .before .before .before .before .before .before .before .before .before .before .before .loop .inv) .3)) in omega arith
+mul-place c = let n = next (c .before .before .before .before .before .before .before .before .before .before .before .before .before .before .before .before .before .before .before .before .args .g .most) (c .before .before .before .before .before .before .before .before .before .before .before .before .before .before .before .before .before .loop .reals) (c .before .before .before .before .before .before .before .before .before .before .before .before .before .before .before .before .before .loop .counts) (c .before .before .before .before .before .before .before .before .before .before .before .before .before .before .before .before .before .before .before .before .args .g .axes) (c .before .before .before .before .before .before .before .before .before .before .before .before .before .before .before .before .before .loop .done) (c .before .before .before .before .before .before .before .before .before .before .before .before .before .before .before .before .before .loop .at) (c .before .before .before .before .before .before .before .before .before .before .before .before .before .before .before .before .before .loop .place) (c .before .before .before .before .before .before .before .before .before .before .before .before .before .before .before .if1 .taken) (c .before .before .before .before .before .before .before .before .before .before .before .before .before .before .before .before .before .loop .inv .3 .standing) in omega (arith, c .before .before .before .before .before .before .before .before .before .before .before .before .before .before .before .before .before .loop .inv .1, c .before .before .before .before .before .before .before .before .before .before .before .before .before .before .before .before .before .loop .inv .2)
 
--- src/training.rt:115:26
 add-place : tie.Need-add-place Inv-loop μ-loop
-add-place c = let n = (asked-here (c .before .before .before .before .before .before .before .before .before .before .before .before .before .before .args .g .most) (trainedAt (c .before .before .before .before .before .before .before .before .before .before .before .before .before .before .args .g .most) (c .before .before .before .before .before .before .before .before .before .before .before .before .before .before .args .v)) 0 (Cell (c .before .before .before .before .before .before .before .before .before .before .before .before .before .before .args .g .most)) (take (c .before .before .before .before .before .before .before .before .before .before .before .before .before .before .args .g .axes) (c .before .before .before .before .before .before .before .before .before .before .before .before .before .before .args .t4)) (c .before .before .before .before .before .before .before .before .before .before .before .loop .done) (c .before .before .before .before .before .before .before .before .before .before .before .loop .at) (c .before .before .before .before .before .before .before .before .before .before .before .loop .place) (memory (c .before .before .before .before .before .before .before .before .before .before .before .loop .reals) (c .before .before .before .before .before .before .before .before .before .before .before .loop .counts)) (omega (arith, (c .before .before .before .before .before .before .before .before .before .before .before .before .before .before .pre .1 .1), c .before .before .before .before .before .before .before .before .before .if1 .taken)) ((c .before .before .before .before .before .before .before .before .before .before .before .loop .inv) .3)) in omega arith
+add-place c = let n = next (c .before .before .before .before .before .before .before .before .before .before .before .before .before .before .before .before .before .before .before .before .args .g .most) (c .before .before .before .before .before .before .before .before .before .before .before .before .before .before .before .before .before .loop .reals) (c .before .before .before .before .before .before .before .before .before .before .before .before .before .before .before .before .before .loop .counts) (c .before .before .before .before .before .before .before .before .before .before .before .before .before .before .before .before .before .before .before .before .args .g .axes) (c .before .before .before .before .before .before .before .before .before .before .before .before .before .before .before .before .before .loop .done) (c .before .before .before .before .before .before .before .before .before .before .before .before .before .before .before .before .before .loop .at) (c .before .before .before .before .before .before .before .before .before .before .before .before .before .before .before .before .before .loop .place) (c .before .before .before .before .before .before .before .before .before .before .before .before .before .before .before .if1 .taken) (c .before .before .before .before .before .before .before .before .before .before .before .before .before .before .before .before .before .loop .inv .3 .standing) in omega (arith, c .before .before .before .before .before .before .before .before .before .before .before .before .before .before .before .before .before .loop .inv .1, c .before .before .before .before .before .before .before .before .before .before .before .before .before .before .before .before .before .loop .inv .2)
 
--- src/training.rt:115:17
 add-place-2 : tie.Need-add-place-2 Inv-loop μ-loop
-add-place-2 c = let n = (asked-here (c .before .before .before .before .before .before .before .before .before .before .before .before .before .before .args .g .most) (trainedAt (c .before .before .before .before .before .before .before .before .before .before .before .before .before .before .args .g .most) (c .before .before .before .before .before .before .before .before .before .before .before .before .before .before .args .v)) 0 (Cell (c .before .before .before .before .before .before .before .before .before .before .before .before .before .before .args .g .most)) (take (c .before .before .before .before .before .before .before .before .before .before .before .before .before .before .args .g .axes) (c .before .before .before .before .before .before .before .before .before .before .before .before .before .before .args .t4)) (c .before .before .before .before .before .before .before .before .before .before .before .loop .done) (c .before .before .before .before .before .before .before .before .before .before .before .loop .at) (c .before .before .before .before .before .before .before .before .before .before .before .loop .place) (memory (c .before .before .before .before .before .before .before .before .before .before .before .loop .reals) (c .before .before .before .before .before .before .before .before .before .before .before .loop .counts)) (omega (arith, (c .before .before .before .before .before .before .before .before .before .before .before .before .before .before .pre .1 .1), c .before .before .before .before .before .before .before .before .before .if1 .taken)) ((c .before .before .before .before .before .before .before .before .before .before .before .loop .inv) .3)) in omega arith
+add-place-2 c = let n = next (c .before .before .before .before .before .before .before .before .before .before .before .before .before .before .before .before .before .before .before .before .args .g .most) (c .before .before .before .before .before .before .before .before .before .before .before .before .before .before .before .before .before .loop .reals) (c .before .before .before .before .before .before .before .before .before .before .before .before .before .before .before .before .before .loop .counts) (c .before .before .before .before .before .before .before .before .before .before .before .before .before .before .before .before .before .before .before .before .args .g .axes) (c .before .before .before .before .before .before .before .before .before .before .before .before .before .before .before .before .before .loop .done) (c .before .before .before .before .before .before .before .before .before .before .before .before .before .before .before .before .before .loop .at) (c .before .before .before .before .before .before .before .before .before .before .before .before .before .before .before .before .before .loop .place) (c .before .before .before .before .before .before .before .before .before .before .before .before .before .before .before .if1 .taken) (c .before .before .before .before .before .before .before .before .before .before .before .before .before .before .before .before .before .loop .inv .3 .standing) in omega (arith, c .before .before .before .before .before .before .before .before .before .before .before .before .before .before .before .before .before .loop .inv .1, c .before .before .before .before .before .before .before .before .before .before .before .before .before .before .before .before .before .loop .inv .2)
 
--- src/training.rt:116:9
 add-done : tie.Need-add-done Inv-loop μ-loop
-add-done c = omega (arith, c .before .before .before .before .before .before .before .before .before .if1 .taken, c .before .before .before .before .before .before .before .before .before .before .before .before .before .before .pre .0)
+add-done c = omega (arith, c .before .before .before .before .before .before .before .before .before .before .before .before .before .before .before .if1 .taken, c .before .before .before .before .before .before .before .before .before .before .before .before .before .before .before .before .before .before .before .before .pre .0 .0)
 
--- src/training.rt:112:5
 loop-less : tie.Need-loop-less Inv-loop μ-loop
-loop-less c = omega (arith, c .before .before .before .before .before .before .before .before .before .if1 .taken)
+loop-less c = omega (arith, c .before .before .before .before .before .before .before .before .before .before .before .before .before .before .before .if1 .taken)
 
--- src/training.rt:112:5
 loop-again : tie.Need-loop-again Inv-loop μ-loop
-loop-again c = (
-  omega (arith, c .before .before .before .before .before .before .before .before .before .if1 .taken),
-  c .before .before .before .before .before .before .train-axis .kept .0 ∙ (c .before .before .before .before .before .before .before .before .before .before .before .loop .inv) .1,
-  c .before .before .before .before .before .before .train-axis .kept .1 .0 ∙ (c .before .before .before .before .before .before .before .before .before .before .before .loop .inv) .2,
-  subst (λ (t : Memory). Asked (Cell (c .before .before .before .before .before .before .before .before .before .before .before .before .before .before .args .g .most)) (c .before .before .before .before .before .before .before .before .before .before .before .before .before .before .args .g .most) (drop ((c .before .before .before .before .before .before .before .before .before .before .before .loop .done) + 1) (take (c .before .before .before .before .before .before .before .before .before .before .before .before .before .before .args .g .axes) (c .before .before .before .before .before .before .before .before .before .before .before .before .before .before .args .t4))) ((c .before .before .before .before .before .before .before .before .before .before .before .loop .at) + (6 * (c .before .before .before .before .before .before .before .before .before .before .before .before .before .before .args .g .most) + 1)) ((c .before .before .before .before .before .before .before .before .before .before .before .loop .place) + (3 * (c .before .before .before .before .before .before .before .before .before .before .before .before .before .before .args .g .most) + 2)) t) (sym (c .before .before .before .before .before .before .train-axis .ensures ∙ ap (λ (i : ℕ). trainedAt (c .before .before .before .before .before .before .before .before .before .before .before .before .before .before .args .g .most) (c .before .before .before .before .before .before .before .before .before .before .before .before .before .before .args .v) (c .before .before .before .before .before .before .before .before .before .before .before .loop .at) (c .before .before .before .before .before .before .before .before .before .before .before .loop .place) i (memory (c .before .before .before .before .before .before .before .before .before .before .before .loop .reals) (c .before .before .before .before .before .before .before .before .before .before .before .loop .counts))) (sym (getD-take (c .before .before .before .before .before .before .before .before .before .before .before .before .before .before .args .g .axes) (c .before .before .before .before .before .before .before .before .before .before .before .before .before .before .args .t4) (c .before .before .before .before .before .before .before .before .before .before .before .loop .done) 0 (c .before .before .before .before .before .before .before .before .before .if1 .taken))))) (asked-left (c .before .before .before .before .before .before .before .before .before .before .before .before .before .before .args .g .most) (trainedAt (c .before .before .before .before .before .before .before .before .before .before .before .before .before .before .args .g .most) (c .before .before .before .before .before .before .before .before .before .before .before .before .before .before .args .v)) 0 (Cell (c .before .before .before .before .before .before .before .before .before .before .before .before .before .before .args .g .most)) (trained-local (c .before .before .before .before .before .before .before .before .before .before .before .before .before .before .args .g .most) (c .before .before .before .before .before .before .before .before .before .before .before .before .before .before .args .v)) (trained-frames (c .before .before .before .before .before .before .before .before .before .before .before .before .before .before .args .g .most) (c .before .before .before .before .before .before .before .before .before .before .before .before .before .before .args .v)) (take (c .before .before .before .before .before .before .before .before .before .before .before .before .before .before .args .g .axes) (c .before .before .before .before .before .before .before .before .before .before .before .before .before .before .args .t4)) (c .before .before .before .before .before .before .before .before .before .before .before .loop .done) (c .before .before .before .before .before .before .before .before .before .before .before .loop .at) (c .before .before .before .before .before .before .before .before .before .before .before .loop .place) (memory (c .before .before .before .before .before .before .before .before .before .before .before .loop .reals) (c .before .before .before .before .before .before .before .before .before .before .before .loop .counts)) (omega (arith, (c .before .before .before .before .before .before .before .before .before .before .before .before .before .before .pre .1 .1), c .before .before .before .before .before .before .before .before .before .if1 .taken)) ((c .before .before .before .before .before .before .before .before .before .before .before .loop .inv) .3)),
-  ap (λ (t : Memory). overAxes (trainedAt (c .before .before .before .before .before .before .before .before .before .before .before .before .before .before .args .g .most) (c .before .before .before .before .before .before .before .before .before .before .before .before .before .before .args .v)) (c .before .before .before .before .before .before .before .before .before .before .before .before .before .before .args .g .most) (drop ((c .before .before .before .before .before .before .before .before .before .before .before .loop .done) + 1) (take (c .before .before .before .before .before .before .before .before .before .before .before .before .before .before .args .g .axes) (c .before .before .before .before .before .before .before .before .before .before .before .before .before .before .args .t4))) ((c .before .before .before .before .before .before .before .before .before .before .before .loop .at) + (6 * (c .before .before .before .before .before .before .before .before .before .before .before .before .before .before .args .g .most) + 1)) ((c .before .before .before .before .before .before .before .before .before .before .before .loop .place) + (3 * (c .before .before .before .before .before .before .before .before .before .before .before .before .before .before .args .g .most) + 2)) t) (c .before .before .before .before .before .before .train-axis .ensures ∙ ap (λ (i : ℕ). trainedAt (c .before .before .before .before .before .before .before .before .before .before .before .before .before .before .args .g .most) (c .before .before .before .before .before .before .before .before .before .before .before .before .before .before .args .v) (c .before .before .before .before .before .before .before .before .before .before .before .loop .at) (c .before .before .before .before .before .before .before .before .before .before .before .loop .place) i (memory (c .before .before .before .before .before .before .before .before .before .before .before .loop .reals) (c .before .before .before .before .before .before .before .before .before .before .before .loop .counts))) (sym (getD-take (c .before .before .before .before .before .before .before .before .before .before .before .before .before .before .args .g .axes) (c .before .before .before .before .before .before .before .before .before .before .before .before .before .before .args .t4) (c .before .before .before .before .before .before .before .before .before .before .before .loop .done) 0 (c .before .before .before .before .before .before .before .before .before .if1 .taken)))) ∙ over-next (c .before .before .before .before .before .before .before .before .before .before .before .before .before .before .args .g .most) (trainedAt (c .before .before .before .before .before .before .before .before .before .before .before .before .before .before .args .g .most) (c .before .before .before .before .before .before .before .before .before .before .before .before .before .before .args .v)) 0 (take (c .before .before .before .before .before .before .before .before .before .before .before .before .before .before .args .g .axes) (c .before .before .before .before .before .before .before .before .before .before .before .before .before .before .args .t4)) (c .before .before .before .before .before .before .before .before .before .before .before .loop .done) (c .before .before .before .before .before .before .before .before .before .before .before .loop .at) (c .before .before .before .before .before .before .before .before .before .before .before .loop .place) (memory (c .before .before .before .before .before .before .before .before .before .before .before .loop .reals) (c .before .before .before .before .before .before .before .before .before .before .before .loop .counts)) (omega (arith, (c .before .before .before .before .before .before .before .before .before .before .before .before .before .before .pre .1 .1), c .before .before .before .before .before .before .before .before .before .if1 .taken)) ∙ (c .before .before .before .before .before .before .before .before .before .before .before .loop .inv) .4,
-)
+loop-again c =
+    let most = (c .before .before .before .before .before .before .before .before .before .before .before .before .before .before .before .before .before .before .before .before .args .g .most) in
+    let at = (c .before .before .before .before .before .before .before .before .before .before .before .before .before .before .before .before .before .loop .at) + (6 * most + 1) in
+    let place = (c .before .before .before .before .before .before .before .before .before .before .before .before .before .before .before .before .before .loop .place) + (3 * most + 2) in (
+      omega (arith, c .before .before .before .before .before .before .before .before .before .before .before .before .before .before .before .if1 .taken),
+      c .before .before .before .before .before .before .train-axis .kept .0 ∙ c .before .before .before .before .before .before .before .before .before .before .before .before .before .before .before .before .before .loop .inv .1,
+      c .before .before .before .before .before .before .train-axis .kept .1 .0 ∙ c .before .before .before .before .before .before .before .before .before .before .before .before .before .before .before .before .before .loop .inv .2,
+      subst (λ (t : Memory). Left most (c .before .before .before .before .before .before .before .before .before .before .before .before .before .before .before .before .before .before .before .before .args .g .axes) (c .before .before .before .before .before .before .before .before .before .before .before .before .before .before .before .before .before .before .before .before .args .xs .now) ((c .before .before .before .before .before .before .before .before .before .before .before .before .before .before .before .before .before .loop .done) + 1) at place t) (sym (c .before .before .before .before .before .before .train-axis .ensures)) (left-trained (c .before .before .before .before .before .before .before .before .before .before .before .before .before .before .before .before .before .before .before .before .args .g .most) (c .before .before .before .before .before .before .before .before .before .before .before .before .before .before .before .before .before .before .before .before .args .g .axes) (c .before .before .before .before .before .before .before .before .before .before .before .before .before .before .before .before .before .before .before .before .args .xs .now) (c .before .before .before .before .before .before .before .before .before .before .before .before .before .before .before .before .before .loop .done) (c .before .before .before .before .before .before .before .before .before .before .before .before .before .before .before .before .before .loop .at) (c .before .before .before .before .before .before .before .before .before .before .before .before .before .before .before .before .before .loop .place) (memory (c .before .before .before .before .before .before .before .before .before .before .before .before .before .before .before .before .before .loop .reals) (c .before .before .before .before .before .before .before .before .before .before .before .before .before .before .before .before .before .loop .counts)) (c .before .before .before .before .before .before .before .before .before .before .before .before .before .before .before .if1 .taken) (c .before .before .before .before .before .before .before .before .before .before .before .before .before .before .before .before .before .loop .inv .3) (c .before .before .before .before .before .before .before .before .before .bin-near .result) (c .before .before .before .before .before .before .before .before .before .bin-near .ensures) (c .before .before .before .before .before .before .before .before .before .before .before .before .before .before .before .before .before .before .before .before .args .v)),
+      ap (λ (t : Memory). overAxes (trainedAt most (c .before .before .before .before .before .before .before .before .before .before .before .before .before .before .before .before .before .before .before .before .args .v)) most (spotsLeft most (c .before .before .before .before .before .before .before .before .before .before .before .before .before .before .before .before .before .before .before .before .args .g .axes) (c .before .before .before .before .before .before .before .before .before .before .before .before .before .before .before .before .before .before .before .before .args .xs .now) ((c .before .before .before .before .before .before .before .before .before .before .before .before .before .before .before .before .before .loop .done) + 1) at place t) at place t) (c .before .before .before .before .before .before .train-axis .ensures)
+          ∙ trained-on (c .before .before .before .before .before .before .before .before .before .before .before .before .before .before .before .before .before .before .before .before .args .g .most) (c .before .before .before .before .before .before .before .before .before .before .before .before .before .before .before .before .before .before .before .before .args .g .axes) (c .before .before .before .before .before .before .before .before .before .before .before .before .before .before .before .before .before .before .before .before .args .xs .now) (c .before .before .before .before .before .before .before .before .before .before .before .before .before .before .before .before .before .loop .done) (c .before .before .before .before .before .before .before .before .before .before .before .before .before .before .before .before .before .loop .at) (c .before .before .before .before .before .before .before .before .before .before .before .before .before .before .before .before .before .loop .place) (memory (c .before .before .before .before .before .before .before .before .before .before .before .before .before .before .before .before .before .loop .reals) (c .before .before .before .before .before .before .before .before .before .before .before .before .before .before .before .before .before .loop .counts)) (c .before .before .before .before .before .before .before .before .before .before .before .before .before .before .before .if1 .taken) (c .before .before .before .before .before .before .before .before .before .before .before .before .before .before .before .before .before .loop .inv .3) (c .before .before .before .before .before .before .before .before .before .bin-near .result) (c .before .before .before .before .before .before .before .before .before .bin-near .ensures) (c .before .before .before .before .before .before .before .before .before .before .before .before .before .before .before .before .before .before .before .before .args .v) ∙ c .before .before .before .before .before .before .before .before .before .before .before .before .before .before .before .before .before .loop .inv .4,
+    )
 
--- src/training.rt:105:1
 same-length : tie.Need-same-length Inv-loop μ-loop
-same-length c = (c .before .before .loop .inv) .1
+same-length c = c .before .before .loop .inv .1
 
--- src/training.rt:105:1
 same-length-2 : tie.Need-same-length-2 Inv-loop μ-loop
-same-length-2 c = (c .before .before .loop .inv) .2
+same-length-2 c = c .before .before .loop .inv .2
 
--- src/training.rt:105:1
 returns : tie.Need-returns Inv-loop μ-loop
-returns c = sym (over-out (c .before .before .before .before .before .args .g .most) (trainedAt (c .before .before .before .before .before .args .g .most) (c .before .before .before .before .before .args .v)) 0 (take (c .before .before .before .before .before .args .g .axes) (c .before .before .before .before .before .args .t4)) (c .before .before .loop .done) (c .before .before .loop .at) (c .before .before .loop .place) (memory (c .before .before .loop .reals) (c .before .before .loop .counts)) (omega (arith, (c .before .before .before .before .before .pre .1 .1), c .if1 .left))) ∙ (c .before .before .loop .inv) .4
+returns c =
+    sym (trained-none (c .before .before .before .before .before .args .g .most) (c .before .before .before .before .before .args .g .axes) (c .before .before .before .before .before .args .xs .now) (c .before .before .loop .done) (c .before .before .loop .at) (c .before .before .loop .place) (memory (c .before .before .loop .reals) (c .before .before .loop .counts)) (c .before .before .before .before .before .args .v) (omega (arith, c .if1 .left))) ∙ c .before .before .loop .inv .4
+    ∙ ap (λ (is : List ℕ). overAxes (trainedAt (c .before .before .before .before .before .args .g .most) (c .before .before .before .before .before .args .v)) (c .before .before .before .before .before .args .g .most) is (c .before .before .before .before .before .args .g .reals) (c .before .before .before .before .before .args .g .counts) (memory (c .before .before .before .before .before .args .reals .now) (c .before .before .before .before .before .args .counts .now))) (spots-all (c .before .before .before .before .before .args .g .most) (c .before .before .before .before .before .args .g .axes) (c .before .before .before .before .before .args .xs .now) (c .before .before .before .before .before .args .g .reals) (c .before .before .before .before .before .args .g .counts) (memory (c .before .before .before .before .before .args .reals .now) (c .before .before .before .before .before .args .counts .now)))
 
 pub train-axes-spec : {M : Type 1} → statement M
 train-axes-spec =
@@ -98,8 +126,19 @@ train-axes-spec =
     Inv-loop
     μ-loop
     loop-holds
-    mul-train-axis
-    array-read-train-axis
+    mul-held
+    slice-read-held
+    add-end
+    add-end-2
+    mul-bin-near
+    sub-bin-near
+    part-bin-near-start
+    part-bin-near-end
+    mul-bin-near-2
+    element-copy-out-bin-near
+    mul-bin-near-3
+    element-copy-out-bin-near-2
+    bin-near-requires
     train-axis-requires
     mul-at
     add-at

@@ -1,0 +1,145 @@
+-- The bins that are left to judge, with what was found before.
+use mathlib.Core.Path.{_≡_, refl, sym, ap, _∙_}
+use mathlib.Core.Bool.{Bool, _&&_}
+use mathlib.Core.List.{List}
+use Prim.Native.Nat.{ℕ, _+_, _-_, _*_, _≤_}
+use native.Mathlib.Omega.{arith}
+use lib.ListN.{getD}
+use Rattle.grid.specs.Memory.{memory}
+use Rattle.grid.specs.Trained.{cellsFit}
+use Rattle.grid.proofs.Standing.{next}
+use Rattle.grid.proofs.Draws.{asked-part}
+use Rattle.grid.proofs.Spots.{spotsLeft, Left, spots-all, left-all, unit-here, cell-here, left-judged, fits-on, fits-none}
+use Rattle.grid.proofs.training.axes_fit.Statement.{statement}
+use Rattle.grid.proofs.training.axes_fit.Tie as tie
+use Rattle.grid.proofs.training.axes_fit.Reads as reads
+use Rattle.grid.proofs.training.axes_fit.Lts as lts
+use Rattle.grid.proofs.training.bin_near.Reads as bin-near-reads
+use Rattle.grid.proofs.training.cell_fits.Reads as cell-fits-reads
+
+abbrev Inv-loop : tie.InvT-loop
+Inv-loop reals counts g xs near v ok₀ at₀ place₀ done₀ ok at place done =
+    (done ≤ g .axes) × Left (g .most) (g .axes) xs done at place (memory reals counts)
+    × ((ok && cellsFit (g .most) v (spotsLeft (g .most) (g .axes) xs done at place (memory reals counts)) at place (memory reals counts))
+    ≡ cellsFit (g .most) v (spotsLeft (g .most) (g .axes) xs 0 (g .reals) (g .counts) (memory reals counts)) (g .reals) (g .counts) (memory reals counts))
+
+abbrev μ-loop : tie.MeasureT-loop
+μ-loop reals counts g xs near v ok₀ at₀ place₀ done₀ ok at place done = g .axes - done
+
+loop-holds : tie.Need-loop-holds Inv-loop μ-loop
+loop-holds c = (omega arith, left-all (c .before .before .args .g .most) (c .before .before .args .g .axes) (c .before .before .args .xs .now) (c .before .before .args .g .reals) (c .before .before .args .g .counts) (memory (c .before .before .args .reals .now) (c .before .before .args .counts .now)) (c .before .before .pre .0 .2) (c .before .before .pre .1) (c .before .before .pre .2), refl)
+
+mul-held : tie.Need-mul-held Inv-loop μ-loop
+mul-held c = let n = next (c .before .before .before .before .before .args .g .most) (c .before .before .before .before .before .args .reals .now) (c .before .before .before .before .before .args .counts .now) (c .before .before .before .before .before .args .g .axes) (c .before .before .loop .done) (c .before .before .loop .at) (c .before .before .loop .place) (c .if1 .taken) (c .before .before .loop .inv .1 .standing) in omega arith
+
+shared-slice-read-held : tie.Need-shared-slice-read-held Inv-loop μ-loop
+shared-slice-read-held c = let n = next (c .before .before .before .before .before .before .args .g .most) (c .before .before .before .before .before .before .args .reals .now) (c .before .before .before .before .before .before .args .counts .now) (c .before .before .before .before .before .before .args .g .axes) (c .before .before .before .loop .done) (c .before .before .before .loop .at) (c .before .before .before .loop .place) (c .before .if1 .taken) (c .before .before .before .loop .inv .1 .standing) in omega arith
+
+add-end : tie.Need-add-end Inv-loop μ-loop
+add-end c = let n = next (c .before .before .before .before .before .before .args .g .most) (c .before .before .before .before .before .before .args .reals .now) (c .before .before .before .before .before .before .args .counts .now) (c .before .before .before .before .before .before .args .g .axes) (c .before .before .before .loop .done) (c .before .before .before .loop .at) (c .before .before .before .loop .place) (c .before .if1 .taken) (c .before .before .before .loop .inv .1 .standing) in omega arith
+
+add-end-2 : tie.Need-add-end-2 Inv-loop μ-loop
+add-end-2 c = let n = next (c .before .before .before .before .before .before .args .g .most) (c .before .before .before .before .before .before .args .reals .now) (c .before .before .before .before .before .before .args .counts .now) (c .before .before .before .before .before .before .args .g .axes) (c .before .before .before .loop .done) (c .before .before .before .loop .at) (c .before .before .before .loop .place) (c .before .if1 .taken) (c .before .before .before .loop .inv .1 .standing) in omega arith
+
+mul-bin-near : tie.Need-mul-bin-near Inv-loop μ-loop
+mul-bin-near c = let n = next (c .before .before .before .before .before .before .args .g .most) (c .before .before .before .before .before .before .args .reals .now) (c .before .before .before .before .before .before .args .counts .now) (c .before .before .before .before .before .before .args .g .axes) (c .before .before .before .loop .done) (c .before .before .before .loop .at) (c .before .before .before .loop .place) (c .before .if1 .taken) (c .before .before .before .loop .inv .1 .standing) in omega arith
+
+sub-bin-near : tie.Need-sub-bin-near Inv-loop μ-loop
+sub-bin-near c = let n = next (c .before .before .before .before .before .before .args .g .most) (c .before .before .before .before .before .before .args .reals .now) (c .before .before .before .before .before .before .args .counts .now) (c .before .before .before .before .before .before .args .g .axes) (c .before .before .before .loop .done) (c .before .before .before .loop .at) (c .before .before .before .loop .place) (c .before .if1 .taken) (c .before .before .before .loop .inv .1 .standing) in omega arith
+
+part-bin-near-start : tie.Need-part-bin-near-start Inv-loop μ-loop
+part-bin-near-start c = let n = next (c .before .before .before .before .before .before .args .g .most) (c .before .before .before .before .before .before .args .reals .now) (c .before .before .before .before .before .before .args .counts .now) (c .before .before .before .before .before .before .args .g .axes) (c .before .before .before .loop .done) (c .before .before .before .loop .at) (c .before .before .before .loop .place) (c .before .if1 .taken) (c .before .before .before .loop .inv .1 .standing) in omega arith
+
+part-bin-near-end : tie.Need-part-bin-near-end Inv-loop μ-loop
+part-bin-near-end c = let n = next (c .before .before .before .before .before .before .args .g .most) (c .before .before .before .before .before .before .args .reals .now) (c .before .before .before .before .before .before .args .counts .now) (c .before .before .before .before .before .before .args .g .axes) (c .before .before .before .loop .done) (c .before .before .before .loop .at) (c .before .before .before .loop .place) (c .before .if1 .taken) (c .before .before .before .loop .inv .1 .standing) in omega arith
+
+mul-bin-near-2 : tie.Need-mul-bin-near-2 Inv-loop μ-loop
+mul-bin-near-2 c = omega (arith, c .before .before .if1 .taken, c .before .before .before .before .before .before .before .pre .0 .0)
+
+element-copy-out-bin-near : tie.Need-element-copy-out-bin-near Inv-loop μ-loop
+element-copy-out-bin-near c = omega (arith, c .before .before .if1 .taken, c .before .before .before .before .before .before .before .pre .0 .0)
+
+mul-bin-near-3 : tie.Need-mul-bin-near-3 Inv-loop μ-loop
+mul-bin-near-3 c = omega (arith, c .before .before .before .if1 .taken, c .before .before .before .before .before .before .before .before .pre .0 .0)
+
+element-copy-out-bin-near-2 : tie.Need-element-copy-out-bin-near-2 Inv-loop μ-loop
+element-copy-out-bin-near-2 c = omega (arith, c .before .before .before .if1 .taken, c .before .before .before .before .before .before .before .before .pre .0 .0)
+
+bin-near-requires : tie.Need-bin-near-requires Inv-loop μ-loop
+bin-near-requires c κs = let n = next (c .before .before .before .before .before .before .before .before .before .args .g .most) (c .before .before .before .before .before .before .before .before .before .args .reals .now) (c .before .before .before .before .before .before .before .before .before .args .counts .now) (c .before .before .before .before .before .before .before .before .before .args .g .axes) (c .before .before .before .before .before .before .loop .done) (c .before .before .before .before .before .before .loop .at) (c .before .before .before .before .before .before .loop .place) (c .before .before .before .before .if1 .taken) (c .before .before .before .before .before .before .loop .inv .1 .standing) in
+    (asked-part (c .before .before .before .before .before .before .loop .at) (getD (c .before .before .before .before .before .before .before .before .before .args .counts .now) (c .before .before .before .before .before .before .loop .place) 0) (c .before .before .before .before .before .before .before .before .before .args .reals .now) (n .edges), unit-here (c .before .before .before .before .before .before .before .before .before .args .g .most) (c .before .before .before .before .before .before .before .before .before .args .g .axes) (c .before .before .before .before .before .before .before .before .before .args .xs .now) (c .before .before .before .before .before .before .loop .done) (c .before .before .before .before .before .before .loop .at) (c .before .before .before .before .before .before .loop .place) (memory (c .before .before .before .before .before .before .before .before .before .args .reals .now) (c .before .before .before .before .before .before .before .before .before .args .counts .now)) (c .before .before .before .before .if1 .taken) (c .before .before .before .before .before .before .loop .inv .1))
+
+cell-fits-requires : tie.Need-cell-fits-requires Inv-loop μ-loop
+cell-fits-requires c κs = (c .before .before .before .before .before .before .before .before .before .before .pre .0 .1, cell-here (c .before .before .before .before .before .before .before .before .before .before .args .g .most) (c .before .before .before .before .before .before .before .before .before .before .args .g .axes) (c .before .before .before .before .before .before .before .before .before .before .args .xs .now) (c .before .before .before .before .before .before .before .loop .done) (c .before .before .before .before .before .before .before .loop .at) (c .before .before .before .before .before .before .before .loop .place) (memory (c .before .before .before .before .before .before .before .before .before .before .args .reals .now) (c .before .before .before .before .before .before .before .before .before .before .args .counts .now)) (c .before .before .before .before .before .if1 .taken) (c .before .before .before .before .before .before .before .loop .inv .1) (c .bin-near .result) (c .bin-near .ensures))
+
+mul-at : tie.Need-mul-at Inv-loop μ-loop
+mul-at c = let n = next (c .before .before .before .before .before .before .before .before .before .before .before .before .args .g .most) (c .before .before .before .before .before .before .before .before .before .before .before .before .args .reals .now) (c .before .before .before .before .before .before .before .before .before .before .before .before .args .counts .now) (c .before .before .before .before .before .before .before .before .before .before .before .before .args .g .axes) (c .before .before .before .before .before .before .before .before .before .loop .done) (c .before .before .before .before .before .before .before .before .before .loop .at) (c .before .before .before .before .before .before .before .before .before .loop .place) (c .before .before .before .before .before .before .before .if1 .taken) (c .before .before .before .before .before .before .before .before .before .loop .inv .1 .standing) in omega arith
+
+add-at : tie.Need-add-at Inv-loop μ-loop
+add-at c = let n = next (c .before .before .before .before .before .before .before .before .before .before .before .before .args .g .most) (c .before .before .before .before .before .before .before .before .before .before .before .before .args .reals .now) (c .before .before .before .before .before .before .before .before .before .before .before .before .args .counts .now) (c .before .before .before .before .before .before .before .before .before .before .before .before .args .g .axes) (c .before .before .before .before .before .before .before .before .before .loop .done) (c .before .before .before .before .before .before .before .before .before .loop .at) (c .before .before .before .before .before .before .before .before .before .loop .place) (c .before .before .before .before .before .before .before .if1 .taken) (c .before .before .before .before .before .before .before .before .before .loop .inv .1 .standing) in omega arith
+
+add-at-2 : tie.Need-add-at-2 Inv-loop μ-loop
+add-at-2 c = let n = next (c .before .before .before .before .before .before .before .before .before .before .before .before .args .g .most) (c .before .before .before .before .before .before .before .before .before .before .before .before .args .reals .now) (c .before .before .before .before .before .before .before .before .before .before .before .before .args .counts .now) (c .before .before .before .before .before .before .before .before .before .before .before .before .args .g .axes) (c .before .before .before .before .before .before .before .before .before .loop .done) (c .before .before .before .before .before .before .before .before .before .loop .at) (c .before .before .before .before .before .before .before .before .before .loop .place) (c .before .before .before .before .before .before .before .if1 .taken) (c .before .before .before .before .before .before .before .before .before .loop .inv .1 .standing) in omega arith
+
+mul-place : tie.Need-mul-place Inv-loop μ-loop
+mul-place c = let n = next (c .before .before .before .before .before .before .before .before .before .before .before .before .before .args .g .most) (c .before .before .before .before .before .before .before .before .before .before .before .before .before .args .reals .now) (c .before .before .before .before .before .before .before .before .before .before .before .before .before .args .counts .now) (c .before .before .before .before .before .before .before .before .before .before .before .before .before .args .g .axes) (c .before .before .before .before .before .before .before .before .before .before .loop .done) (c .before .before .before .before .before .before .before .before .before .before .loop .at) (c .before .before .before .before .before .before .before .before .before .before .loop .place) (c .before .before .before .before .before .before .before .before .if1 .taken) (c .before .before .before .before .before .before .before .before .before .before .loop .inv .1 .standing) in omega arith
+
+add-place : tie.Need-add-place Inv-loop μ-loop
+add-place c = let n = next (c .before .before .before .before .before .before .before .before .before .before .before .before .before .args .g .most) (c .before .before .before .before .before .before .before .before .before .before .before .before .before .args .reals .now) (c .before .before .before .before .before .before .before .before .before .before .before .before .before .args .counts .now) (c .before .before .before .before .before .before .before .before .before .before .before .before .before .args .g .axes) (c .before .before .before .before .before .before .before .before .before .before .loop .done) (c .before .before .before .before .before .before .before .before .before .before .loop .at) (c .before .before .before .before .before .before .before .before .before .before .loop .place) (c .before .before .before .before .before .before .before .before .if1 .taken) (c .before .before .before .before .before .before .before .before .before .before .loop .inv .1 .standing) in omega arith
+
+add-place-2 : tie.Need-add-place-2 Inv-loop μ-loop
+add-place-2 c = let n = next (c .before .before .before .before .before .before .before .before .before .before .before .before .before .args .g .most) (c .before .before .before .before .before .before .before .before .before .before .before .before .before .args .reals .now) (c .before .before .before .before .before .before .before .before .before .before .before .before .before .args .counts .now) (c .before .before .before .before .before .before .before .before .before .before .before .before .before .args .g .axes) (c .before .before .before .before .before .before .before .before .before .before .loop .done) (c .before .before .before .before .before .before .before .before .before .before .loop .at) (c .before .before .before .before .before .before .before .before .before .before .loop .place) (c .before .before .before .before .before .before .before .before .if1 .taken) (c .before .before .before .before .before .before .before .before .before .before .loop .inv .1 .standing) in omega arith
+
+add-done : tie.Need-add-done Inv-loop μ-loop
+add-done c = omega (arith, c .before .before .before .before .before .before .before .before .if1 .taken, c .before .before .before .before .before .before .before .before .before .before .before .before .before .pre .0 .0)
+
+loop-less : tie.Need-loop-less Inv-loop μ-loop
+loop-less c = omega (arith, c .before .before .before .before .before .before .before .before .if1 .taken)
+
+loop-again : tie.Need-loop-again Inv-loop μ-loop
+loop-again c =
+    let most = (c .before .before .before .before .before .before .before .before .before .before .before .before .before .args .g .most) in
+    let at = (c .before .before .before .before .before .before .before .before .before .before .loop .at) + (6 * most + 1) in
+    let place = (c .before .before .before .before .before .before .before .before .before .before .loop .place) + (3 * most + 2) in (
+      omega (arith, c .before .before .before .before .before .before .before .before .if1 .taken),
+      left-judged (c .before .before .before .before .before .before .before .before .before .before .before .before .before .args .g .most) (c .before .before .before .before .before .before .before .before .before .before .before .before .before .args .g .axes) (c .before .before .before .before .before .before .before .before .before .before .before .before .before .args .xs .now) (c .before .before .before .before .before .before .before .before .before .before .loop .done) (c .before .before .before .before .before .before .before .before .before .before .loop .at) (c .before .before .before .before .before .before .before .before .before .before .loop .place) (memory (c .before .before .before .before .before .before .before .before .before .before .before .before .before .args .reals .now) (c .before .before .before .before .before .before .before .before .before .before .before .before .before .args .counts .now)) (c .before .before .before .before .before .before .before .before .if1 .taken) (c .before .before .before .before .before .before .before .before .before .before .loop .inv .1) (c .before .before .before .bin-near .result) (c .before .before .before .bin-near .ensures),
+      ap (λ (b : Bool). ((c .before .before .before .before .before .before .before .before .before .before .loop .ok) && b) && cellsFit most (c .before .before .before .before .before .before .before .before .before .before .before .before .before .args .v) (spotsLeft most (c .before .before .before .before .before .before .before .before .before .before .before .before .before .args .g .axes) (c .before .before .before .before .before .before .before .before .before .before .before .before .before .args .xs .now) ((c .before .before .before .before .before .before .before .before .before .before .loop .done) + 1) at place (memory (c .before .before .before .before .before .before .before .before .before .before .before .before .before .args .reals .now) (c .before .before .before .before .before .before .before .before .before .before .before .before .before .args .counts .now))) at place (memory (c .before .before .before .before .before .before .before .before .before .before .before .before .before .args .reals .now) (c .before .before .before .before .before .before .before .before .before .before .before .before .before .args .counts .now))) (c .before .before .cell-fits .ensures)
+          ∙ fits-on (c .before .before .before .before .before .before .before .before .before .before .before .before .before .args .g .most) (c .before .before .before .before .before .before .before .before .before .before .before .before .before .args .g .axes) (c .before .before .before .before .before .before .before .before .before .before .before .before .before .args .xs .now) (c .before .before .before .before .before .before .before .before .before .before .loop .done) (c .before .before .before .before .before .before .before .before .before .before .loop .at) (c .before .before .before .before .before .before .before .before .before .before .loop .place) (memory (c .before .before .before .before .before .before .before .before .before .before .before .before .before .args .reals .now) (c .before .before .before .before .before .before .before .before .before .before .before .before .before .args .counts .now)) (c .before .before .before .before .before .before .before .before .if1 .taken) (c .before .before .before .before .before .before .before .before .before .before .loop .inv .1) (c .before .before .before .bin-near .result) (c .before .before .before .bin-near .ensures) (c .before .before .before .before .before .before .before .before .before .before .before .before .before .args .v) (c .before .before .before .before .before .before .before .before .before .before .loop .ok) ∙ c .before .before .before .before .before .before .before .before .before .before .loop .inv .2,
+    )
+
+returns : tie.Need-returns Inv-loop μ-loop
+returns c =
+    sym (fits-none (c .before .before .before .before .before .args .g .most) (c .before .before .before .before .before .args .g .axes) (c .before .before .before .before .before .args .xs .now) (c .before .before .loop .done) (c .before .before .loop .at) (c .before .before .loop .place) (memory (c .before .before .before .before .before .args .reals .now) (c .before .before .before .before .before .args .counts .now)) (c .before .before .before .before .before .args .v) (c .before .before .loop .ok) (omega (arith, c .if1 .left))) ∙ c .before .before .loop .inv .2
+    ∙ ap (λ (is : List ℕ). cellsFit (c .before .before .before .before .before .args .g .most) (c .before .before .before .before .before .args .v) is (c .before .before .before .before .before .args .g .reals) (c .before .before .before .before .before .args .g .counts) (memory (c .before .before .before .before .before .args .reals .now) (c .before .before .before .before .before .args .counts .now))) (spots-all (c .before .before .before .before .before .args .g .most) (c .before .before .before .before .before .args .g .axes) (c .before .before .before .before .before .args .xs .now) (c .before .before .before .before .before .args .g .reals) (c .before .before .before .before .before .args .g .counts) (memory (c .before .before .before .before .before .args .reals .now) (c .before .before .before .before .before .args .counts .now)))
+
+pub axes-fit-spec : {M : Type 1} → statement M
+axes-fit-spec =
+    tie.close
+    (tie.spec
+    Inv-loop
+    μ-loop
+    loop-holds
+    mul-held
+    shared-slice-read-held
+    add-end
+    add-end-2
+    mul-bin-near
+    sub-bin-near
+    part-bin-near-start
+    part-bin-near-end
+    mul-bin-near-2
+    element-copy-out-bin-near
+    mul-bin-near-3
+    element-copy-out-bin-near-2
+    bin-near-requires
+    cell-fits-requires
+    mul-at
+    add-at
+    add-at-2
+    mul-place
+    add-place
+    add-place-2
+    add-done
+    loop-less
+    loop-again
+    returns)
