@@ -2,6 +2,7 @@
 pub mod Layout
 pub mod Memory
 pub mod Drawn
+pub mod Selected
 pub mod Onward
 pub mod Laid
 pub mod Merged

@@ -7,6 +7,7 @@ ghost use Rattle.real.specs.Numbers.{one64};
 ghost use Rattle.axis.specs.Edges.{wellFormed, inUnit};
 ghost use Rattle.model.specs.Draw.{placeOn, walked, placedFrom, flooredOf};
 ghost use Rattle.grid.specs.Drawn.{axesAt, Places, underFloor, Stands};
+ghost use Rattle.grid.specs.Selected.{Selects};
 use axis::Point;
 use axis::Spot;
 use stream::MonteCarloRng;
@@ -15,6 +16,12 @@ use stream::MonteCarloRng;
 pub struct Walked {
     pub weight: f64,
     pub stream: MonteCarloRng,
+}
+
+// Whether sampling is even, and the stream that it starts from.
+struct Choice {
+    evenly: bool,
+    stream: MonteCarloRng,
 }
 
 // An axes grid's plan in numbers, and where its axes' reals and counts begin: each axis has room for `most` bins.
@@ -86,27 +93,28 @@ fn walk_axes(
     Walked { weight, stream }
 }
 
-// The walk that the floor selects: 0 and 1 draw no choice word; between, a draw below the floor is for even sampling.
-fn place_axes(
-    reals: &[f64],
-    counts: &[u64],
-    g: AxesAt,
-    start: MonteCarloRng,
-    coordinates: &mut [f64; 8],
-    near: &mut [usize; 8],
-) -> Walked
-    requires { ⌜ Stands (now reals) (now counts) g × (length (now coordinates) ≡ 8) ⌝ }
-    ensures { λ w. ⌜ Places (g .axes) (placedFrom (g .floor) (axesAt (now (reals .entry)) (now (counts .entry)) g) start) w (now (coordinates .entry)) (now (coordinates .exit)) ⌝ }
+// Which sampling a floor selects, and the stream for it: 0 and 1 draw no choice word; between, a draw below the floor is for even sampling.
+fn choose(floor: f64, start: MonteCarloRng) -> Choice
+    ensures { λ c. ⌜ Selects floor start (c .evenly) (c .stream) ⌝ }
 {
-    if g.floor == 0.0 {
-        return walk_axes(reals, counts, g, false, start, coordinates, near);
+    if floor == 0.0 {
+        return Choice {
+            evenly: false,
+            stream: start,
+        };
     }
-    if g.floor == 1.0 {
-        return walk_axes(reals, counts, g, true, start, coordinates, near);
+    if floor == 1.0 {
+        return Choice {
+            evenly: true,
+            stream: start,
+        };
     }
-    let choice = start.unit();
-    let evenly = choice.value < g.floor;
-    walk_axes(reals, counts, g, evenly, choice.stream, coordinates, near)
+    let unit = start.unit();
+    let stream = unit.stream;
+    Choice {
+        evenly: unit.value < floor,
+        stream,
+    }
 }
 
 // The weight under a floor.
@@ -137,7 +145,9 @@ pub fn draw_axes(
     requires { ⌜ Stands (now reals) (now counts) g × (length (now coordinates) ≡ 8) ⌝ }
     ensures { λ w. ⌜ Places (g .axes) (underFloor (g .floor) (placedFrom (g .floor) (axesAt (now (reals .entry)) (now (counts .entry)) g) start)) w (now (coordinates .entry)) (now (coordinates .exit)) ⌝ }
 {
-    let mut walked = place_axes(reals, counts, g, start, coordinates, near);
+    let choice = choose(g.floor, start);
+    let stream = choice.stream;
+    let mut walked = walk_axes(reals, counts, g, choice.evenly, stream, coordinates, near);
     walked.weight = floored(g.floor, walked.weight);
     walked
 }

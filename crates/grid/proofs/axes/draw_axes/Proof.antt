@@ -9,7 +9,8 @@ use Rattle.grid.proofs.axes.draw_axes.Tie as tie
 use Rattle.grid.proofs.axes.draw_axes.Reads as reads
 use Rattle.grid.proofs.axes.draw_axes.Lts as lts
 use Rattle.grid.proofs.axes.floored.Reads as floored-reads
-use Rattle.grid.proofs.axes.place_axes.Reads as place-axes-reads
+use Rattle.grid.proofs.axes.choose.Reads as choose-reads
+use Rattle.grid.proofs.axes.walk_axes.Reads as walk-axes-reads
 
 -- src/axes.rt:126:9
 place-axes-requires : tie.Need-place-axes-requires
