@@ -27,31 +27,65 @@ abbrev μ-loop : tie.MeasureT-loop
 μ-loop reals counts g xs near v ok₀ at₀ place₀ done₀ ok at place done = g .axes - done
 
 loop-holds : tie.Need-loop-holds Inv-loop μ-loop
-loop-holds c = (omega arith, left-all (c .before .before .args .g .most) (c .before .before .args .g .axes) (c .before .before .args .xs .now) (c .before .before .args .g .reals) (c .before .before .args .g .counts) (memory (c .before .before .args .reals .now) (c .before .before .args .counts .now)) (c .before .before .pre .0 .2) (c .before .before .pre .1) (c .before .before .pre .2), refl)
+loop-holds c =
+    let o = c .before .before in
+    (omega arith, left-all (o .args .g .most) (o .args .g .axes) (o .args .xs .now) (o .args .g .reals) (o .args .g .counts) (memory (o .args .reals .now) (o .args .counts .now)) (o .pre .0 .2) (o .pre .1) (o .pre .2), refl)
 
 mul-held : tie.Need-mul-held Inv-loop μ-loop
-mul-held c = let n = next (c .before .before .before .before .before .args .g .most) (c .before .before .before .before .before .args .reals .now) (c .before .before .before .before .before .args .counts .now) (c .before .before .before .before .before .args .g .axes) (c .before .before .loop .done) (c .before .before .loop .at) (c .before .before .loop .place) (c .if1 .taken) (c .before .before .loop .inv .1 .standing) in omega arith
+mul-held c =
+    let o = c .before .before .before .before .before in
+    let l = c .before .before .loop in
+    let n = next (o .args .g .most) (o .args .reals .now) (o .args .counts .now) (o .args .g .axes) (l .done) (l .at) (l .place) (c .if1 .taken) (l .inv .1 .standing) in
+    omega arith
 
 shared-slice-read-held : tie.Need-shared-slice-read-held Inv-loop μ-loop
-shared-slice-read-held c = let n = next (c .before .before .before .before .before .before .args .g .most) (c .before .before .before .before .before .before .args .reals .now) (c .before .before .before .before .before .before .args .counts .now) (c .before .before .before .before .before .before .args .g .axes) (c .before .before .before .loop .done) (c .before .before .before .loop .at) (c .before .before .before .loop .place) (c .before .if1 .taken) (c .before .before .before .loop .inv .1 .standing) in omega arith
+shared-slice-read-held c =
+    let o = c .before .before .before .before .before .before in
+    let l = c .before .before .before .loop in
+    let n = next (o .args .g .most) (o .args .reals .now) (o .args .counts .now) (o .args .g .axes) (l .done) (l .at) (l .place) (c .before .if1 .taken) (l .inv .1 .standing) in
+    omega arith
 
 add-end : tie.Need-add-end Inv-loop μ-loop
-add-end c = let n = next (c .before .before .before .before .before .before .args .g .most) (c .before .before .before .before .before .before .args .reals .now) (c .before .before .before .before .before .before .args .counts .now) (c .before .before .before .before .before .before .args .g .axes) (c .before .before .before .loop .done) (c .before .before .before .loop .at) (c .before .before .before .loop .place) (c .before .if1 .taken) (c .before .before .before .loop .inv .1 .standing) in omega arith
+add-end c =
+    let o = c .before .before .before .before .before .before in
+    let l = c .before .before .before .loop in
+    let n = next (o .args .g .most) (o .args .reals .now) (o .args .counts .now) (o .args .g .axes) (l .done) (l .at) (l .place) (c .before .if1 .taken) (l .inv .1 .standing) in
+    omega arith
 
 add-end-2 : tie.Need-add-end-2 Inv-loop μ-loop
-add-end-2 c = let n = next (c .before .before .before .before .before .before .args .g .most) (c .before .before .before .before .before .before .args .reals .now) (c .before .before .before .before .before .before .args .counts .now) (c .before .before .before .before .before .before .args .g .axes) (c .before .before .before .loop .done) (c .before .before .before .loop .at) (c .before .before .before .loop .place) (c .before .if1 .taken) (c .before .before .before .loop .inv .1 .standing) in omega arith
+add-end-2 c =
+    let o = c .before .before .before .before .before .before in
+    let l = c .before .before .before .loop in
+    let n = next (o .args .g .most) (o .args .reals .now) (o .args .counts .now) (o .args .g .axes) (l .done) (l .at) (l .place) (c .before .if1 .taken) (l .inv .1 .standing) in
+    omega arith
 
 mul-bin-near : tie.Need-mul-bin-near Inv-loop μ-loop
-mul-bin-near c = let n = next (c .before .before .before .before .before .before .args .g .most) (c .before .before .before .before .before .before .args .reals .now) (c .before .before .before .before .before .before .args .counts .now) (c .before .before .before .before .before .before .args .g .axes) (c .before .before .before .loop .done) (c .before .before .before .loop .at) (c .before .before .before .loop .place) (c .before .if1 .taken) (c .before .before .before .loop .inv .1 .standing) in omega arith
+mul-bin-near c =
+    let o = c .before .before .before .before .before .before in
+    let l = c .before .before .before .loop in
+    let n = next (o .args .g .most) (o .args .reals .now) (o .args .counts .now) (o .args .g .axes) (l .done) (l .at) (l .place) (c .before .if1 .taken) (l .inv .1 .standing) in
+    omega arith
 
 sub-bin-near : tie.Need-sub-bin-near Inv-loop μ-loop
-sub-bin-near c = let n = next (c .before .before .before .before .before .before .args .g .most) (c .before .before .before .before .before .before .args .reals .now) (c .before .before .before .before .before .before .args .counts .now) (c .before .before .before .before .before .before .args .g .axes) (c .before .before .before .loop .done) (c .before .before .before .loop .at) (c .before .before .before .loop .place) (c .before .if1 .taken) (c .before .before .before .loop .inv .1 .standing) in omega arith
+sub-bin-near c =
+    let o = c .before .before .before .before .before .before in
+    let l = c .before .before .before .loop in
+    let n = next (o .args .g .most) (o .args .reals .now) (o .args .counts .now) (o .args .g .axes) (l .done) (l .at) (l .place) (c .before .if1 .taken) (l .inv .1 .standing) in
+    omega arith
 
 part-bin-near-start : tie.Need-part-bin-near-start Inv-loop μ-loop
-part-bin-near-start c = let n = next (c .before .before .before .before .before .before .args .g .most) (c .before .before .before .before .before .before .args .reals .now) (c .before .before .before .before .before .before .args .counts .now) (c .before .before .before .before .before .before .args .g .axes) (c .before .before .before .loop .done) (c .before .before .before .loop .at) (c .before .before .before .loop .place) (c .before .if1 .taken) (c .before .before .before .loop .inv .1 .standing) in omega arith
+part-bin-near-start c =
+    let o = c .before .before .before .before .before .before in
+    let l = c .before .before .before .loop in
+    let n = next (o .args .g .most) (o .args .reals .now) (o .args .counts .now) (o .args .g .axes) (l .done) (l .at) (l .place) (c .before .if1 .taken) (l .inv .1 .standing) in
+    omega arith
 
 part-bin-near-end : tie.Need-part-bin-near-end Inv-loop μ-loop
-part-bin-near-end c = let n = next (c .before .before .before .before .before .before .args .g .most) (c .before .before .before .before .before .before .args .reals .now) (c .before .before .before .before .before .before .args .counts .now) (c .before .before .before .before .before .before .args .g .axes) (c .before .before .before .loop .done) (c .before .before .before .loop .at) (c .before .before .before .loop .place) (c .before .if1 .taken) (c .before .before .before .loop .inv .1 .standing) in omega arith
+part-bin-near-end c =
+    let o = c .before .before .before .before .before .before in
+    let l = c .before .before .before .loop in
+    let n = next (o .args .g .most) (o .args .reals .now) (o .args .counts .now) (o .args .g .axes) (l .done) (l .at) (l .place) (c .before .if1 .taken) (l .inv .1 .standing) in
+    omega arith
 
 mul-bin-near-2 : tie.Need-mul-bin-near-2 Inv-loop μ-loop
 mul-bin-near-2 c = omega (arith, c .before .before .if1 .taken, c .before .before .before .before .before .before .before .pre .0 .0)
@@ -66,29 +100,59 @@ element-copy-out-bin-near-2 : tie.Need-element-copy-out-bin-near-2 Inv-loop μ-l
 element-copy-out-bin-near-2 c = omega (arith, c .before .before .before .if1 .taken, c .before .before .before .before .before .before .before .before .pre .0 .0)
 
 bin-near-requires : tie.Need-bin-near-requires Inv-loop μ-loop
-bin-near-requires c κs = let n = next (c .before .before .before .before .before .before .before .before .before .args .g .most) (c .before .before .before .before .before .before .before .before .before .args .reals .now) (c .before .before .before .before .before .before .before .before .before .args .counts .now) (c .before .before .before .before .before .before .before .before .before .args .g .axes) (c .before .before .before .before .before .before .loop .done) (c .before .before .before .before .before .before .loop .at) (c .before .before .before .before .before .before .loop .place) (c .before .before .before .before .if1 .taken) (c .before .before .before .before .before .before .loop .inv .1 .standing) in
-    (asked-part (c .before .before .before .before .before .before .loop .at) (getD (c .before .before .before .before .before .before .before .before .before .args .counts .now) (c .before .before .before .before .before .before .loop .place) 0) (c .before .before .before .before .before .before .before .before .before .args .reals .now) (n .edges), unit-here (c .before .before .before .before .before .before .before .before .before .args .g .most) (c .before .before .before .before .before .before .before .before .before .args .g .axes) (c .before .before .before .before .before .before .before .before .before .args .xs .now) (c .before .before .before .before .before .before .loop .done) (c .before .before .before .before .before .before .loop .at) (c .before .before .before .before .before .before .loop .place) (memory (c .before .before .before .before .before .before .before .before .before .args .reals .now) (c .before .before .before .before .before .before .before .before .before .args .counts .now)) (c .before .before .before .before .if1 .taken) (c .before .before .before .before .before .before .loop .inv .1))
+bin-near-requires c κs =
+    let o = c .before .before .before .before .before .before .before .before .before in
+    let l = c .before .before .before .before .before .before .loop in
+    let n = next (o .args .g .most) (o .args .reals .now) (o .args .counts .now) (o .args .g .axes) (l .done) (l .at) (l .place) (c .before .before .before .before .if1 .taken) (l .inv .1 .standing) in
+    (asked-part (l .at) (getD (o .args .counts .now) (l .place) 0) (o .args .reals .now) (n .edges), unit-here (o .args .g .most) (o .args .g .axes) (o .args .xs .now) (l .done) (l .at) (l .place) (memory (o .args .reals .now) (o .args .counts .now)) (c .before .before .before .before .if1 .taken) (l .inv .1))
 
 cell-fits-requires : tie.Need-cell-fits-requires Inv-loop μ-loop
-cell-fits-requires c κs = (c .before .before .before .before .before .before .before .before .before .before .pre .0 .1, cell-here (c .before .before .before .before .before .before .before .before .before .before .args .g .most) (c .before .before .before .before .before .before .before .before .before .before .args .g .axes) (c .before .before .before .before .before .before .before .before .before .before .args .xs .now) (c .before .before .before .before .before .before .before .loop .done) (c .before .before .before .before .before .before .before .loop .at) (c .before .before .before .before .before .before .before .loop .place) (memory (c .before .before .before .before .before .before .before .before .before .before .args .reals .now) (c .before .before .before .before .before .before .before .before .before .before .args .counts .now)) (c .before .before .before .before .before .if1 .taken) (c .before .before .before .before .before .before .before .loop .inv .1) (c .bin-near .result) (c .bin-near .ensures))
+cell-fits-requires c κs =
+    let o = c .before .before .before .before .before .before .before .before .before .before in
+    let l = c .before .before .before .before .before .before .before .loop in
+    (o .pre .0 .1, cell-here (o .args .g .most) (o .args .g .axes) (o .args .xs .now) (l .done) (l .at) (l .place) (memory (o .args .reals .now) (o .args .counts .now)) (c .before .before .before .before .before .if1 .taken) (l .inv .1) (c .bin-near .result) (c .bin-near .ensures))
 
 mul-at : tie.Need-mul-at Inv-loop μ-loop
-mul-at c = let n = next (c .before .before .before .before .before .before .before .before .before .before .before .before .args .g .most) (c .before .before .before .before .before .before .before .before .before .before .before .before .args .reals .now) (c .before .before .before .before .before .before .before .before .before .before .before .before .args .counts .now) (c .before .before .before .before .before .before .before .before .before .before .before .before .args .g .axes) (c .before .before .before .before .before .before .before .before .before .loop .done) (c .before .before .before .before .before .before .before .before .before .loop .at) (c .before .before .before .before .before .before .before .before .before .loop .place) (c .before .before .before .before .before .before .before .if1 .taken) (c .before .before .before .before .before .before .before .before .before .loop .inv .1 .standing) in omega arith
+mul-at c =
+    let o = c .before .before .before .before .before .before .before .before .before .before .before .before in
+    let l = c .before .before .before .before .before .before .before .before .before .loop in
+    let n = next (o .args .g .most) (o .args .reals .now) (o .args .counts .now) (o .args .g .axes) (l .done) (l .at) (l .place) (c .before .before .before .before .before .before .before .if1 .taken) (l .inv .1 .standing) in
+    omega arith
 
 add-at : tie.Need-add-at Inv-loop μ-loop
-add-at c = let n = next (c .before .before .before .before .before .before .before .before .before .before .before .before .args .g .most) (c .before .before .before .before .before .before .before .before .before .before .before .before .args .reals .now) (c .before .before .before .before .before .before .before .before .before .before .before .before .args .counts .now) (c .before .before .before .before .before .before .before .before .before .before .before .before .args .g .axes) (c .before .before .before .before .before .before .before .before .before .loop .done) (c .before .before .before .before .before .before .before .before .before .loop .at) (c .before .before .before .before .before .before .before .before .before .loop .place) (c .before .before .before .before .before .before .before .if1 .taken) (c .before .before .before .before .before .before .before .before .before .loop .inv .1 .standing) in omega arith
+add-at c =
+    let o = c .before .before .before .before .before .before .before .before .before .before .before .before in
+    let l = c .before .before .before .before .before .before .before .before .before .loop in
+    let n = next (o .args .g .most) (o .args .reals .now) (o .args .counts .now) (o .args .g .axes) (l .done) (l .at) (l .place) (c .before .before .before .before .before .before .before .if1 .taken) (l .inv .1 .standing) in
+    omega arith
 
 add-at-2 : tie.Need-add-at-2 Inv-loop μ-loop
-add-at-2 c = let n = next (c .before .before .before .before .before .before .before .before .before .before .before .before .args .g .most) (c .before .before .before .before .before .before .before .before .before .before .before .before .args .reals .now) (c .before .before .before .before .before .before .before .before .before .before .before .before .args .counts .now) (c .before .before .before .before .before .before .before .before .before .before .before .before .args .g .axes) (c .before .before .before .before .before .before .before .before .before .loop .done) (c .before .before .before .before .before .before .before .before .before .loop .at) (c .before .before .before .before .before .before .before .before .before .loop .place) (c .before .before .before .before .before .before .before .if1 .taken) (c .before .before .before .before .before .before .before .before .before .loop .inv .1 .standing) in omega arith
+add-at-2 c =
+    let o = c .before .before .before .before .before .before .before .before .before .before .before .before in
+    let l = c .before .before .before .before .before .before .before .before .before .loop in
+    let n = next (o .args .g .most) (o .args .reals .now) (o .args .counts .now) (o .args .g .axes) (l .done) (l .at) (l .place) (c .before .before .before .before .before .before .before .if1 .taken) (l .inv .1 .standing) in
+    omega arith
 
 mul-place : tie.Need-mul-place Inv-loop μ-loop
-mul-place c = let n = next (c .before .before .before .before .before .before .before .before .before .before .before .before .before .args .g .most) (c .before .before .before .before .before .before .before .before .before .before .before .before .before .args .reals .now) (c .before .before .before .before .before .before .before .before .before .before .before .before .before .args .counts .now) (c .before .before .before .before .before .before .before .before .before .before .before .before .before .args .g .axes) (c .before .before .before .before .before .before .before .before .before .before .loop .done) (c .before .before .before .before .before .before .before .before .before .before .loop .at) (c .before .before .before .before .before .before .before .before .before .before .loop .place) (c .before .before .before .before .before .before .before .before .if1 .taken) (c .before .before .before .before .before .before .before .before .before .before .loop .inv .1 .standing) in omega arith
+mul-place c =
+    let o = c .before .before .before .before .before .before .before .before .before .before .before .before .before in
+    let l = c .before .before .before .before .before .before .before .before .before .before .loop in
+    let n = next (o .args .g .most) (o .args .reals .now) (o .args .counts .now) (o .args .g .axes) (l .done) (l .at) (l .place) (c .before .before .before .before .before .before .before .before .if1 .taken) (l .inv .1 .standing) in
+    omega arith
 
 add-place : tie.Need-add-place Inv-loop μ-loop
-add-place c = let n = next (c .before .before .before .before .before .before .before .before .before .before .before .before .before .args .g .most) (c .before .before .before .before .before .before .before .before .before .before .before .before .before .args .reals .now) (c .before .before .before .before .before .before .before .before .before .before .before .before .before .args .counts .now) (c .before .before .before .before .before .before .before .before .before .before .before .before .before .args .g .axes) (c .before .before .before .before .before .before .before .before .before .before .loop .done) (c .before .before .before .before .before .before .before .before .before .before .loop .at) (c .before .before .before .before .before .before .before .before .before .before .loop .place) (c .before .before .before .before .before .before .before .before .if1 .taken) (c .before .before .before .before .before .before .before .before .before .before .loop .inv .1 .standing) in omega arith
+add-place c =
+    let o = c .before .before .before .before .before .before .before .before .before .before .before .before .before in
+    let l = c .before .before .before .before .before .before .before .before .before .before .loop in
+    let n = next (o .args .g .most) (o .args .reals .now) (o .args .counts .now) (o .args .g .axes) (l .done) (l .at) (l .place) (c .before .before .before .before .before .before .before .before .if1 .taken) (l .inv .1 .standing) in
+    omega arith
 
 add-place-2 : tie.Need-add-place-2 Inv-loop μ-loop
-add-place-2 c = let n = next (c .before .before .before .before .before .before .before .before .before .before .before .before .before .args .g .most) (c .before .before .before .before .before .before .before .before .before .before .before .before .before .args .reals .now) (c .before .before .before .before .before .before .before .before .before .before .before .before .before .args .counts .now) (c .before .before .before .before .before .before .before .before .before .before .before .before .before .args .g .axes) (c .before .before .before .before .before .before .before .before .before .before .loop .done) (c .before .before .before .before .before .before .before .before .before .before .loop .at) (c .before .before .before .before .before .before .before .before .before .before .loop .place) (c .before .before .before .before .before .before .before .before .if1 .taken) (c .before .before .before .before .before .before .before .before .before .before .loop .inv .1 .standing) in omega arith
+add-place-2 c =
+    let o = c .before .before .before .before .before .before .before .before .before .before .before .before .before in
+    let l = c .before .before .before .before .before .before .before .before .before .before .loop in
+    let n = next (o .args .g .most) (o .args .reals .now) (o .args .counts .now) (o .args .g .axes) (l .done) (l .at) (l .place) (c .before .before .before .before .before .before .before .before .if1 .taken) (l .inv .1 .standing) in
+    omega arith
 
 add-done : tie.Need-add-done Inv-loop μ-loop
 add-done c = omega (arith, c .before .before .before .before .before .before .before .before .if1 .taken, c .before .before .before .before .before .before .before .before .before .before .before .before .before .pre .0 .0)
@@ -98,19 +162,23 @@ loop-less c = omega (arith, c .before .before .before .before .before .before .b
 
 loop-again : tie.Need-loop-again Inv-loop μ-loop
 loop-again c =
-    let most = (c .before .before .before .before .before .before .before .before .before .before .before .before .before .args .g .most) in
-    let at = (c .before .before .before .before .before .before .before .before .before .before .loop .at) + (6 * most + 1) in
-    let place = (c .before .before .before .before .before .before .before .before .before .before .loop .place) + (3 * most + 2) in (
+    let o = c .before .before .before .before .before .before .before .before .before .before .before .before .before in
+    let l = c .before .before .before .before .before .before .before .before .before .before .loop in
+    let most = (o .args .g .most) in
+    let at = (l .at) + (6 * most + 1) in
+    let place = (l .place) + (3 * most + 2) in (
       omega (arith, c .before .before .before .before .before .before .before .before .if1 .taken),
-      left-judged (c .before .before .before .before .before .before .before .before .before .before .before .before .before .args .g .most) (c .before .before .before .before .before .before .before .before .before .before .before .before .before .args .g .axes) (c .before .before .before .before .before .before .before .before .before .before .before .before .before .args .xs .now) (c .before .before .before .before .before .before .before .before .before .before .loop .done) (c .before .before .before .before .before .before .before .before .before .before .loop .at) (c .before .before .before .before .before .before .before .before .before .before .loop .place) (memory (c .before .before .before .before .before .before .before .before .before .before .before .before .before .args .reals .now) (c .before .before .before .before .before .before .before .before .before .before .before .before .before .args .counts .now)) (c .before .before .before .before .before .before .before .before .if1 .taken) (c .before .before .before .before .before .before .before .before .before .before .loop .inv .1) (c .before .before .before .bin-near .result) (c .before .before .before .bin-near .ensures),
-      ap (λ (b : Bool). ((c .before .before .before .before .before .before .before .before .before .before .loop .ok) && b) && cellsFit most (c .before .before .before .before .before .before .before .before .before .before .before .before .before .args .v) (spotsLeft most (c .before .before .before .before .before .before .before .before .before .before .before .before .before .args .g .axes) (c .before .before .before .before .before .before .before .before .before .before .before .before .before .args .xs .now) ((c .before .before .before .before .before .before .before .before .before .before .loop .done) + 1) at place (memory (c .before .before .before .before .before .before .before .before .before .before .before .before .before .args .reals .now) (c .before .before .before .before .before .before .before .before .before .before .before .before .before .args .counts .now))) at place (memory (c .before .before .before .before .before .before .before .before .before .before .before .before .before .args .reals .now) (c .before .before .before .before .before .before .before .before .before .before .before .before .before .args .counts .now))) (c .before .before .cell-fits .ensures)
-          ∙ fits-on (c .before .before .before .before .before .before .before .before .before .before .before .before .before .args .g .most) (c .before .before .before .before .before .before .before .before .before .before .before .before .before .args .g .axes) (c .before .before .before .before .before .before .before .before .before .before .before .before .before .args .xs .now) (c .before .before .before .before .before .before .before .before .before .before .loop .done) (c .before .before .before .before .before .before .before .before .before .before .loop .at) (c .before .before .before .before .before .before .before .before .before .before .loop .place) (memory (c .before .before .before .before .before .before .before .before .before .before .before .before .before .args .reals .now) (c .before .before .before .before .before .before .before .before .before .before .before .before .before .args .counts .now)) (c .before .before .before .before .before .before .before .before .if1 .taken) (c .before .before .before .before .before .before .before .before .before .before .loop .inv .1) (c .before .before .before .bin-near .result) (c .before .before .before .bin-near .ensures) (c .before .before .before .before .before .before .before .before .before .before .before .before .before .args .v) (c .before .before .before .before .before .before .before .before .before .before .loop .ok) ∙ c .before .before .before .before .before .before .before .before .before .before .loop .inv .2,
+      left-judged (o .args .g .most) (o .args .g .axes) (o .args .xs .now) (l .done) (l .at) (l .place) (memory (o .args .reals .now) (o .args .counts .now)) (c .before .before .before .before .before .before .before .before .if1 .taken) (l .inv .1) (c .before .before .before .bin-near .result) (c .before .before .before .bin-near .ensures),
+      ap (λ (b : Bool). ((l .ok) && b) && cellsFit most (o .args .v) (spotsLeft most (o .args .g .axes) (o .args .xs .now) ((l .done) + 1) at place (memory (o .args .reals .now) (o .args .counts .now))) at place (memory (o .args .reals .now) (o .args .counts .now))) (c .before .before .cell-fits .ensures)
+          ∙ fits-on (o .args .g .most) (o .args .g .axes) (o .args .xs .now) (l .done) (l .at) (l .place) (memory (o .args .reals .now) (o .args .counts .now)) (c .before .before .before .before .before .before .before .before .if1 .taken) (l .inv .1) (c .before .before .before .bin-near .result) (c .before .before .before .bin-near .ensures) (o .args .v) (l .ok) ∙ l .inv .2,
     )
 
 returns : tie.Need-returns Inv-loop μ-loop
 returns c =
-    sym (fits-none (c .before .before .before .before .before .args .g .most) (c .before .before .before .before .before .args .g .axes) (c .before .before .before .before .before .args .xs .now) (c .before .before .loop .done) (c .before .before .loop .at) (c .before .before .loop .place) (memory (c .before .before .before .before .before .args .reals .now) (c .before .before .before .before .before .args .counts .now)) (c .before .before .before .before .before .args .v) (c .before .before .loop .ok) (omega (arith, c .if1 .left))) ∙ c .before .before .loop .inv .2
-    ∙ ap (λ (is : List ℕ). cellsFit (c .before .before .before .before .before .args .g .most) (c .before .before .before .before .before .args .v) is (c .before .before .before .before .before .args .g .reals) (c .before .before .before .before .before .args .g .counts) (memory (c .before .before .before .before .before .args .reals .now) (c .before .before .before .before .before .args .counts .now))) (spots-all (c .before .before .before .before .before .args .g .most) (c .before .before .before .before .before .args .g .axes) (c .before .before .before .before .before .args .xs .now) (c .before .before .before .before .before .args .g .reals) (c .before .before .before .before .before .args .g .counts) (memory (c .before .before .before .before .before .args .reals .now) (c .before .before .before .before .before .args .counts .now)))
+    let o = c .before .before .before .before .before in
+    let l = c .before .before .loop in
+    sym (fits-none (o .args .g .most) (o .args .g .axes) (o .args .xs .now) (l .done) (l .at) (l .place) (memory (o .args .reals .now) (o .args .counts .now)) (o .args .v) (l .ok) (omega (arith, c .if1 .left))) ∙ l .inv .2
+    ∙ ap (λ (is : List ℕ). cellsFit (o .args .g .most) (o .args .v) is (o .args .g .reals) (o .args .g .counts) (memory (o .args .reals .now) (o .args .counts .now))) (spots-all (o .args .g .most) (o .args .g .axes) (o .args .xs .now) (o .args .g .reals) (o .args .g .counts) (memory (o .args .reals .now) (o .args .counts .now)))
 
 pub axes-fit-spec : {M : Type 1} → statement M
 axes-fit-spec =
