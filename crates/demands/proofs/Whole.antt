@@ -1,47 +1,29 @@
 -- A drawn sample as the struct loses nothing: what the struct says is the model's sample, with its path, its weights and its coordinates.
-use mathlib.Core.Path.{_≡_, refl, sym, ap, _∙_, subst}
+use mathlib.Core.Path.{_≡_, sym, ap, _∙_, subst}
 use mathlib.Core.Logic.{inl, inr}
-use mathlib.Core.Bool.{Bool, true, false, cond}
-use mathlib.Core.List.{List, [], _∷_, _++_}
+use mathlib.Core.List.{List}
 use Prim.Native.Nat.{ℕ, zero, suc, _+_, _-_, _≤_, _<_}
 use native.Mathlib.Omega.{arith}
 use borrow.Author.Tests.{ne-eqb}
-use lib.ListN.{length, getD, take, replicate, length-append, length-replicate}
-use lib.Seq.{length-take-le}
-use lib.Ieee.{Float, nan, lt, eq}
-use Rattle.real.specs.Numbers.{zero64, one64}
+use lib.ListN.{length, getD}
+use lib.Ieee.{Float, lt, eq}
 use Rattle.stream.specs.declared.MonteCarloRng.{MonteCarloRng}
 use Rattle.stream.specs.Xoshiro.{stepOf}
 use Rattle.plan.proofs.Tables.{Words}
-use Rattle.model.specs.Axes.{Axis}
 use Rattle.model.specs.Grid.{Grid, axes, bins}
-use Rattle.model.specs.Draw.{Sample, unitAt, walked, placedFrom, placedOf, drawAxes, drawNothing, drawGrid, drawBin, drawChild}
+use Rattle.model.proofs.Drawn.{placed-size}
+use Rattle.model.specs.Draw.{placedOf, drawAxes, drawNothing, drawGrid, drawBin, drawChild}
 use Rattle.grid.specs.Memory.{Memory}
-use Rattle.grid.specs.Drawn.{padded}
-use Rattle.grid.specs.Sampled.{entries, sampleOf, laidSample, laidDrawing, Short}
+use Rattle.grid.specs.Sampled.{sampleOf, laidDrawing, Short}
 use Rattle.grid.specs.Tree.{axesPlace, axesGridAt, headAt, childIn, binsIn, gridAt, AxesLaid, Laid}
 use Rattle.grid.specs.State.{rootOf, stateFault}
 use Rattle.grid.proofs.Reading.{length-axes}
 use Rattle.grid.proofs.Sounds.{node-axes, node-bins}
 use Rattle.grid.proofs.Samples.{shorter}
-use Rattle.grid.proofs.Trains.{entries-take}
 use Rattle.grid.proofs.States.{clear}
+use Rattle.grid.proofs.Drawable.{sample-back}
 
 -- ---- as many coordinates as axes
-
-walked-size : (evenly : Bool) (axs : List Axis) (w : Float) (s : MonteCarloRng) → length (walked evenly axs w s .coordinates) ≡ length axs
-unfolding walked
-walked-size evenly [] w s = refl
-walked-size evenly (a ∷ axs) w s = ap suc (walked-size evenly axs _ (stepOf s))
-
-placed-size : (f : Float) (axs : List Axis) (s : MonteCarloRng) → length (placedFrom f axs s .coordinates) ≡ length axs
-unfolding placedFrom
-placed-size f axs s = pick (eq f zero64) (eq f one64)
-  where
-    pick : (b c : Bool) → length ((cond b (walked false axs one64 s) (cond c (walked true axs one64 s) (walked (lt (unitAt s) f) axs one64 (stepOf s)))) .coordinates) ≡ length axs
-    pick true c = walked-size false axs one64 s
-    pick false true = walked-size true axs one64 s
-    pick false false = walked-size (lt (unitAt s) f) axs one64 (stepOf s)
 
 axes-short : (table : List ℕ) (reals : List Float) (counts : List ℕ) (R C w : ℕ) → AxesLaid table R C w → (s : MonteCarloRng) → Short 0 (drawGrid (axes (axesGridAt table reals counts w)) s .sample)
 unfolding drawGrid drawAxes placedOf axesGridAt axesPlace
@@ -87,23 +69,6 @@ draw-short (suc l) table reals counts R C w (inr b) s =
     subst (λ (g : Grid). Short (suc l) (drawGrid g s .sample))
     (sym (node-bins (suc l) table reals counts w z (omega arith) ∙ ap (λ (n : ℕ). bins (headAt table reals counts w) (binsIn (gridAt n table reals counts) table reals counts w 0 (getD table (w + 2) 0))) same))
     (bin-short l (gridAt l table reals counts) table reals counts w (getD table (w + 2) 0) 0 _ _ (stepOf s) hung)
-
--- ---- the struct and back
-
-front-padded : {A : Type 0} (xs : List A) (n : ℕ) (ys : List A) → length xs ≤ n → take (length xs) (take n (xs ++ ys)) ≡ xs
-front-padded {A} [] n ys h = refl
-front-padded {A} (x ∷ xs) zero ys h = absurd (omega arith)
-front-padded {A} (x ∷ xs) (suc n) ys h = ap (λ (l : List A). x ∷ l) (front-padded xs n ys (omega arith))
-
-entries-back : {A : Type 0} (d z : A) (n : ℕ) (xs : List A) → length xs ≤ n → entries d (padded n z xs) 0 (length xs) ≡ xs
-unfolding padded
-entries-back d z n xs h =
-    let long : n ≤ length (xs ++ replicate n z) = omega (arith, length-append xs (replicate n z), length-replicate n z) in
-    entries-take d (take n (xs ++ replicate n z)) (length xs) (omega (arith, length-take-le n (xs ++ replicate n z) long)) ∙ front-padded xs n (replicate n z) h
-
-pub sample-back : (m : Sample) → Short 4 m → sampleOf (laidSample m) ≡ m
-unfolding sampleOf laidSample
-sample-back m h = rw (entries-back 0 0 4 (m .path) (h .levels), entries-back nan zero64 5 (m .weights) (omega (arith, h .given)), entries-back nan zero64 8 (m .coordinates) (h .axes))
 
 -- of a state that nothing stands against, what a draw gives as the struct is what the model draws
 pub draw-whole : (table : List ℕ) (m : Memory) (s : MonteCarloRng) → Words table → stateFault table (m .reals) (m .counts) ≡ 0

@@ -1,25 +1,32 @@
 -- What is drawn from a well-formed grid in lent memory has the grid's form: its run gives every axis at most 1,024 bins, and every bins grid one
--- at least.
-use mathlib.Core.Path.{_≡_, sym, ap, _∙_, subst}
+-- at least. And as a struct it loses nothing.
+use mathlib.Core.Path.{_≡_, refl, sym, ap, _∙_, subst}
 use mathlib.Core.Logic.{inl, inr}
 use mathlib.Core.Bool.{true}
-use mathlib.Core.List.{List, _∷_}
+use mathlib.Core.List.{List, [], _∷_, _++_}
 use Prim.Native.Nat.{ℕ, zero, suc, _+_, _-_, _≤_, _<_}
 use native.Mathlib.Omega.{arith}
 use borrow.Author.Tests.{ne-eqb}
-use lib.ListN.{getD}
-use lib.Ieee.{Float}
+use lib.ListN.{length, getD, take, replicate, length-append, length-replicate}
+use lib.Seq.{length-take-le}
+use lib.Ieee.{Float, nan}
+use Rattle.real.specs.Numbers.{zero64}
 use Rattle.plan.specs.Numbers.{wordsAt}
 use Rattle.stream.specs.declared.MonteCarloRng.{MonteCarloRng}
 use Rattle.model.specs.Grid.{Grid, bins}
 use Rattle.model.specs.Sound.{sound}
-use Rattle.model.specs.Draw.{drawGrid}
+use Rattle.model.specs.Draw.{Sample, drawGrid}
 use Rattle.model.specs.Train.{faultOf}
 use Rattle.model.proofs.Drawn.{FewBins, Sized, SizedBins, SizedChild, drawn-formed}
+use Rattle.grid.specs.Drawn.{padded}
+use Rattle.grid.specs.Sampled.{entries, sampleOf, laidSample, Short}
+use Rattle.grid.specs.State.{rootOf}
+use Rattle.grid.specs.Absorbed.{formOf}
 use Rattle.grid.specs.Tree.{axesPlanAt, axesGridAt, headAt, childIn, binsIn, gridAt, AxesLaid, Laid}
 use Rattle.grid.proofs.Judges.{listed-upto}
 use Rattle.grid.proofs.Sounds.{numbers-upto, node-axes, node-bins}
 use Rattle.grid.proofs.Paths.{many-bins}
+use Rattle.grid.proofs.Trains.{entries-take}
 
 plan-few : (table : List ℕ) (R C w : ℕ) → AxesLaid table R C w → FewBins (axesPlanAt table w)
 unfolding FewBins axesPlanAt
@@ -57,3 +64,32 @@ pub laid-drawn : (l : ℕ) (table : List ℕ) (reals : List Float) (counts : Lis
     → faultOf (gridAt l table reals counts w) (drawGrid (gridAt l table reals counts w) s .sample .path) (drawGrid (gridAt l table reals counts w) s .sample .weights)
     (drawGrid (gridAt l table reals counts w) s .sample .coordinates) ≡ 0
 laid-drawn l table reals counts R C w s a well = drawn-formed (gridAt l table reals counts w) s well (laid-sized l table reals counts R C w a)
+
+-- ---- the struct and back
+
+front-padded : {A : Type 0} (xs : List A) (n : ℕ) (ys : List A) → length xs ≤ n → take (length xs) (take n (xs ++ ys)) ≡ xs
+front-padded {A} [] n ys h = refl
+front-padded {A} (x ∷ xs) zero ys h = absurd (omega arith)
+front-padded {A} (x ∷ xs) (suc n) ys h = ap (λ (l : List A). x ∷ l) (front-padded xs n ys (omega arith))
+
+entries-back : {A : Type 0} (d z : A) (n : ℕ) (xs : List A) → length xs ≤ n → entries d (padded n z xs) 0 (length xs) ≡ xs
+unfolding padded
+entries-back d z n xs h =
+    let long : n ≤ length (xs ++ replicate n z) = omega (arith, length-append xs (replicate n z), length-replicate n z) in
+    entries-take d (take n (xs ++ replicate n z)) (length xs) (omega (arith, length-take-le n (xs ++ replicate n z) long)) ∙ front-padded xs n (replicate n z) h
+
+pub sample-back : (m : Sample) → Short 4 m → sampleOf (laidSample m) ≡ m
+unfolding sampleOf laidSample
+sample-back m h = rw (entries-back 0 0 4 (m .path) (h .levels), entries-back nan zero64 5 (m .weights) (omega (arith, h .given)), entries-back nan zero64 8 (m .coordinates) (h .axes))
+
+-- a drawn sample as the struct has the form of the grid that it was drawn from
+pub form-laid : (table : List ℕ) (reals : List Float) (counts : List ℕ) (R C : ℕ) (s : MonteCarloRng) → Laid 4 table R C 0 → sound (rootOf table reals counts) ≡ true
+    → Short 4 (drawGrid (rootOf table reals counts) s .sample) → formOf (rootOf table reals counts) (laidSample (drawGrid (rootOf table reals counts) s .sample)) ≡ 0
+unfolding sampleOf
+form-laid table reals counts R C s a well short =
+    let g = rootOf table reals counts in
+    let m = drawGrid g s .sample in
+    let t = laidSample m in
+    let p : t .levels - 0 ≡ t .levels = omega arith in
+    let w : t .given - 0 ≡ t .given = omega arith in
+    rw (p, w) (ap (λ (x : Sample). faultOf g (x .path) (x .weights) (x .coordinates)) (sample-back m short) ∙ laid-drawn 4 table reals counts R C 0 s a well)

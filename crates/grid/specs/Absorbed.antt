@@ -31,6 +31,10 @@ weightsLeft s d = entries nan (s .weights) d (s .given - d)
 abbrev pub placesIn : Sample → List Float
 placesIn s = entries nan (s .coordinates) 0 (s .axes)
 
+-- the fault of its form at the root: 0 where it has the grid's
+abbrev pub formOf : Grid → Sample → ℕ
+formOf g s = faultOf g (pathLeft s 0) (weightsLeft s 0) (placesIn s)
+
 -- ---- a grid takes a sample: it is well formed, the sample has its form, and the sample's number is one
 
 pub record Takes (g : Grid) (s : Sample) (d n : ℕ) : Type 0 where

@@ -10,7 +10,7 @@ ghost use Rattle.grid.specs.State.{rootOf};
 ghost use Rattle.grid.specs.Memory.{memory};
 ghost use Rattle.grid.specs.Tree.{axesGridAt, headAt, childIn, binsIn, gridAt, AxesLaid, BinsLaid, Laid};
 ghost use Rattle.grid.specs.Sampled.{sampleIn, sampleOf, ChildLaid};
-ghost use Rattle.grid.specs.Absorbed.{Takes, TakesChild, absorbedAxes, absorbedChild, absorbedBins, absorbed, objectionOf, admitted};
+ghost use Rattle.grid.specs.Absorbed.{formOf, Takes, TakesChild, absorbedAxes, absorbedChild, absorbedBins, absorbed, objectionOf, admitted};
 use crate::acceptance;
 use crate::adding;
 use crate::layout;
@@ -201,7 +201,7 @@ pub fn absorb_grid(
     );
 }
 
-// Takes a sample into a well-formed state where nothing stands against it: 0, or what does.
+// Takes a sample into a well-formed state where nothing stands against it: 0, or what does. Its form was judged, or is known.
 pub fn admit(
     table: &[u64],
     reals: &mut [f64],
@@ -215,8 +215,10 @@ pub fn admit(
     levels: usize,
     weighed: usize,
     many: usize,
+    form: u64,
 ) -> u64
-    requires { ⌜ Laid 4 (now table) (length (now reals)) (length (now counts)) 0 × (sound (rootOf (now table) (now reals) (now counts)) ≡ true) ⌝ }
+    requires { ⌜ Laid 4 (now table) (length (now reals)) (length (now counts)) 0 × (sound (rootOf (now table) (now reals) (now counts)) ≡ true)
+        × (form ≡ formOf (rootOf (now table) (now reals) (now counts)) (sampleIn (now path) levels (now weights) weighed (now coordinates) many)) ⌝ }
     ensures { λ n. ⌜ (n ≡ objectionOf (trainOf (rootOf (now (table .entry)) (now (reals .entry)) (now (counts .entry))) (sampleOf (sampleIn (now (path .entry)) levels (now (weights .entry)) weighed (now (coordinates .entry)) many)) evaluation number))
         × (memory (now (reals .exit)) (now (counts .exit)) ≡ admitted n (now (table .entry)) (sampleIn (now (path .entry)) levels (now (weights .entry)) weighed (now (coordinates .entry)) many) evaluation number (memory (now (reals .entry)) (now (counts .entry)))) ⌝ }
 {
@@ -233,6 +235,7 @@ pub fn admit(
         levels,
         weighed,
         many,
+        form,
     );
     if refused != 0 {
         return refused;

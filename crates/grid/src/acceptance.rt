@@ -9,9 +9,8 @@ ghost use Rattle.model.specs.Train.{trainGrid, trainChild, trainOf};
 ghost use Rattle.grid.specs.Tree.{axesGridAt, headAt, childIn, binsIn, gridAt, AxesLaid, BinsLaid, Laid};
 ghost use Rattle.grid.specs.Sampled.{sampleIn, sampleOf, ChildLaid};
 ghost use Rattle.grid.specs.State.{rootOf};
-ghost use Rattle.grid.specs.Absorbed.{pathLeft, weightsLeft, placesIn, Takes, TakesChild, objectionOf};
+ghost use Rattle.grid.specs.Absorbed.{pathLeft, weightsLeft, placesIn, formOf, Takes, TakesChild, objectionOf};
 use crate::adding;
-use crate::forms;
 use crate::layout;
 use crate::training;
 
@@ -200,7 +199,7 @@ pub fn grid_accepts(
     )
 }
 
-// What stands against a sample on a well-formed state: 3; its form, 4, 5 or 6; 7; 8; else 0.
+// What stands against a sample on a well-formed state: 3; its form's fault, 4, 5 or 6; 7; 8; else 0.
 pub fn objection(
     table: &[u64],
     reals: &[f64],
@@ -214,8 +213,10 @@ pub fn objection(
     levels: usize,
     weighed: usize,
     many: usize,
+    form: u64,
 ) -> u64
-    requires { ⌜ Laid 4 (now table) (length (now reals)) (length (now counts)) 0 × (sound (rootOf (now table) (now reals) (now counts)) ≡ true) ⌝ }
+    requires { ⌜ Laid 4 (now table) (length (now reals)) (length (now counts)) 0 × (sound (rootOf (now table) (now reals) (now counts)) ≡ true)
+        × (form ≡ formOf (rootOf (now table) (now reals) (now counts)) (sampleIn (now path) levels (now weights) weighed (now coordinates) many)) ⌝ }
     ensures { λ n. ⌜ n ≡ objectionOf (trainOf (rootOf (now (table .entry)) (now (reals .entry)) (now (counts .entry))) (sampleOf (sampleIn (now (path .entry)) levels (now (weights .entry)) weighed (now (coordinates .entry)) many)) evaluation number) ⌝ }
 {
     if number == 0 {
@@ -224,20 +225,6 @@ pub fn objection(
     if 9007199254740992 < number {
         return 3;
     }
-    let form = forms::grid_fault(
-        table,
-        reals,
-        counts,
-        4,
-        0,
-        path,
-        weights,
-        coordinates,
-        0,
-        levels,
-        weighed,
-        many,
-    );
     if form != 0 {
         return form;
     }

@@ -14,7 +14,7 @@ pub struct Stepped {
     pub stream: MonteCarloRng,
 }
 
-// Draws a sample and trains it. Refused, nothing is written and the stream is the one before the draw.
+// Draws a sample and trains it: what is drawn has the grid's form. Refused, nothing is written and the stream is the one before the draw.
 fn step(
     table: &[u64],
     reals: &mut [f64],
@@ -57,6 +57,7 @@ fn step(
         drawn.levels,
         drawn.given,
         drawn.axes,
+        0,
     );
     if refused != 0 {
         return Stepped {

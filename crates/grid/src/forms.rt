@@ -8,6 +8,9 @@ ghost use Rattle.model.specs.Grid.{bins};
 ghost use Rattle.grid.specs.Tree.{childIn, headAt, binsIn, gridAt, BinsLaid, Laid};
 ghost use Rattle.grid.specs.Sampled.{entries, ChildLaid};
 ghost use Rattle.grid.specs.Trained.{formFault, nothingFault};
+ghost use Rattle.grid.specs.State.{rootOf};
+ghost use Rattle.grid.specs.Absorbed.{formOf};
+use crate::Sample;
 use crate::training;
 
 // At an axes grid: no path is left, one weight, and a coordinate in [0, 1] for each axis.
@@ -192,5 +195,29 @@ pub fn grid_fault(
         levels,
         weighed,
         many,
+    )
+}
+
+// Of a whole sample at the root.
+pub fn fault_of(table: &[u64], reals: &[f64], counts: &[u64], s: Sample) -> u64
+    requires { ⌜ Laid 4 (now table) (length (now reals)) (length (now counts)) 0 ⌝ }
+    ensures { λ n. ⌜ n ≡ formOf (rootOf (now (table .entry)) (now (reals .entry)) (now (counts .entry))) s ⌝ }
+{
+    let path = s.path;
+    let weights = s.weights;
+    let coordinates = s.coordinates;
+    grid_fault(
+        table,
+        reals,
+        counts,
+        4,
+        0,
+        &path,
+        &weights,
+        &coordinates,
+        0,
+        s.levels,
+        s.given,
+        s.axes,
     )
 }

@@ -242,6 +242,7 @@ pub fn train(
     if refused != 0 {
         return refused;
     }
+    let form = forms::fault_of(table, reals, counts, s);
     let near = [0usize; 8];
     let path = s.path;
     let weights = s.weights;
@@ -259,6 +260,7 @@ pub fn train(
         s.levels,
         s.given,
         s.axes,
+        form,
     )
 }
 

@@ -1,13 +1,17 @@
 -- The state is clear, so the draw is not refused, and the training is refused only by what stands against the sample.
 use mathlib.Core.Path.{refl, sym, ap, _∙_}
 use native.Mathlib.Omega.{arith}
+use lib.ListN.{length}
 use Rattle.model.specs.Draw.{drawGrid}
 use Rattle.grid.specs.Memory.{memory}
 use Rattle.grid.specs.State.{rootOf}
-use Rattle.grid.specs.Sampled.{sampleIn}
+use Rattle.grid.specs.declared.Drawing.{Drawing}
+use Rattle.grid.specs.Sampled.{sampleIn, laidDrawing}
+use Rattle.grid.specs.Absorbed.{formOf}
 use Rattle.grid.specs.Batched.{stepEnd}
 use Rattle.grid.proofs.States.{clear}
 use Rattle.grid.proofs.Samples.{root-made}
+use Rattle.grid.proofs.Drawable.{form-laid}
 use Rattle.grid.proofs.Absorbs.{admitted-all, admitted-none}
 use Rattle.grid.proofs.Batches.{step-objected, step-done}
 use borrow.Author.Needs.{needs}
@@ -24,7 +28,15 @@ draw-grid-requires c κs = let state = clear (c .before .before .before .before 
 
 -- src/batching.rt:47:9
 admit-requires : tie.Need-admit-requires
-admit-requires c κs = let state = clear (c .before .before .before .before .before .before .before .before .before .before .before .before .before .before .before .before .args .table .now) (c .before .before .before .before .before .before .before .before .before .before .before .before .before .before .before .before .args .reals .now) (c .before .before .before .before .before .before .before .before .before .before .before .before .before .before .before .before .args .counts .now) (λ i. omega (arith, c .before .before .before .before .before .before .before .before .before .before .before .before .before .before .before .shared-slice-known .given i)) (c .before .before .before .before .before .before .before .before .before .before .before .before .before .before .before .before .pre) in (state .laid, state .well)
+unfolding laidDrawing
+admit-requires c κs =
+    let state = clear (c .before .before .before .before .before .before .before .before .before .before .before .before .before .before .before .before .args .table .now) (c .before .before .before .before .before .before .before .before .before .before .before .before .before .before .before .before .args .reals .now) (c .before .before .before .before .before .before .before .before .before .before .before .before .before .before .before .before .args .counts .now) (λ i. omega (arith, c .before .before .before .before .before .before .before .before .before .before .before .before .before .before .before .shared-slice-known .given i)) (c .before .before .before .before .before .before .before .before .before .before .before .before .before .before .before .before .pre) in
+    let a = c .before .before .before .before .before .before .before .before .before .before .before .before .before .before .before .before .args in
+    let drawn = c .before .before .before .before .before .before .draw-grid in
+    let g = rootOf (a .table .now) (a .reals .now) (a .counts .now) in
+    let made = root-made (drawGrid g (a .start)) (drawn .result) (drawn .last .1 .1 .1 .1 .1 .1 .0) (drawn .last .1 .1 .1 .1 .1 .1 .1 .0) (drawn .last .1 .1 .1 .1 .1 .1 .1 .1 .0) (drawn .ensures) in
+    let form = ap (λ (d : Drawing). formOf g (d .sample)) made ∙ form-laid (a .table .now) (a .reals .now) (a .counts .now) (length (a .reals .now)) (length (a .counts .now)) (a .start) (state .laid) (state .well) (drawn .ensures .4) in
+    (state .laid, state .well, sym form)
 
 -- src/batching.rt:62:9
 same-length : tie.Need-same-length
