@@ -14,6 +14,7 @@ use Rattle.grid.specs.Tree.{axesPlace, axesGridAt, childIn, binsIn}
 use Rattle.grid.specs.Sampled.{entries}
 use Rattle.grid.specs.Trained.{allInUnit, formFault, nothingFault}
 use Rattle.grid.proofs.Reading.{length-axes}
+use Rattle.grid.proofs.Paths.{many-bins}
 
 -- ---- entries that are left
 
@@ -67,11 +68,6 @@ link-grid f link path ws xs n = rw (ne-eqb link 0 n)
 -- ---- at a bins grid
 
 module _ (f : ℕ → Grid) (table : List ℕ) (reals : List Float) (counts : List ℕ) (w : ℕ) where
-  many-bins : (i n : ℕ) → many (binsIn f table reals counts w i n) ≡ n
-  unfolding many binsIn
-  many-bins i zero = refl
-  many-bins i (suc n) = ap suc (many-bins (i + 1) n)
-
   bin-from : (n j i : ℕ) (path : List ℕ) (ws xs : List Float) → i < n → faultOfBin (binsIn f table reals counts w j n) i path ws xs ≡ faultOfChild (childIn f (getD table (w + 7 + (j + i)) 0)) path ws xs
   unfolding faultOfBin binsIn
   bin-from zero j i path ws xs h = absurd (omega arith)
@@ -85,19 +81,19 @@ module _ (f : ℕ → Grid) (table : List ℕ) (reals : List Float) (counts : Li
 
     pub bins-past : (i : ℕ) (path : List ℕ) (ws xs : List Float) → n ≤ i → 6 ≡ faultOf (bins h (binsIn f table reals counts w 0 n)) (i ∷ path) ws xs
     unfolding faultOf
-    bins-past i path [] xs k = rw (many-bins 0 n, le-ltb i n k)
-    bins-past i path (v ∷ ws) xs k = rw (many-bins 0 n, le-ltb i n k)
+    bins-past i path [] xs k = rw (many-bins f table reals counts w 0 n, le-ltb i n k)
+    bins-past i path (v ∷ ws) xs k = rw (many-bins f table reals counts w 0 n, le-ltb i n k)
 
     pub bins-bare : (i : ℕ) (path : List ℕ) (xs : List Float) → i < n → 4 ≡ faultOf (bins h (binsIn f table reals counts w 0 n)) (i ∷ path) [] xs
     unfolding faultOf
-    bins-bare i path xs k = rw (many-bins 0 n, lt-ltb i n k)
+    bins-bare i path xs k = rw (many-bins f table reals counts w 0 n, lt-ltb i n k)
 
     pub bins-below : (i : ℕ) (path : List ℕ) (v : Float) (ws xs : List Float) → i < n
         → faultOfChild (childIn f (getD table (w + 7 + i) 0)) path ws xs ≡ faultOf (bins h (binsIn f table reals counts w 0 n)) (i ∷ path) (v ∷ ws) xs
     unfolding faultOf
     bins-below i path v ws xs k =
         let e : 0 + i ≡ i = omega arith in
-        rw (many-bins 0 n, lt-ltb i n k) (sym (bin-from n 0 i path ws xs k ∙ ap (λ (j : ℕ). faultOfChild (childIn f (getD table (w + 7 + j) 0)) path ws xs) e))
+        rw (many-bins f table reals counts w 0 n, lt-ltb i n k) (sym (bin-from n 0 i path ws xs k ∙ ap (λ (j : ℕ). faultOfChild (childIn f (getD table (w + 7 + j) 0)) path ws xs) e))
 
 -- the same from the first entry on
 pub some-first : {A : Type 0} (d : A) (xs : List A) (n : ℕ) → 0 < n → entries d xs 0 n ≡ getD xs 0 d ∷ entries d xs 1 (n - 1)
