@@ -1,11 +1,12 @@
 // Training axes: whether a sample may join its bins is judged first, on all of them; only then is anything written.
 ghost use mathlib.Core.Path.{_≡_};
-ghost use mathlib.Core.Bool.{true};
+ghost use mathlib.Core.Bool.{true, _&&_};
 ghost use Prim.Native.Nat.{_≤_};
 ghost use lib.ListN.{length};
 ghost use lib.Ieee.{nan};
 ghost use Rattle.axis.specs.Edges.{wellFormed, inUnit, binOf};
 ghost use Rattle.grid.specs.Sampled.{entries};
+ghost use Rattle.real.specs.Finite.{finiteOf};
 ghost use Rattle.real.specs.Total.{allFinite};
 ghost use Rattle.accumulator.specs.Steps.{zeroCount};
 ghost use Rattle.grid.specs.Drawn.{axesAt};
@@ -56,6 +57,13 @@ fn bin_near(edges: &[f64], x: f64, guess: usize) -> usize
     axis::edges::bin_of(edges, x)
 }
 
+// Whether two numbers are finite: each less itself is 0 where it is, else NaN.
+pub fn are_sums_finite(sum: f64, squares: f64) -> bool
+    ensures { λ o. ⌜ o ≡ (finiteOf sum && finiteOf squares) ⌝ }
+{
+    (sum - sum) + (squares - squares) == 0.0
+}
+
 // 1 for a zero.
 pub fn zero_count(v: f64) -> u64
     ensures { λ r. ⌜ r ≡ zeroCount v ⌝ }
@@ -80,8 +88,7 @@ fn cell_fits(
     let squares = reals[r + (3 * most + 1) + bin] + v * v;
     let waiting = counts[c + 2 + bin] + 1;
     let zeros = counts[c + (most + 2) + bin] + zero_count(v);
-    ((real::finite(sum) & real::finite(squares)) & (waiting <= 9007199254740992))
-        & (zeros <= 9007199254740992)
+    (are_sums_finite(sum, squares) & (waiting <= 9007199254740992)) & (zeros <= 9007199254740992)
 }
 
 // Whether v may join each coordinate's bin on its axis; for each bin a guess, which may be any number. The bins are written to spots.
