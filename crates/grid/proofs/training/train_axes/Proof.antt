@@ -1,6 +1,6 @@
 -- Each given bin is a cell of its axis, and its training keeps to that axis: what is asked of the others is asked still.
 use mathlib.Core.Path.{_≡_, refl, sym, ap, _∙_, subst}
-use Prim.Native.Nat.{ℕ, _+_, _-_, _*_, _≤_}
+use Prim.Native.Nat.{_+_, _-_, _*_, _≤_}
 use native.Mathlib.Omega.{arith}
 use lib.ListN.{length}
 use Rattle.grid.specs.Memory.{Memory, memory, overAxes, Asked}
