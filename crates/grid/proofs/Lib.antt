@@ -30,6 +30,7 @@ pub mod Trained
 pub mod Adds
 pub mod Spots
 pub mod Accepts
+pub mod Finds
 pub mod Absorbs
 pub mod Objections
 pub mod Formed

@@ -1,40 +1,28 @@
--- The bins of a sample on the axes that are left to it: the first as it is found there, and the others once that one was judged or trained.
+-- The bins of a sample on the axes that are left to it: the first as it is found there, and the others once that one was judged.
 use mathlib.Core.Path.{_≡_, sym, ap, _∙_, subst}
 use mathlib.Core.Bool.{Bool, true, _&&_, and-assoc, and-true}
-use mathlib.Core.List.{List, [], _∷_}
-use Prim.Native.Nat.{ℕ, zero, suc, _+_, _-_, _*_, _≤_, _<_}
+use mathlib.Core.List.{List, [], _∷_, _++_, append-nil, append-assoc}
+use Prim.Native.Nat.{ℕ, _+_, _-_, _*_, _≤_, _<_}
+use native.Mathlib.Numerals.{add-one}
 use native.Mathlib.Omega.{arith}
-use lib.ListN.{take, drop, getD}
+use lib.ListN.{length, take, drop, set, getD}
+use lib.Seq.{take-suc-set, length-take-le}
 use lib.Ieee.{Float, nan}
 use Rattle.real.proofs.Truth.{both}
-use Rattle.axis.specs.Edges.{wellFormed, inUnit, binOf}
-use Rattle.model.specs.Axes.{Axis}
+use Rattle.axis.specs.Edges.{inUnit, binOf}
 use Rattle.grid.specs.Layout.{stretch, axisReals, axisCounts, axisAt, axesFrom}
-use Rattle.grid.specs.Memory.{Memory, overAxes, Asked}
+use Rattle.grid.specs.Memory.{Memory, Asked}
 use Rattle.grid.specs.Drawn.{Standing}
 use Rattle.grid.specs.Sampled.{entries}
-use Rattle.grid.specs.Trained.{allInUnit, binsOn, trainedAt, Cell, cellFits, cellsFit}
-use Rattle.grid.proofs.Same.{Same, same-sym, stretch-same}
-use Rattle.grid.proofs.Reading.{axes-same}
+use Rattle.grid.specs.Trained.{allInUnit, binsOn, Cell, cellFits, cellsFit}
+use Rattle.grid.specs.Found.{Begins}
 use Rattle.grid.proofs.Standing.{left-on, next}
-use Rattle.grid.proofs.Over.{asked-next}
 use Rattle.grid.proofs.Fitting.{one-left}
-use Rattle.grid.proofs.Updates.{standing-ready}
-use Rattle.grid.proofs.Trains.{trained-frames, trained-local}
+use Rattle.grid.proofs.Trains.{entries-take}
 
--- axes stand still in memory that is the same from where they begin
-standing-on : (m k r c : ℕ) (s s′ : Memory) → ((lo hi : ℕ) → r ≤ lo → Same nan lo hi (s′ .reals) (s .reals)) → ((lo hi : ℕ) → c ≤ lo → Same 0 lo hi (s′ .counts) (s .counts))
-    → Standing m (s .reals) (s .counts) k r c → Standing m (s′ .reals) (s′ .counts) k r c
-unfolding Standing axisReals axisCounts
-standing-on m zero r c s s′ u v e = (omega (arith, e .0, u r r (omega arith) .size), omega (arith, e .1, v c c (omega arith) .size))
-standing-on m (suc k) r c s s′ u v e =
-    let held : getD (s′ .counts) c 0 ≡ getD (s .counts) c 0 = v c (c + 1) (omega arith) .cells c (omega arith) (omega arith) in
-    let n = getD (s .counts) c 0 + 1 in
-    let edges = stretch-same nan r (r + n) r n (s′ .reals) (s .reals) (u r (r + n) (omega arith)) (omega arith) (omega arith) in (
-      omega (arith, e .0, held),
-      rw held (ap wellFormed edges ∙ e .1),
-      standing-on m k (r + (6 * m + 1)) (c + (3 * m + 2)) s s′ (λ lo hi h. u lo hi (omega arith)) (λ lo hi h. v lo hi (omega arith)) (e .2),
-    )
+-- an array whose first k entries are these begins with them
+pub begun : (spots is : List ℕ) (k : ℕ) → k ≤ length spots → take k spots ≡ is → Begins spots is
+begun spots is k h e = let n : length is ≡ k = sym (ap length e) ∙ length-take-le k spots h in ap (entries 0 spots 0) n ∙ entries-take 0 spots k h ∙ e
 
 module _ (m k : ℕ) (xs : List Float) where
   -- the bins on the axes from d on, where those begin at r and c
@@ -65,9 +53,11 @@ module _ (m k : ℕ) (xs : List Float) where
   unfolding cellsFit
   fits-none d r c s v ok h = ap (λ (is : List ℕ). ok && cellsFit m v is r c s) (spots-none d r c s h) ∙ and-true ok
 
-  pub trained-none : (d r c : ℕ) (s : Memory) (v : Float) → k ≤ d → overAxes (trainedAt m v) m (spotsLeft d r c s) r c s ≡ s
-  unfolding overAxes
-  trained-none d r c s v h = ap (λ (is : List ℕ). overAxes (trainedAt m v) m is r c s) (spots-none d r c s h)
+  -- all of them are written
+  pub noted-all : (d r c : ℕ) (s : Memory) (spots is : List ℕ) → d ≤ k → k ≤ d → take d spots ++ spotsLeft d r c s ≡ is → take k spots ≡ is
+  noted-all d r c s spots is h i e =
+      let same : k ≡ d = omega arith in
+      ap (λ (n : ℕ). take n spots) same ∙ sym (append-nil (take d spots)) ∙ ap (λ (l : List ℕ). take d spots ++ l) (sym (spots-none d r c s i)) ∙ e
 
   -- ---- at axis d
   module _ (d r c : ℕ) (s : Memory) (h : d < k) where
@@ -117,34 +107,6 @@ module _ (m k : ℕ) (xs : List Float) where
         unfolding cellsFit axisReals axisCounts
         fits-on v ok = rw with-spot (and-assoc ok (cellFits m v r c b s) (cellsFit m v (spotsLeft (d + 1) r′ c′ s) r′ c′ s))
 
-        module _ (v : Float) where
-          abbrev t : Memory
-          t = trainedAt m v r c b s
-
-          -- the others' axes are as they were
-          spots-still : spotsLeft (d + 1) r′ c′ t ≡ spotsLeft (d + 1) r′ c′ s
-          unfolding spotsLeft
-          spots-still =
-              let p = trained-frames m v r c b s cell-here in
-              let n = next m (s .reals) (s .counts) k d r c h (l .standing) in
-              ap (λ (axs : List Axis). binsOn axs (entries nan xs (d + 1) (k - (d + 1))))
-              (sym (axes-same m (s .reals) (t .reals) (s .counts) (t .counts) (k - (d + 1)) r′ c′ (standing-ready m (s .reals) (s .counts) (k - (d + 1)) r′ c′ (n .rest) .holding)
-              (same-sym nan _ _ (t .reals) (s .reals) (p .reals-above r′ (r′ + (k - (d + 1)) * (6 * m + 1)) (omega arith)))
-              (same-sym 0 _ _ (t .counts) (s .counts) (p .counts-above c′ (c′ + (k - (d + 1)) * (3 * m + 2)) (omega arith)))))
-
-          pub left-trained : Left (d + 1) r′ c′ t
-          left-trained =
-              let p = trained-frames m v r c b s cell-here in
-              let n = next m (s .reals) (s .counts) k d r c h (l .standing) in
-              record {
-                standing = standing-on m (k - (d + 1)) r′ c′ s t (λ lo hi i. p .reals-above lo hi i) (λ lo hi i. p .counts-above lo hi i) (n .rest);
-                unit = units .1;
-                cells = subst (λ (is : List ℕ). Asked (Cell m) m is r′ c′ t) (sym spots-still)
-                    (asked-next m (trainedAt m v) (Cell m) (trained-local m v) (trained-frames m v) b (spotsLeft (d + 1) r′ c′ s) r c s asked);
-              }
-
-          pub trained-on : overAxes (trainedAt m v) m (spotsLeft (d + 1) r′ c′ t) r′ c′ t ≡ overAxes (trainedAt m v) m (spotsLeft d r c s) r c s
-          unfolding overAxes axisReals axisCounts
-          trained-on =
-              ap (λ (is : List ℕ). overAxes (trainedAt m v) m is r′ c′ t) spots-still
-              ∙ sym (ap (λ (is : List ℕ). overAxes (trainedAt m v) m is r c s) with-spot)
+        -- the bin is written behind those before it
+        pub noted-on : (spots : List ℕ) → d < length spots → take (d + 1) (set spots d b) ++ spotsLeft (d + 1) r′ c′ s ≡ take d spots ++ spotsLeft d r c s
+        noted-on spots i = rw (with-spot, add-one, take-suc-set spots d, append-assoc)

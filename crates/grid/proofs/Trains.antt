@@ -1,8 +1,8 @@
 -- Training axes in lent memory: scans one coordinate on, what a step keeps to, and what is read afterwards.
-use mathlib.Core.Path.{_≡_, refl, ap, _∙_}
+use mathlib.Core.Path.{_≡_, refl, sym, ap, _∙_, subst}
 use mathlib.Core.Bool.{Bool, true, false, _&&_, cond, and-assoc, and-true}
 use mathlib.Core.List.{List, [], _∷_}
-use Prim.Native.Nat.{ℕ, zero, suc, _+_, _-_, _≤_, _<_}
+use Prim.Native.Nat.{ℕ, zero, suc, _+_, _-_, _*_, _≤_, _<_}
 use native.Mathlib.Numerals.{add-one}
 use native.Mathlib.Omega.{arith}
 use lib.ListN.{length, take, drop, getD}
@@ -13,10 +13,12 @@ use Rattle.accumulator.specs.Steps.{zeroCount}
 use Rattle.real.proofs.Truth.{both}
 use Rattle.axis.specs.Edges.{wellFormed, binOf}
 use Rattle.axis.proofs.Bins.{bin-rule, or-left}
+use Rattle.grid.specs.Layout.{axisReals, axisCounts}
+use Rattle.grid.specs.Memory.{Memory, overAxes, Asked}
 use Rattle.grid.specs.Sampled.{entries}
 use Rattle.grid.specs.Trained.{trainedAt, Cell}
 use Rattle.grid.proofs.Same.{same-on, same-set-below, same-set-above}
-use Rattle.grid.proofs.Over.{Local, Frames}
+use Rattle.grid.proofs.Over.{Local, Frames, asked-next}
 use Rattle.grid.proofs.Fitting.{one-left, none-left}
 
 -- ---- a scan over the first n entries of an array: what was found, and what is left from entry i on
@@ -83,3 +85,31 @@ module _ (m : ℕ) (v : Float) where
         waiting = omega (arith, p .waiting, b .cells (c + 2 + i) (omega arith) (omega arith));
         zeros = omega (arith, p .zeros, b .cells (c + (m + 2) + i) (omega arith) (omega arith));
       }
+
+-- ---- the given bins that are left from axis d on
+
+module _ (m k : ℕ) (v : Float) (spots : List ℕ) (d r c : ℕ) (s : Memory) where
+  abbrev given : List ℕ
+  given = entries 0 spots d (k - d)
+
+  pub trained-out : k ≤ d → overAxes (trainedAt m v) m given r c s ≡ s
+  unfolding overAxes
+  trained-out h = ap (λ (is : List ℕ). overAxes (trainedAt m v) m is r c s) (none-left 0 spots d k h)
+
+  module _ (h : d < k) (a : Asked (Cell m) m given r c s) where
+    abbrev others : List ℕ
+    others = entries 0 spots (d + 1) (k - (d + 1))
+
+    first-asked : Asked (Cell m) m (getD spots d 0 ∷ others) r c s
+    first-asked = subst (λ (is : List ℕ). Asked (Cell m) m is r c s) (one-left 0 spots d k h) a
+
+    pub given-cell : Cell m r c (getD spots d 0) s
+    unfolding Asked
+    given-cell = first-asked .0
+
+    pub given-on : Asked (Cell m) m others (r + (6 * m + 1)) (c + (3 * m + 2)) (trainedAt m v r c (getD spots d 0) s)
+    given-on = asked-next m (trainedAt m v) (Cell m) (trained-local m v) (trained-frames m v) (getD spots d 0) others r c s first-asked
+
+    pub trained-on : overAxes (trainedAt m v) m others (r + (6 * m + 1)) (c + (3 * m + 2)) (trainedAt m v r c (getD spots d 0) s) ≡ overAxes (trainedAt m v) m given r c s
+    unfolding overAxes axisReals axisCounts
+    trained-on = sym (ap (λ (is : List ℕ). overAxes (trainedAt m v) m is r c s) (one-left 0 spots d k h))

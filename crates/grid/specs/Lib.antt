@@ -16,6 +16,7 @@ pub mod Probed
 pub mod State
 pub mod Founded
 pub mod Absorbed
+pub mod Found
 pub mod Matched
 pub mod United
 pub mod Bins

@@ -11,6 +11,7 @@ ghost use Rattle.grid.specs.Memory.{memory};
 ghost use Rattle.grid.specs.Tree.{axesGridAt, headAt, childIn, binsIn, gridAt, AxesLaid, BinsLaid, Laid};
 ghost use Rattle.grid.specs.Sampled.{sampleIn, sampleOf, ChildLaid};
 ghost use Rattle.grid.specs.Absorbed.{formOf, Takes, TakesChild, absorbedAxes, absorbedChild, absorbedBins, absorbed, objectionOf, admitted};
+ghost use Rattle.grid.specs.Found.{Found, FoundChild};
 use crate::acceptance;
 use crate::adding;
 use crate::layout;
@@ -28,12 +29,13 @@ fn absorb_axes(
     depth: usize,
     evaluation: f64,
     number: u64,
-    near: &[usize; 8],
+    spots: &[usize; 8],
     levels: usize,
     weighed: usize,
     many: usize,
 )
-    requires { ⌜ AxesLaid (now table) (length (now reals)) (length (now counts)) w × (depth ≤ 4) × Takes (axes (axesGridAt (now table) (now reals) (now counts) w)) (sampleIn (now path) levels (now weights) weighed (now coordinates) many) depth number ⌝ }
+    requires { ⌜ AxesLaid (now table) (length (now reals)) (length (now counts)) w × (depth ≤ 4) × Takes (axes (axesGridAt (now table) (now reals) (now counts) w)) (sampleIn (now path) levels (now weights) weighed (now coordinates) many) depth number
+        × Found (now spots) (axes (axesGridAt (now table) (now reals) (now counts) w)) (sampleIn (now path) levels (now weights) weighed (now coordinates) many) depth ⌝ }
     ensures { λ _. ⌜ memory (now (reals .exit)) (now (counts .exit)) ≡ absorbedAxes (now (table .entry)) (sampleIn (now (path .entry)) levels (now (weights .entry)) weighed (now (coordinates .entry)) many) evaluation number w depth (memory (now (reals .entry)) (now (counts .entry))) ⌝ }
 {
     let weight = weights[depth];
@@ -41,7 +43,7 @@ fn absorb_axes(
     let r = table[w + 9] as usize;
     let c = table[w + 10] as usize;
     let own = adding::gain_at(reals, counts, r, c, evaluation * weight, number);
-    training::train_axes(reals, counts, g, coordinates, near, weight * evaluation);
+    training::train_axes(reals, counts, g, spots, weight * evaluation);
     adding::put(reals, counts, r, c, own);
 }
 
@@ -58,12 +60,13 @@ fn absorb_child(
     depth: usize,
     evaluation: f64,
     number: u64,
-    near: &[usize; 8],
+    spots: &[usize; 8],
     levels: usize,
     weighed: usize,
     many: usize,
 )
-    requires { ⌜ ChildLaid level (now table) (length (now reals)) (length (now counts)) link × (depth + level ≤ 4) × TakesChild (childIn (gridAt level (now table) (now reals) (now counts)) link) (sampleIn (now path) levels (now weights) weighed (now coordinates) many) depth number ⌝ }
+    requires { ⌜ ChildLaid level (now table) (length (now reals)) (length (now counts)) link × (depth + level ≤ 4) × TakesChild (childIn (gridAt level (now table) (now reals) (now counts)) link) (sampleIn (now path) levels (now weights) weighed (now coordinates) many) depth number
+        × FoundChild (now spots) (childIn (gridAt level (now table) (now reals) (now counts)) link) (sampleIn (now path) levels (now weights) weighed (now coordinates) many) depth ⌝ }
     ensures { λ _. ⌜ memory (now (reals .exit)) (now (counts .exit)) ≡ absorbedChild (absorbed level (now (table .entry)) (sampleIn (now (path .entry)) levels (now (weights .entry)) weighed (now (coordinates .entry)) many) evaluation number) link depth (memory (now (reals .entry)) (now (counts .entry))) ⌝ }
 {
     if link == 0 {
@@ -81,7 +84,7 @@ fn absorb_child(
         depth,
         evaluation,
         number,
-        near,
+        spots,
         levels,
         weighed,
         many,
@@ -101,13 +104,14 @@ fn absorb_bins(
     depth: usize,
     evaluation: f64,
     number: u64,
-    near: &[usize; 8],
+    spots: &[usize; 8],
     levels: usize,
     weighed: usize,
     many: usize,
 )
     requires { ⌜ BinsLaid (Laid level (now table) (length (now reals)) (length (now counts))) (now table) (length (now reals)) (length (now counts)) w × (depth + level ≤ 3)
-        × Takes (bins (headAt (now table) (now reals) (now counts) w) (binsIn (gridAt level (now table) (now reals) (now counts)) (now table) (now reals) (now counts) w 0 (getD (now table) (w + 2) 0))) (sampleIn (now path) levels (now weights) weighed (now coordinates) many) depth number ⌝ }
+        × Takes (bins (headAt (now table) (now reals) (now counts) w) (binsIn (gridAt level (now table) (now reals) (now counts)) (now table) (now reals) (now counts) w 0 (getD (now table) (w + 2) 0))) (sampleIn (now path) levels (now weights) weighed (now coordinates) many) depth number
+        × Found (now spots) (bins (headAt (now table) (now reals) (now counts) w) (binsIn (gridAt level (now table) (now reals) (now counts)) (now table) (now reals) (now counts) w 0 (getD (now table) (w + 2) 0))) (sampleIn (now path) levels (now weights) weighed (now coordinates) many) depth ⌝ }
     ensures { λ _. ⌜ memory (now (reals .exit)) (now (counts .exit)) ≡ absorbedBins (absorbed level (now (table .entry)) (sampleIn (now (path .entry)) levels (now (weights .entry)) weighed (now (coordinates .entry)) many) evaluation number) (now (table .entry)) (sampleIn (now (path .entry)) levels (now (weights .entry)) weighed (now (coordinates .entry)) many) evaluation number w depth (memory (now (reals .entry)) (now (counts .entry))) ⌝ }
 {
     let bin = path[depth];
@@ -133,7 +137,7 @@ fn absorb_bins(
         depth + 1,
         evaluation,
         number,
-        near,
+        spots,
         levels,
         weighed,
         many,
@@ -155,12 +159,13 @@ pub fn absorb_grid(
     depth: usize,
     evaluation: f64,
     number: u64,
-    near: &[usize; 8],
+    spots: &[usize; 8],
     levels: usize,
     weighed: usize,
     many: usize,
 )
-    requires { ⌜ Laid level (now table) (length (now reals)) (length (now counts)) w × (depth + level ≤ 4) × Takes (gridAt level (now table) (now reals) (now counts) w) (sampleIn (now path) levels (now weights) weighed (now coordinates) many) depth number ⌝ }
+    requires { ⌜ Laid level (now table) (length (now reals)) (length (now counts)) w × (depth + level ≤ 4) × Takes (gridAt level (now table) (now reals) (now counts) w) (sampleIn (now path) levels (now weights) weighed (now coordinates) many) depth number
+        × Found (now spots) (gridAt level (now table) (now reals) (now counts) w) (sampleIn (now path) levels (now weights) weighed (now coordinates) many) depth ⌝ }
     ensures { λ _. ⌜ memory (now (reals .exit)) (now (counts .exit)) ≡ absorbed level (now (table .entry)) (sampleIn (now (path .entry)) levels (now (weights .entry)) weighed (now (coordinates .entry)) many) evaluation number w depth (memory (now (reals .entry)) (now (counts .entry))) ⌝ }
 {
     if table[w] == 1 {
@@ -175,7 +180,7 @@ pub fn absorb_grid(
             depth,
             evaluation,
             number,
-            near,
+            spots,
             levels,
             weighed,
             many,
@@ -194,7 +199,7 @@ pub fn absorb_grid(
         depth,
         evaluation,
         number,
-        near,
+        spots,
         levels,
         weighed,
         many,
@@ -222,6 +227,7 @@ pub fn admit(
     ensures { λ n. ⌜ (n ≡ objectionOf (trainOf (rootOf (now (table .entry)) (now (reals .entry)) (now (counts .entry))) (sampleOf (sampleIn (now (path .entry)) levels (now (weights .entry)) weighed (now (coordinates .entry)) many)) evaluation number))
         × (memory (now (reals .exit)) (now (counts .exit)) ≡ admitted n (now (table .entry)) (sampleIn (now (path .entry)) levels (now (weights .entry)) weighed (now (coordinates .entry)) many) evaluation number (memory (now (reals .entry)) (now (counts .entry)))) ⌝ }
 {
+    let mut spots = [0usize; 8];
     let refused = acceptance::objection(
         table,
         reals,
@@ -232,6 +238,7 @@ pub fn admit(
         evaluation,
         number,
         near,
+        &mut spots,
         levels,
         weighed,
         many,
@@ -252,7 +259,7 @@ pub fn admit(
         0,
         evaluation,
         number,
-        near,
+        &spots,
         levels,
         weighed,
         many,

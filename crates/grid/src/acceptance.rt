@@ -1,4 +1,4 @@
-// Whether what a sample would leave may be kept (8), judged on what it touches, before anything is written.
+// Whether what a sample would leave may be kept (8), judged on what it touches, before anything is written; the bins on the axes are found on the way.
 ghost use mathlib.Core.Path.{_≡_};
 ghost use mathlib.Core.Bool.{true};
 ghost use Prim.Native.Nat.{_+_, _≤_};
@@ -10,6 +10,7 @@ ghost use Rattle.grid.specs.Tree.{axesGridAt, headAt, childIn, binsIn, g
 ghost use Rattle.grid.specs.Sampled.{sampleIn, sampleOf, ChildLaid};
 ghost use Rattle.grid.specs.State.{rootOf};
 ghost use Rattle.grid.specs.Absorbed.{pathLeft, weightsLeft, placesIn, formOf, Takes, TakesChild, objectionOf};
+ghost use Rattle.grid.specs.Found.{Found, FoundChild};
 use crate::adding;
 use crate::layout;
 use crate::training;
@@ -27,16 +28,26 @@ fn axes_accept(
     evaluation: f64,
     number: u64,
     near: &[usize; 8],
+    spots: &mut [usize; 8],
     levels: usize,
     weighed: usize,
     many: usize,
 ) -> bool
-    requires { ⌜ AxesLaid (now table) (length (now reals)) (length (now counts)) w × (depth ≤ 4) × Takes (axes (axesGridAt (now table) (now reals) (now counts) w)) (sampleIn (now path) levels (now weights) weighed (now coordinates) many) depth number ⌝ }
-    ensures { λ o. ⌜ o ≡ keptGrid (trainGrid (axes (axesGridAt (now (table .entry)) (now (reals .entry)) (now (counts .entry)) w)) (pathLeft (sampleIn (now (path .entry)) levels (now (weights .entry)) weighed (now (coordinates .entry)) many) depth) (weightsLeft (sampleIn (now (path .entry)) levels (now (weights .entry)) weighed (now (coordinates .entry)) many) depth) (placesIn (sampleIn (now (path .entry)) levels (now (weights .entry)) weighed (now (coordinates .entry)) many)) evaluation number) ⌝ }
+    requires { ⌜ AxesLaid (now table) (length (now reals)) (length (now counts)) w × (depth ≤ 4) × Takes (axes (axesGridAt (now table) (now reals) (now counts) w)) (sampleIn (now path) levels (now weights) weighed (now coordinates) many) depth number × (length (now spots) ≡ 8) ⌝ }
+    ensures { λ o. ⌜ (o ≡ keptGrid (trainGrid (axes (axesGridAt (now (table .entry)) (now (reals .entry)) (now (counts .entry)) w)) (pathLeft (sampleIn (now (path .entry)) levels (now (weights .entry)) weighed (now (coordinates .entry)) many) depth) (weightsLeft (sampleIn (now (path .entry)) levels (now (weights .entry)) weighed (now (coordinates .entry)) many) depth) (placesIn (sampleIn (now (path .entry)) levels (now (weights .entry)) weighed (now (coordinates .entry)) many)) evaluation number))
+        × Found (now (spots .exit)) (axes (axesGridAt (now (table .entry)) (now (reals .entry)) (now (counts .entry)) w)) (sampleIn (now (path .entry)) levels (now (weights .entry)) weighed (now (coordinates .entry)) many) depth ⌝ }
 {
     let weight = weights[depth];
     let g = layout::axes_place(table, w);
-    let fit = training::axes_fit(reals, counts, g, coordinates, near, weight * evaluation);
+    let fit = training::axes_fit(
+        reals,
+        counts,
+        g,
+        coordinates,
+        near,
+        weight * evaluation,
+        spots,
+    );
     let r = table[w + 9] as usize;
     let c = table[w + 10] as usize;
     let own = adding::fits_with(reals, counts, r, c, evaluation * weight, number);
@@ -57,12 +68,14 @@ fn child_accepts(
     evaluation: f64,
     number: u64,
     near: &[usize; 8],
+    spots: &mut [usize; 8],
     levels: usize,
     weighed: usize,
     many: usize,
 ) -> bool
-    requires { ⌜ ChildLaid level (now table) (length (now reals)) (length (now counts)) link × (depth + level ≤ 4) × TakesChild (childIn (gridAt level (now table) (now reals) (now counts)) link) (sampleIn (now path) levels (now weights) weighed (now coordinates) many) depth number ⌝ }
-    ensures { λ o. ⌜ o ≡ keptChild (trainChild (childIn (gridAt level (now (table .entry)) (now (reals .entry)) (now (counts .entry))) link) (pathLeft (sampleIn (now (path .entry)) levels (now (weights .entry)) weighed (now (coordinates .entry)) many) depth) (weightsLeft (sampleIn (now (path .entry)) levels (now (weights .entry)) weighed (now (coordinates .entry)) many) depth) (placesIn (sampleIn (now (path .entry)) levels (now (weights .entry)) weighed (now (coordinates .entry)) many)) evaluation number) ⌝ }
+    requires { ⌜ ChildLaid level (now table) (length (now reals)) (length (now counts)) link × (depth + level ≤ 4) × TakesChild (childIn (gridAt level (now table) (now reals) (now counts)) link) (sampleIn (now path) levels (now weights) weighed (now coordinates) many) depth number × (length (now spots) ≡ 8) ⌝ }
+    ensures { λ o. ⌜ (o ≡ keptChild (trainChild (childIn (gridAt level (now (table .entry)) (now (reals .entry)) (now (counts .entry))) link) (pathLeft (sampleIn (now (path .entry)) levels (now (weights .entry)) weighed (now (coordinates .entry)) many) depth) (weightsLeft (sampleIn (now (path .entry)) levels (now (weights .entry)) weighed (now (coordinates .entry)) many) depth) (placesIn (sampleIn (now (path .entry)) levels (now (weights .entry)) weighed (now (coordinates .entry)) many)) evaluation number))
+        × FoundChild (now (spots .exit)) (childIn (gridAt level (now (table .entry)) (now (reals .entry)) (now (counts .entry))) link) (sampleIn (now (path .entry)) levels (now (weights .entry)) weighed (now (coordinates .entry)) many) depth ⌝ }
 {
     if link == 0 {
         return true;
@@ -80,6 +93,7 @@ fn child_accepts(
         evaluation,
         number,
         near,
+        spots,
         levels,
         weighed,
         many,
@@ -100,15 +114,17 @@ fn bins_accept(
     evaluation: f64,
     number: u64,
     near: &[usize; 8],
+    spots: &mut [usize; 8],
     levels: usize,
     weighed: usize,
     many: usize,
 ) -> bool
     requires { ⌜ BinsLaid (Laid level (now table) (length (now reals)) (length (now counts))) (now table) (length (now reals)) (length (now counts)) w × (depth + level ≤ 3)
-        × Takes (bins (headAt (now table) (now reals) (now counts) w) (binsIn (gridAt level (now table) (now reals) (now counts)) (now table) (now reals) (now counts) w 0 (getD (now table) (w + 2) 0))) (sampleIn (now path) levels (now weights) weighed (now coordinates) many) depth number ⌝ }
-    ensures { λ o. ⌜ o ≡ keptGrid (trainGrid (bins (headAt (now (table .entry)) (now (reals .entry)) (now (counts .entry)) w)
+        × Takes (bins (headAt (now table) (now reals) (now counts) w) (binsIn (gridAt level (now table) (now reals) (now counts)) (now table) (now reals) (now counts) w 0 (getD (now table) (w + 2) 0))) (sampleIn (now path) levels (now weights) weighed (now coordinates) many) depth number × (length (now spots) ≡ 8) ⌝ }
+    ensures { λ o. ⌜ (o ≡ keptGrid (trainGrid (bins (headAt (now (table .entry)) (now (reals .entry)) (now (counts .entry)) w)
         (binsIn (gridAt level (now (table .entry)) (now (reals .entry)) (now (counts .entry))) (now (table .entry)) (now (reals .entry)) (now (counts .entry)) w 0 (getD (now (table .entry)) (w + 2) 0)))
-        (pathLeft (sampleIn (now (path .entry)) levels (now (weights .entry)) weighed (now (coordinates .entry)) many) depth) (weightsLeft (sampleIn (now (path .entry)) levels (now (weights .entry)) weighed (now (coordinates .entry)) many) depth) (placesIn (sampleIn (now (path .entry)) levels (now (weights .entry)) weighed (now (coordinates .entry)) many)) evaluation number) ⌝ }
+        (pathLeft (sampleIn (now (path .entry)) levels (now (weights .entry)) weighed (now (coordinates .entry)) many) depth) (weightsLeft (sampleIn (now (path .entry)) levels (now (weights .entry)) weighed (now (coordinates .entry)) many) depth) (placesIn (sampleIn (now (path .entry)) levels (now (weights .entry)) weighed (now (coordinates .entry)) many)) evaluation number))
+        × Found (now (spots .exit)) (bins (headAt (now (table .entry)) (now (reals .entry)) (now (counts .entry)) w) (binsIn (gridAt level (now (table .entry)) (now (reals .entry)) (now (counts .entry))) (now (table .entry)) (now (reals .entry)) (now (counts .entry)) w 0 (getD (now (table .entry)) (w + 2) 0))) (sampleIn (now (path .entry)) levels (now (weights .entry)) weighed (now (coordinates .entry)) many) depth ⌝ }
 {
     let bin = path[depth];
     let weight = weights[depth];
@@ -134,6 +150,7 @@ fn bins_accept(
         evaluation,
         number,
         near,
+        spots,
         levels,
         weighed,
         many,
@@ -155,12 +172,14 @@ pub fn grid_accepts(
     evaluation: f64,
     number: u64,
     near: &[usize; 8],
+    spots: &mut [usize; 8],
     levels: usize,
     weighed: usize,
     many: usize,
 ) -> bool
-    requires { ⌜ Laid level (now table) (length (now reals)) (length (now counts)) w × (depth + level ≤ 4) × Takes (gridAt level (now table) (now reals) (now counts) w) (sampleIn (now path) levels (now weights) weighed (now coordinates) many) depth number ⌝ }
-    ensures { λ o. ⌜ o ≡ keptGrid (trainGrid (gridAt level (now (table .entry)) (now (reals .entry)) (now (counts .entry)) w) (pathLeft (sampleIn (now (path .entry)) levels (now (weights .entry)) weighed (now (coordinates .entry)) many) depth) (weightsLeft (sampleIn (now (path .entry)) levels (now (weights .entry)) weighed (now (coordinates .entry)) many) depth) (placesIn (sampleIn (now (path .entry)) levels (now (weights .entry)) weighed (now (coordinates .entry)) many)) evaluation number) ⌝ }
+    requires { ⌜ Laid level (now table) (length (now reals)) (length (now counts)) w × (depth + level ≤ 4) × Takes (gridAt level (now table) (now reals) (now counts) w) (sampleIn (now path) levels (now weights) weighed (now coordinates) many) depth number × (length (now spots) ≡ 8) ⌝ }
+    ensures { λ o. ⌜ (o ≡ keptGrid (trainGrid (gridAt level (now (table .entry)) (now (reals .entry)) (now (counts .entry)) w) (pathLeft (sampleIn (now (path .entry)) levels (now (weights .entry)) weighed (now (coordinates .entry)) many) depth) (weightsLeft (sampleIn (now (path .entry)) levels (now (weights .entry)) weighed (now (coordinates .entry)) many) depth) (placesIn (sampleIn (now (path .entry)) levels (now (weights .entry)) weighed (now (coordinates .entry)) many)) evaluation number))
+        × Found (now (spots .exit)) (gridAt level (now (table .entry)) (now (reals .entry)) (now (counts .entry)) w) (sampleIn (now (path .entry)) levels (now (weights .entry)) weighed (now (coordinates .entry)) many) depth ⌝ }
 {
     if table[w] == 1 {
         return axes_accept(
@@ -175,6 +194,7 @@ pub fn grid_accepts(
             evaluation,
             number,
             near,
+            spots,
             levels,
             weighed,
             many,
@@ -193,6 +213,7 @@ pub fn grid_accepts(
         evaluation,
         number,
         near,
+        spots,
         levels,
         weighed,
         many,
@@ -210,14 +231,16 @@ pub fn objection(
     evaluation: f64,
     number: u64,
     near: &[usize; 8],
+    spots: &mut [usize; 8],
     levels: usize,
     weighed: usize,
     many: usize,
     form: u64,
 ) -> u64
     requires { ⌜ Laid 4 (now table) (length (now reals)) (length (now counts)) 0 × (sound (rootOf (now table) (now reals) (now counts)) ≡ true)
-        × (form ≡ formOf (rootOf (now table) (now reals) (now counts)) (sampleIn (now path) levels (now weights) weighed (now coordinates) many)) ⌝ }
-    ensures { λ n. ⌜ n ≡ objectionOf (trainOf (rootOf (now (table .entry)) (now (reals .entry)) (now (counts .entry))) (sampleOf (sampleIn (now (path .entry)) levels (now (weights .entry)) weighed (now (coordinates .entry)) many)) evaluation number) ⌝ }
+        × (form ≡ formOf (rootOf (now table) (now reals) (now counts)) (sampleIn (now path) levels (now weights) weighed (now coordinates) many)) × (length (now spots) ≡ 8) ⌝ }
+    ensures { λ n. ⌜ (n ≡ objectionOf (trainOf (rootOf (now (table .entry)) (now (reals .entry)) (now (counts .entry))) (sampleOf (sampleIn (now (path .entry)) levels (now (weights .entry)) weighed (now (coordinates .entry)) many)) evaluation number))
+        × (n ≡ 0 → Found (now (spots .exit)) (rootOf (now (table .entry)) (now (reals .entry)) (now (counts .entry))) (sampleIn (now (path .entry)) levels (now (weights .entry)) weighed (now (coordinates .entry)) many) 0) ⌝ }
 {
     if number == 0 {
         return 3;
@@ -247,6 +270,7 @@ pub fn objection(
         evaluation,
         number,
         near,
+        spots,
         levels,
         weighed,
         many,

@@ -31,7 +31,7 @@ pub fn fits_with(reals: &[f64], counts: &[u64], r: usize, c: usize, v: f64, numb
     let squares = reals[r + 1] + v * v;
     let waiting = counts[c] + 1;
     let zeros = counts[c + 1] + training::zero_count(v);
-    ((real::finite(sum) & real::finite(squares)) & (waiting <= 9007199254740992))
+    (training::are_sums_finite(sum, squares) & (waiting <= 9007199254740992))
         & (zeros <= 9007199254740992)
 }
 

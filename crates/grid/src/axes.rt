@@ -56,7 +56,7 @@ fn place_on(edges: &[f64], unit: f64, evenly: bool, guess: usize) -> Spot
     axis::edges::spot_near(edges, unit, guess)
 }
 
-// Draws a coordinate on each axis. The bins that they were drawn from are guesses for the search in training, which takes any number.
+// Draws a coordinate on each axis. The bins that they were drawn from are guesses for the search where a sample is judged, which takes any number.
 fn walk_axes(
     reals: &[f64],
     counts: &[u64],

@@ -1,15 +1,18 @@
 // Training axes: whether a sample may join its bins is judged first, on all of them; only then is anything written.
 ghost use mathlib.Core.Path.{_≡_};
-ghost use mathlib.Core.Bool.{true};
+ghost use mathlib.Core.Bool.{true, _&&_};
 ghost use Prim.Native.Nat.{_≤_};
+ghost use lib.ListN.{length};
 ghost use lib.Ieee.{nan};
 ghost use Rattle.axis.specs.Edges.{wellFormed, inUnit, binOf};
 ghost use Rattle.grid.specs.Sampled.{entries};
+ghost use Rattle.real.specs.Finite.{finiteOf};
 ghost use Rattle.real.specs.Total.{allFinite};
 ghost use Rattle.accumulator.specs.Steps.{zeroCount};
 ghost use Rattle.grid.specs.Drawn.{axesAt};
-ghost use Rattle.grid.specs.Memory.{memory};
+ghost use Rattle.grid.specs.Memory.{memory, Asked};
 ghost use Rattle.grid.specs.Trained.{allInUnit, binsOn, trainedAt, Cell, cellFits, cellsFit, trainedOver, CellsOf};
+ghost use Rattle.grid.specs.Found.{Begins};
 use crate::axes::AxesAt;
 
 // Whether the first n coordinates are numbers in [0, 1].
@@ -54,6 +57,13 @@ fn bin_near(edges: &[f64], x: f64, guess: usize) -> usize
     axis::edges::bin_of(edges, x)
 }
 
+// Whether two numbers are finite: each less itself is 0 where it is, else NaN.
+pub fn are_sums_finite(sum: f64, squares: f64) -> bool
+    ensures { λ o. ⌜ o ≡ (finiteOf sum && finiteOf squares) ⌝ }
+{
+    (sum - sum) + (squares - squares) == 0.0
+}
+
 // 1 for a zero.
 pub fn zero_count(v: f64) -> u64
     ensures { λ r. ⌜ r ≡ zeroCount v ⌝ }
@@ -78,11 +88,10 @@ fn cell_fits(
     let squares = reals[r + (3 * most + 1) + bin] + v * v;
     let waiting = counts[c + 2 + bin] + 1;
     let zeros = counts[c + (most + 2) + bin] + zero_count(v);
-    ((real::finite(sum) & real::finite(squares)) & (waiting <= 9007199254740992))
-        & (zeros <= 9007199254740992)
+    (are_sums_finite(sum, squares) & (waiting <= 9007199254740992)) & (zeros <= 9007199254740992)
 }
 
-// Whether v may join each coordinate's bin on its axis; for each bin a guess, which may be any number.
+// Whether v may join each coordinate's bin on its axis; for each bin a guess, which may be any number. The bins are written to spots.
 pub fn axes_fit(
     reals: &[f64],
     counts: &[u64],
@@ -90,9 +99,11 @@ pub fn axes_fit(
     xs: &[f64; 8],
     near: &[usize; 8],
     v: f64,
+    spots: &mut [usize; 8],
 ) -> bool
-    requires { ⌜ CellsOf g (entries nan (now xs) 0 (g .axes)) (memory (now reals) (now counts)) ⌝ }
-    ensures { λ o. ⌜ o ≡ cellsFit (g .most) v (binsOn (axesAt (now (reals .entry)) (now (counts .entry)) g) (entries nan (now (xs .entry)) 0 (g .axes))) (g .reals) (g .counts) (memory (now (reals .entry)) (now (counts .entry))) ⌝ }
+    requires { ⌜ CellsOf g (entries nan (now xs) 0 (g .axes)) (memory (now reals) (now counts)) × (length (now spots) ≡ 8) ⌝ }
+    ensures { λ o. ⌜ (o ≡ cellsFit (g .most) v (binsOn (axesAt (now (reals .entry)) (now (counts .entry)) g) (entries nan (now (xs .entry)) 0 (g .axes))) (g .reals) (g .counts) (memory (now (reals .entry)) (now (counts .entry))))
+        × Begins (now (spots .exit)) (binsOn (axesAt (now (reals .entry)) (now (counts .entry)) g) (entries nan (now (xs .entry)) 0 (g .axes))) ⌝ }
 {
     let mut ok = true;
     let mut at = g.reals;
@@ -102,6 +113,7 @@ pub fn axes_fit(
         let held = counts[place] as usize;
         let end = at + held + 1;
         let bin = bin_near(&reals[at..end], xs[done], near[done]);
+        spots[done] = bin;
         ok = ok & cell_fits(reals, counts, g.most, at, place, bin, v);
         at = at + (6 * g.most + 1);
         place = place + (3 * g.most + 2);
@@ -139,26 +151,16 @@ fn train_axis(
     counts[zeros_at] = zeros;
 }
 
-// v joins each coordinate's bin on its axis. An axis's edges are written by no other's training, so each bin is found as it was.
-pub fn train_axes(
-    reals: &mut [f64],
-    counts: &mut [u64],
-    g: AxesAt,
-    xs: &[f64; 8],
-    near: &[usize; 8],
-    v: f64,
-)
-    requires { ⌜ CellsOf g (entries nan (now xs) 0 (g .axes)) (memory (now reals) (now counts)) ⌝ }
-    ensures { λ _. ⌜ memory (now (reals .exit)) (now (counts .exit)) ≡ trainedOver g v (binsOn (axesAt (now (reals .entry)) (now (counts .entry)) g) (entries nan (now (xs .entry)) 0 (g .axes))) (memory (now (reals .entry)) (now (counts .entry))) ⌝ }
+// v joins the given bin of each axis.
+pub fn train_axes(reals: &mut [f64], counts: &mut [u64], g: AxesAt, spots: &[usize; 8], v: f64)
+    requires { ⌜ (g .axes ≤ 8) × (g .most ≤ 1024) × Asked (Cell (g .most)) (g .most) (entries 0 (now spots) 0 (g .axes)) (g .reals) (g .counts) (memory (now reals) (now counts)) ⌝ }
+    ensures { λ _. ⌜ memory (now (reals .exit)) (now (counts .exit)) ≡ trainedOver g v (entries 0 (now (spots .entry)) 0 (g .axes)) (memory (now (reals .entry)) (now (counts .entry))) ⌝ }
 {
     let mut at = g.reals;
     let mut place = g.counts;
     let mut done = 0;
     while done < g.axes {
-        let held = counts[place] as usize;
-        let end = at + held + 1;
-        let bin = bin_near(&reals[at..end], xs[done], near[done]);
-        train_axis(reals, counts, g.most, at, place, bin, v);
+        train_axis(reals, counts, g.most, at, place, spots[done], v);
         at = at + (6 * g.most + 1);
         place = place + (3 * g.most + 2);
         done += 1;

@@ -8,9 +8,11 @@ use Rattle.grid.specs.Memory.{memory}
 use Rattle.grid.specs.Tree.{headAt, binIn, gridAt}
 use Rattle.grid.specs.Sampled.{ChildLaid}
 use Rattle.grid.specs.Absorbed.{Takes, absorbed}
+use Rattle.grid.specs.Found.{Found}
 use Rattle.grid.proofs.Laid.{laid-axes, laid-bins, laid-head}
 use Rattle.grid.proofs.Sounds.{node-axes, node-bins}
 use Rattle.grid.proofs.Accepts.{formed, head-sound, spot-sound, takes-below, takes-grid}
+use Rattle.grid.proofs.Finds.{found-below, found-grid}
 use Rattle.grid.proofs.Absorbs.{bins-absorbed, nothing-absorbed, child-absorbed, absorbed-axes, absorbed-bins}
 use Rattle.grid.specs.Sampled.{sampleIn}
 use Prim.Native.Nat.{ℕ, _<_}
@@ -435,7 +437,7 @@ absorb-bins-absorb-child-requires : (t : ℕ) → absorb-bins-lts.Need-absorb-ch
   put-reads.Learnt,
 ) (absorb-bins-at t) absorb-bins.Post
 unfolding ChildLaid
-absorb-bins-absorb-child-requires t c κs = (omega (arith, c .before .before .before .before .before .before .before .before .before .before .before .before .before .before .before .before .before .before .pre .0), (λ z. (c .before .before .before .before .before .before .before .before .before .before .before .before .before .before .before .before .before .before .pre .1 .0) .children (getD (c .before .before .before .before .before .before .before .before .before .before .before .before .before .before .before .before .before .before .args .path .now) (c .before .before .before .before .before .before .before .before .before .before .before .before .before .before .before .before .before .before .args .depth) 0) ((formed (gridAt (c .before .before .before .before .before .before .before .before .before .before .before .before .before .before .before .before .before .before .args .level) (c .before .before .before .before .before .before .before .before .before .before .before .before .before .before .before .before .before .before .args .table .now) (c .before .before .before .before .before .before .before .before .before .before .before .before .before .before .before .before .before .before .args .reals .now) (c .before .before .before .before .before .before .before .before .before .before .before .before .before .before .before .before .before .before .args .counts .now)) (c .before .before .before .before .before .before .before .before .before .before .before .before .before .before .before .before .before .before .args .table .now) (c .before .before .before .before .before .before .before .before .before .before .before .before .before .before .before .before .before .before .args .reals .now) (c .before .before .before .before .before .before .before .before .before .before .before .before .before .before .before .before .before .before .args .counts .now) (c .before .before .before .before .before .before .before .before .before .before .before .before .before .before .before .before .before .before .args .w) (getD (c .before .before .before .before .before .before .before .before .before .before .before .before .before .before .before .before .before .before .args .table .now) ((c .before .before .before .before .before .before .before .before .before .before .before .before .before .before .before .before .before .before .args .w) + 2) 0) (headAt (c .before .before .before .before .before .before .before .before .before .before .before .before .before .before .before .before .before .before .args .table .now) (c .before .before .before .before .before .before .before .before .before .before .before .before .before .before .before .before .before .before .args .reals .now) (c .before .before .before .before .before .before .before .before .before .before .before .before .before .before .before .before .before .before .args .counts .now) (c .before .before .before .before .before .before .before .before .before .before .before .before .before .before .before .before .before .before .args .w)) (sampleIn (c .before .before .before .before .before .before .before .before .before .before .before .before .before .before .before .before .before .before .args .path .now) (c .before .before .before .before .before .before .before .before .before .before .before .before .before .before .before .before .before .before .args .levels) (c .before .before .before .before .before .before .before .before .before .before .before .before .before .before .before .before .before .before .args .weights .now) (c .before .before .before .before .before .before .before .before .before .before .before .before .before .before .before .before .before .before .args .weighed) (c .before .before .before .before .before .before .before .before .before .before .before .before .before .before .before .before .before .before .args .coordinates .now) (c .before .before .before .before .before .before .before .before .before .before .before .before .before .before .before .before .before .before .args .many)) (c .before .before .before .before .before .before .before .before .before .before .before .before .before .before .before .before .before .before .args .depth) (c .before .before .before .before .before .before .before .before .before .before .before .before .before .before .before .before .before .before .args .number) (c .before .before .before .before .before .before .before .before .before .before .before .before .before .before .before .before .before .before .pre .1 .2)) .bin) z, omega (arith, c .before .before .before .before .before .before .before .before .before .before .before .before .before .before .before .before .before .before .pre .1 .1), takes-below (gridAt (c .before .before .before .before .before .before .before .before .before .before .before .before .before .before .before .before .before .before .args .level) (c .before .before .before .before .before .before .before .before .before .before .before .before .before .before .before .before .before .before .args .table .now) (c .before .before .before .before .before .before .before .before .before .before .before .before .before .before .before .before .before .before .args .reals .now) (c .before .before .before .before .before .before .before .before .before .before .before .before .before .before .before .before .before .before .args .counts .now)) (c .before .before .before .before .before .before .before .before .before .before .before .before .before .before .before .before .before .before .args .table .now) (c .before .before .before .before .before .before .before .before .before .before .before .before .before .before .before .before .before .before .args .reals .now) (c .before .before .before .before .before .before .before .before .before .before .before .before .before .before .before .before .before .before .args .counts .now) (c .before .before .before .before .before .before .before .before .before .before .before .before .before .before .before .before .before .before .args .w) (getD (c .before .before .before .before .before .before .before .before .before .before .before .before .before .before .before .before .before .before .args .table .now) ((c .before .before .before .before .before .before .before .before .before .before .before .before .before .before .before .before .before .before .args .w) + 2) 0) (headAt (c .before .before .before .before .before .before .before .before .before .before .before .before .before .before .before .before .before .before .args .table .now) (c .before .before .before .before .before .before .before .before .before .before .before .before .before .before .before .before .before .before .args .reals .now) (c .before .before .before .before .before .before .before .before .before .before .before .before .before .before .before .before .before .before .args .counts .now) (c .before .before .before .before .before .before .before .before .before .before .before .before .before .before .before .before .before .before .args .w)) (sampleIn (c .before .before .before .before .before .before .before .before .before .before .before .before .before .before .before .before .before .before .args .path .now) (c .before .before .before .before .before .before .before .before .before .before .before .before .before .before .before .before .before .before .args .levels) (c .before .before .before .before .before .before .before .before .before .before .before .before .before .before .before .before .before .before .args .weights .now) (c .before .before .before .before .before .before .before .before .before .before .before .before .before .before .before .before .before .before .args .weighed) (c .before .before .before .before .before .before .before .before .before .before .before .before .before .before .before .before .before .before .args .coordinates .now) (c .before .before .before .before .before .before .before .before .before .before .before .before .before .before .before .before .before .before .args .many)) (c .before .before .before .before .before .before .before .before .before .before .before .before .before .before .before .before .before .before .args .depth) (c .before .before .before .before .before .before .before .before .before .before .before .before .before .before .before .before .before .before .args .number) (c .before .before .before .before .before .before .before .before .before .before .before .before .before .before .before .before .before .before .pre .1 .2)))
+absorb-bins-absorb-child-requires t c κs = (omega (arith, c .before .before .before .before .before .before .before .before .before .before .before .before .before .before .before .before .before .before .pre .0), (λ z. (c .before .before .before .before .before .before .before .before .before .before .before .before .before .before .before .before .before .before .pre .1 .0) .children (getD (c .before .before .before .before .before .before .before .before .before .before .before .before .before .before .before .before .before .before .args .path .now) (c .before .before .before .before .before .before .before .before .before .before .before .before .before .before .before .before .before .before .args .depth) 0) ((formed (gridAt (c .before .before .before .before .before .before .before .before .before .before .before .before .before .before .before .before .before .before .args .level) (c .before .before .before .before .before .before .before .before .before .before .before .before .before .before .before .before .before .before .args .table .now) (c .before .before .before .before .before .before .before .before .before .before .before .before .before .before .before .before .before .before .args .reals .now) (c .before .before .before .before .before .before .before .before .before .before .before .before .before .before .before .before .before .before .args .counts .now)) (c .before .before .before .before .before .before .before .before .before .before .before .before .before .before .before .before .before .before .args .table .now) (c .before .before .before .before .before .before .before .before .before .before .before .before .before .before .before .before .before .before .args .reals .now) (c .before .before .before .before .before .before .before .before .before .before .before .before .before .before .before .before .before .before .args .counts .now) (c .before .before .before .before .before .before .before .before .before .before .before .before .before .before .before .before .before .before .args .w) (getD (c .before .before .before .before .before .before .before .before .before .before .before .before .before .before .before .before .before .before .args .table .now) ((c .before .before .before .before .before .before .before .before .before .before .before .before .before .before .before .before .before .before .args .w) + 2) 0) (headAt (c .before .before .before .before .before .before .before .before .before .before .before .before .before .before .before .before .before .before .args .table .now) (c .before .before .before .before .before .before .before .before .before .before .before .before .before .before .before .before .before .before .args .reals .now) (c .before .before .before .before .before .before .before .before .before .before .before .before .before .before .before .before .before .before .args .counts .now) (c .before .before .before .before .before .before .before .before .before .before .before .before .before .before .before .before .before .before .args .w)) (sampleIn (c .before .before .before .before .before .before .before .before .before .before .before .before .before .before .before .before .before .before .args .path .now) (c .before .before .before .before .before .before .before .before .before .before .before .before .before .before .before .before .before .before .args .levels) (c .before .before .before .before .before .before .before .before .before .before .before .before .before .before .before .before .before .before .args .weights .now) (c .before .before .before .before .before .before .before .before .before .before .before .before .before .before .before .before .before .before .args .weighed) (c .before .before .before .before .before .before .before .before .before .before .before .before .before .before .before .before .before .before .args .coordinates .now) (c .before .before .before .before .before .before .before .before .before .before .before .before .before .before .before .before .before .before .args .many)) (c .before .before .before .before .before .before .before .before .before .before .before .before .before .before .before .before .before .before .args .depth) (c .before .before .before .before .before .before .before .before .before .before .before .before .before .before .before .before .before .before .args .number) (c .before .before .before .before .before .before .before .before .before .before .before .before .before .before .before .before .before .before .pre .1 .2)) .bin) z, omega (arith, c .before .before .before .before .before .before .before .before .before .before .before .before .before .before .before .before .before .before .pre .1 .1), takes-below (gridAt (c .before .before .before .before .before .before .before .before .before .before .before .before .before .before .before .before .before .before .args .level) (c .before .before .before .before .before .before .before .before .before .before .before .before .before .before .before .before .before .before .args .table .now) (c .before .before .before .before .before .before .before .before .before .before .before .before .before .before .before .before .before .before .args .reals .now) (c .before .before .before .before .before .before .before .before .before .before .before .before .before .before .before .before .before .before .args .counts .now)) (c .before .before .before .before .before .before .before .before .before .before .before .before .before .before .before .before .before .before .args .table .now) (c .before .before .before .before .before .before .before .before .before .before .before .before .before .before .before .before .before .before .args .reals .now) (c .before .before .before .before .before .before .before .before .before .before .before .before .before .before .before .before .before .before .args .counts .now) (c .before .before .before .before .before .before .before .before .before .before .before .before .before .before .before .before .before .before .args .w) (getD (c .before .before .before .before .before .before .before .before .before .before .before .before .before .before .before .before .before .before .args .table .now) ((c .before .before .before .before .before .before .before .before .before .before .before .before .before .before .before .before .before .before .args .w) + 2) 0) (headAt (c .before .before .before .before .before .before .before .before .before .before .before .before .before .before .before .before .before .before .args .table .now) (c .before .before .before .before .before .before .before .before .before .before .before .before .before .before .before .before .before .before .args .reals .now) (c .before .before .before .before .before .before .before .before .before .before .before .before .before .before .before .before .before .before .args .counts .now) (c .before .before .before .before .before .before .before .before .before .before .before .before .before .before .before .before .before .before .args .w)) (sampleIn (c .before .before .before .before .before .before .before .before .before .before .before .before .before .before .before .before .before .before .args .path .now) (c .before .before .before .before .before .before .before .before .before .before .before .before .before .before .before .before .before .before .args .levels) (c .before .before .before .before .before .before .before .before .before .before .before .before .before .before .before .before .before .before .args .weights .now) (c .before .before .before .before .before .before .before .before .before .before .before .before .before .before .before .before .before .before .args .weighed) (c .before .before .before .before .before .before .before .before .before .before .before .before .before .before .before .before .before .before .args .coordinates .now) (c .before .before .before .before .before .before .before .before .before .before .before .before .before .before .before .before .before .before .args .many)) (c .before .before .before .before .before .before .before .before .before .before .before .before .before .before .before .before .before .before .args .depth) (c .before .before .before .before .before .before .before .before .before .before .before .before .before .before .before .before .before .before .args .number) (c .before .before .before .before .before .before .before .before .before .before .before .before .before .before .before .before .before .before .pre .1 .2), found-below (gridAt (c .before .before .before .before .before .before .before .before .before .before .before .before .before .before .before .before .before .before .args .level) (c .before .before .before .before .before .before .before .before .before .before .before .before .before .before .before .before .before .before .args .table .now) (c .before .before .before .before .before .before .before .before .before .before .before .before .before .before .before .before .before .before .args .reals .now) (c .before .before .before .before .before .before .before .before .before .before .before .before .before .before .before .before .before .before .args .counts .now)) (c .before .before .before .before .before .before .before .before .before .before .before .before .before .before .before .before .before .before .args .table .now) (c .before .before .before .before .before .before .before .before .before .before .before .before .before .before .before .before .before .before .args .reals .now) (c .before .before .before .before .before .before .before .before .before .before .before .before .before .before .before .before .before .before .args .counts .now) (c .before .before .before .before .before .before .before .before .before .before .before .before .before .before .before .before .before .before .args .w) (getD (c .before .before .before .before .before .before .before .before .before .before .before .before .before .before .before .before .before .before .args .table .now) ((c .before .before .before .before .before .before .before .before .before .before .before .before .before .before .before .before .before .before .args .w) + 2) 0) (headAt (c .before .before .before .before .before .before .before .before .before .before .before .before .before .before .before .before .before .before .args .table .now) (c .before .before .before .before .before .before .before .before .before .before .before .before .before .before .before .before .before .before .args .reals .now) (c .before .before .before .before .before .before .before .before .before .before .before .before .before .before .before .before .before .before .args .counts .now) (c .before .before .before .before .before .before .before .before .before .before .before .before .before .before .before .before .before .before .args .w)) (sampleIn (c .before .before .before .before .before .before .before .before .before .before .before .before .before .before .before .before .before .before .args .path .now) (c .before .before .before .before .before .before .before .before .before .before .before .before .before .before .before .before .before .before .args .levels) (c .before .before .before .before .before .before .before .before .before .before .before .before .before .before .before .before .before .before .args .weights .now) (c .before .before .before .before .before .before .before .before .before .before .before .before .before .before .before .before .before .before .args .weighed) (c .before .before .before .before .before .before .before .before .before .before .before .before .before .before .before .before .before .before .args .coordinates .now) (c .before .before .before .before .before .before .before .before .before .before .before .before .before .before .before .before .before .before .args .many)) (c .before .before .before .before .before .before .before .before .before .before .before .before .before .before .before .before .before .before .args .depth) (c .before .before .before .before .before .before .before .before .before .before .before .before .before .before .before .before .before .before .args .number) (c .before .before .before .before .before .before .before .before .before .before .before .before .before .before .before .before .before .before .pre .1 .2) (c .before .before .before .before .before .before .before .before .before .before .before .before .before .before .before .before .before .before .args .spots .now) (c .before .before .before .before .before .before .before .before .before .before .before .before .before .before .before .before .before .before .pre .1 .3)))
 
 -- src/absorbing.rt:138:5
 absorb-bins-put-requires : (t : ℕ) → absorb-bins-lts.Need-put-requires (
@@ -505,7 +507,7 @@ absorb-child-absorb-grid-requires : (t : ℕ) → absorb-child-lts.Need-absorb-g
   absorb-grid.Post,
 ) (absorb-child-at t) absorb-child.Post
 unfolding ChildLaid
-absorb-child-absorb-grid-requires t c κs = (omega (arith, c .before .before .before .before .before .before .pre .0), (c .before .before .before .before .before .before .pre .1 .0 (c .before .before .if1 .left), c .before .before .before .before .before .before .pre .1 .1, takes-grid (gridAt (c .before .before .before .before .before .before .args .level) (c .before .before .before .before .before .before .args .table .now) (c .before .before .before .before .before .before .args .reals .now) (c .before .before .before .before .before .before .args .counts .now)) (c .before .before .before .before .before .before .args .link) (sampleIn (c .before .before .before .before .before .before .args .path .now) (c .before .before .before .before .before .before .args .levels) (c .before .before .before .before .before .before .args .weights .now) (c .before .before .before .before .before .before .args .weighed) (c .before .before .before .before .before .before .args .coordinates .now) (c .before .before .before .before .before .before .args .many)) (c .before .before .before .before .before .before .args .depth) (c .before .before .before .before .before .before .args .number) (c .before .before .if1 .left) (c .before .before .before .before .before .before .pre .1 .2)))
+absorb-child-absorb-grid-requires t c κs = (omega (arith, c .before .before .before .before .before .before .pre .0), (c .before .before .before .before .before .before .pre .1 .0 (c .before .before .if1 .left), c .before .before .before .before .before .before .pre .1 .1, takes-grid (gridAt (c .before .before .before .before .before .before .args .level) (c .before .before .before .before .before .before .args .table .now) (c .before .before .before .before .before .before .args .reals .now) (c .before .before .before .before .before .before .args .counts .now)) (c .before .before .before .before .before .before .args .link) (sampleIn (c .before .before .before .before .before .before .args .path .now) (c .before .before .before .before .before .before .args .levels) (c .before .before .before .before .before .before .args .weights .now) (c .before .before .before .before .before .before .args .weighed) (c .before .before .before .before .before .before .args .coordinates .now) (c .before .before .before .before .before .before .args .many)) (c .before .before .before .before .before .before .args .depth) (c .before .before .before .before .before .before .args .number) (c .before .before .if1 .left) (c .before .before .before .before .before .before .pre .1 .2), found-grid (gridAt (c .before .before .before .before .before .before .args .level) (c .before .before .before .before .before .before .args .table .now) (c .before .before .before .before .before .before .args .reals .now) (c .before .before .before .before .before .before .args .counts .now)) (c .before .before .before .before .before .before .args .link) (sampleIn (c .before .before .before .before .before .before .args .path .now) (c .before .before .before .before .before .before .args .levels) (c .before .before .before .before .before .before .args .weights .now) (c .before .before .before .before .before .before .args .weighed) (c .before .before .before .before .before .before .args .coordinates .now) (c .before .before .before .before .before .before .args .many)) (c .before .before .before .before .before .before .args .depth) (c .before .before .before .before .before .before .args .spots .now) (c .before .before .if1 .left) (c .before .before .before .before .before .before .pre .1 .3)))
 
 -- src/absorbing.rt:46:1
 absorb-child-same-length : (t : ℕ) → absorb-child-lts.Need-same-length (
@@ -553,7 +555,7 @@ absorb-grid-absorb-axes-requires : (t : ℕ) → absorb-grid-lts.Need-absorb-axe
   absorb-bins-below t,
   absorb-bins.Post,
 ) (absorb-grid-at t) absorb-grid.Post
-absorb-grid-absorb-axes-requires t c κs = ((laid-axes (c .before .before .before .before .before .before .before .args .level) (c .before .before .before .before .before .before .before .args .table .now) (length (c .before .before .before .before .before .before .before .args .reals .now)) (length (c .before .before .before .before .before .before .before .args .counts .now)) (c .before .before .before .before .before .before .before .args .w) (c .before .before .before .before .before .before .before .pre .1 .0) (c .before .before .if1 .taken)), omega (arith, c .before .before .before .before .before .before .before .pre .1 .1), subst (λ (g : Grid). Takes g (sampleIn (c .before .before .before .before .before .before .before .args .path .now) (c .before .before .before .before .before .before .before .args .levels) (c .before .before .before .before .before .before .before .args .weights .now) (c .before .before .before .before .before .before .before .args .weighed) (c .before .before .before .before .before .before .before .args .coordinates .now) (c .before .before .before .before .before .before .before .args .many)) (c .before .before .before .before .before .before .before .args .depth) (c .before .before .before .before .before .before .before .args .number)) (node-axes (c .before .before .before .before .before .before .before .args .level) (c .before .before .before .before .before .before .before .args .table .now) (c .before .before .before .before .before .before .before .args .reals .now) (c .before .before .before .before .before .before .before .args .counts .now) (c .before .before .before .before .before .before .before .args .w) (c .before .before .if1 .taken)) (c .before .before .before .before .before .before .before .pre .1 .2))
+absorb-grid-absorb-axes-requires t c κs = ((laid-axes (c .before .before .before .before .before .before .before .args .level) (c .before .before .before .before .before .before .before .args .table .now) (length (c .before .before .before .before .before .before .before .args .reals .now)) (length (c .before .before .before .before .before .before .before .args .counts .now)) (c .before .before .before .before .before .before .before .args .w) (c .before .before .before .before .before .before .before .pre .1 .0) (c .before .before .if1 .taken)), omega (arith, c .before .before .before .before .before .before .before .pre .1 .1), subst (λ (g : Grid). Takes g (sampleIn (c .before .before .before .before .before .before .before .args .path .now) (c .before .before .before .before .before .before .before .args .levels) (c .before .before .before .before .before .before .before .args .weights .now) (c .before .before .before .before .before .before .before .args .weighed) (c .before .before .before .before .before .before .before .args .coordinates .now) (c .before .before .before .before .before .before .before .args .many)) (c .before .before .before .before .before .before .before .args .depth) (c .before .before .before .before .before .before .before .args .number)) (node-axes (c .before .before .before .before .before .before .before .args .level) (c .before .before .before .before .before .before .before .args .table .now) (c .before .before .before .before .before .before .before .args .reals .now) (c .before .before .before .before .before .before .before .args .counts .now) (c .before .before .before .before .before .before .before .args .w) (c .before .before .if1 .taken)) (c .before .before .before .before .before .before .before .pre .1 .2), subst (λ (g : Grid). Found (c .before .before .before .before .before .before .before .args .spots .now) g (sampleIn (c .before .before .before .before .before .before .before .args .path .now) (c .before .before .before .before .before .before .before .args .levels) (c .before .before .before .before .before .before .before .args .weights .now) (c .before .before .before .before .before .before .before .args .weighed) (c .before .before .before .before .before .before .before .args .coordinates .now) (c .before .before .before .before .before .before .before .args .many)) (c .before .before .before .before .before .before .before .args .depth)) (node-axes (c .before .before .before .before .before .before .before .args .level) (c .before .before .before .before .before .before .before .args .table .now) (c .before .before .before .before .before .before .before .args .reals .now) (c .before .before .before .before .before .before .before .args .counts .now) (c .before .before .before .before .before .before .before .args .w) (c .before .before .if1 .taken)) (c .before .before .before .before .before .before .before .pre .1 .3))
 
 -- src/absorbing.rt:165:9
 absorb-grid-same-length : (t : ℕ) → absorb-grid-lts.Need-same-length (
@@ -598,7 +600,7 @@ absorb-grid-absorb-bins-requires : (t : ℕ) → absorb-grid-lts.Need-absorb-bin
   absorb-bins-below t,
   absorb-bins.Post,
 ) (absorb-grid-at t) absorb-grid.Post
-absorb-grid-absorb-bins-requires t c κs = (omega (arith, c .before .before .before .before .before .before .before .pre .0, (laid-bins (c .before .before .before .before .before .before .before .args .level) (c .before .before .before .before .before .before .before .args .table .now) (length (c .before .before .before .before .before .before .before .args .reals .now)) (length (c .before .before .before .before .before .before .before .args .counts .now)) (c .before .before .before .before .before .before .before .args .w) (c .before .before .before .before .before .before .before .pre .1 .0) (c .before .before .if1 .left)) .level), ((laid-bins (c .before .before .before .before .before .before .before .args .level) (c .before .before .before .before .before .before .before .args .table .now) (length (c .before .before .before .before .before .before .before .args .reals .now)) (length (c .before .before .before .before .before .before .before .args .counts .now)) (c .before .before .before .before .before .before .before .args .w) (c .before .before .before .before .before .before .before .pre .1 .0) (c .before .before .if1 .left)) .bins, omega (arith, c .before .before .before .before .before .before .before .pre .1 .1, (laid-bins (c .before .before .before .before .before .before .before .args .level) (c .before .before .before .before .before .before .before .args .table .now) (length (c .before .before .before .before .before .before .before .args .reals .now)) (length (c .before .before .before .before .before .before .before .args .counts .now)) (c .before .before .before .before .before .before .before .args .w) (c .before .before .before .before .before .before .before .pre .1 .0) (c .before .before .if1 .left)) .level), subst (λ (g : Grid). Takes g (sampleIn (c .before .before .before .before .before .before .before .args .path .now) (c .before .before .before .before .before .before .before .args .levels) (c .before .before .before .before .before .before .before .args .weights .now) (c .before .before .before .before .before .before .before .args .weighed) (c .before .before .before .before .before .before .before .args .coordinates .now) (c .before .before .before .before .before .before .before .args .many)) (c .before .before .before .before .before .before .before .args .depth) (c .before .before .before .before .before .before .before .args .number)) (node-bins (c .before .before .before .before .before .before .before .args .level) (c .before .before .before .before .before .before .before .args .table .now) (c .before .before .before .before .before .before .before .args .reals .now) (c .before .before .before .before .before .before .before .args .counts .now) (c .before .before .before .before .before .before .before .args .w) (c .before .before .if1 .left) ((laid-bins (c .before .before .before .before .before .before .before .args .level) (c .before .before .before .before .before .before .before .args .table .now) (length (c .before .before .before .before .before .before .before .args .reals .now)) (length (c .before .before .before .before .before .before .before .args .counts .now)) (c .before .before .before .before .before .before .before .args .w) (c .before .before .before .before .before .before .before .pre .1 .0) (c .before .before .if1 .left)) .level)) (c .before .before .before .before .before .before .before .pre .1 .2)))
+absorb-grid-absorb-bins-requires t c κs = (omega (arith, c .before .before .before .before .before .before .before .pre .0, (laid-bins (c .before .before .before .before .before .before .before .args .level) (c .before .before .before .before .before .before .before .args .table .now) (length (c .before .before .before .before .before .before .before .args .reals .now)) (length (c .before .before .before .before .before .before .before .args .counts .now)) (c .before .before .before .before .before .before .before .args .w) (c .before .before .before .before .before .before .before .pre .1 .0) (c .before .before .if1 .left)) .level), ((laid-bins (c .before .before .before .before .before .before .before .args .level) (c .before .before .before .before .before .before .before .args .table .now) (length (c .before .before .before .before .before .before .before .args .reals .now)) (length (c .before .before .before .before .before .before .before .args .counts .now)) (c .before .before .before .before .before .before .before .args .w) (c .before .before .before .before .before .before .before .pre .1 .0) (c .before .before .if1 .left)) .bins, omega (arith, c .before .before .before .before .before .before .before .pre .1 .1, (laid-bins (c .before .before .before .before .before .before .before .args .level) (c .before .before .before .before .before .before .before .args .table .now) (length (c .before .before .before .before .before .before .before .args .reals .now)) (length (c .before .before .before .before .before .before .before .args .counts .now)) (c .before .before .before .before .before .before .before .args .w) (c .before .before .before .before .before .before .before .pre .1 .0) (c .before .before .if1 .left)) .level), subst (λ (g : Grid). Takes g (sampleIn (c .before .before .before .before .before .before .before .args .path .now) (c .before .before .before .before .before .before .before .args .levels) (c .before .before .before .before .before .before .before .args .weights .now) (c .before .before .before .before .before .before .before .args .weighed) (c .before .before .before .before .before .before .before .args .coordinates .now) (c .before .before .before .before .before .before .before .args .many)) (c .before .before .before .before .before .before .before .args .depth) (c .before .before .before .before .before .before .before .args .number)) (node-bins (c .before .before .before .before .before .before .before .args .level) (c .before .before .before .before .before .before .before .args .table .now) (c .before .before .before .before .before .before .before .args .reals .now) (c .before .before .before .before .before .before .before .args .counts .now) (c .before .before .before .before .before .before .before .args .w) (c .before .before .if1 .left) ((laid-bins (c .before .before .before .before .before .before .before .args .level) (c .before .before .before .before .before .before .before .args .table .now) (length (c .before .before .before .before .before .before .before .args .reals .now)) (length (c .before .before .before .before .before .before .before .args .counts .now)) (c .before .before .before .before .before .before .before .args .w) (c .before .before .before .before .before .before .before .pre .1 .0) (c .before .before .if1 .left)) .level)) (c .before .before .before .before .before .before .before .pre .1 .2), subst (λ (g : Grid). Found (c .before .before .before .before .before .before .before .args .spots .now) g (sampleIn (c .before .before .before .before .before .before .before .args .path .now) (c .before .before .before .before .before .before .before .args .levels) (c .before .before .before .before .before .before .before .args .weights .now) (c .before .before .before .before .before .before .before .args .weighed) (c .before .before .before .before .before .before .before .args .coordinates .now) (c .before .before .before .before .before .before .before .args .many)) (c .before .before .before .before .before .before .before .args .depth)) (node-bins (c .before .before .before .before .before .before .before .args .level) (c .before .before .before .before .before .before .before .args .table .now) (c .before .before .before .before .before .before .before .args .reals .now) (c .before .before .before .before .before .before .before .args .counts .now) (c .before .before .before .before .before .before .before .args .w) (c .before .before .if1 .left) ((laid-bins (c .before .before .before .before .before .before .before .args .level) (c .before .before .before .before .before .before .before .args .table .now) (length (c .before .before .before .before .before .before .before .args .reals .now)) (length (c .before .before .before .before .before .before .before .args .counts .now)) (c .before .before .before .before .before .before .before .args .w) (c .before .before .before .before .before .before .before .pre .1 .0) (c .before .before .if1 .left)) .level)) (c .before .before .before .before .before .before .before .pre .1 .3)))
 
 -- src/absorbing.rt:143:1
 absorb-grid-same-length-3 : (t : ℕ) → absorb-grid-lts.Need-same-length-3 (

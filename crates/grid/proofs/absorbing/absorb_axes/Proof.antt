@@ -1,12 +1,10 @@
 -- What the record gains is found before the axes are written; a well-formed grid and the sample's form give what the axes ask.
 use native.Mathlib.Omega.{arith}
 use Rattle.grid.specs.Memory.{memory}
-use Rattle.grid.proofs.Accepts.{spots-there, cells-of, own-sound}
+use Rattle.grid.proofs.Accepts.{own-sound}
+use Rattle.grid.proofs.Finds.{found-there, found-asked}
 use Rattle.grid.proofs.Absorbs.{axes-absorbed}
 use Rattle.grid.specs.Sampled.{entries, sampleIn}
-use Rattle.grid.specs.Drawn.{axesAt}
-use Rattle.grid.specs.Trained.{binsOn}
-use lib.Ieee.{nan}
 use borrow.Author.Needs.{needs}
 use Rattle.grid.proofs.absorbing.absorb_axes.Statement.{statement}
 use Rattle.grid.proofs.absorbing.absorb_axes.Tie as tie
@@ -65,7 +63,7 @@ train-axes-requires : tie.Need-train-axes-requires
 train-axes-requires c κs =
     let o = c .before .before .before .before .before .before .before .before .before .before .before .before in
     let s = sampleIn (o .args .path .now) (o .args .levels) (o .args .weights .now) (o .args .weighed) (o .args .coordinates .now) (o .args .many) in
-    cells-of (o .args .table .now) (o .args .reals .now) (o .args .counts .now) (o .args .w) s (o .args .depth) (o .args .number) (o .pre .0) (o .pre .2) (c .before .before .before .before .before .before .before .axes-place .result) (c .before .before .before .before .before .before .before .axes-place .ensures)
+    found-asked (o .args .table .now) (o .args .reals .now) (o .args .counts .now) (o .args .w) s (o .args .depth) (o .args .number) (o .pre .0) (o .pre .2) (c .before .before .before .before .before .before .before .axes-place .result) (c .before .before .before .before .before .before .before .axes-place .ensures) (o .args .spots .now) (o .pre .3)
 
 -- src/absorbing.rt:42:5
 put-requires : tie.Need-put-requires
@@ -88,8 +86,8 @@ returns c =
     let m = memory (o .args .reals .now) (o .args .counts .now) in
     axes-absorbed (o .args .table .now) s (o .args .evaluation) (o .args .number) (o .args .w) (o .args .depth) m
     (memory (c .before .before .before .before .before .before .before .before .before .before .before .train-axes .last .0) (c .before .before .before .before .before .before .before .before .before .before .before .train-axes .last .1 .0)) (memory (c .before .before .before .before .put .last .0) (c .before .before .before .before .put .last .1 .0))
-    g (binsOn (axesAt (o .args .reals .now) (o .args .counts .now) g) (entries nan (o .args .coordinates .now) 0 (g .axes))) (c .before .before .before .before .before .before .before .before .before .before .before .before .before .before .gain-at .result)
-    (c .before .before .before .before .before .before .before .before .before .before .before .before .before .before .before .before .before .before .before .axes-place .ensures) (spots-there (o .args .table .now) (o .args .reals .now) (o .args .counts .now) (o .args .w) s (o .args .depth) (o .args .number) (o .pre .0) (o .pre .2) g (c .before .before .before .before .before .before .before .before .before .before .before .before .before .before .before .before .before .before .before .axes-place .ensures)) (c .before .before .before .before .before .before .before .before .before .before .before .before .before .before .gain-at .ensures) (c .before .before .before .before .before .before .before .before .before .before .before .train-axes .ensures) (c .before .before .before .before .put .ensures)
+    g (entries 0 (o .args .spots .now) 0 (g .axes)) (c .before .before .before .before .before .before .before .before .before .before .before .before .before .before .gain-at .result)
+    (c .before .before .before .before .before .before .before .before .before .before .before .before .before .before .before .before .before .before .before .axes-place .ensures) (found-there (o .args .table .now) (o .args .reals .now) (o .args .counts .now) (o .args .w) s (o .args .depth) (o .args .number) (o .pre .0) (o .pre .2) g (c .before .before .before .before .before .before .before .before .before .before .before .before .before .before .before .before .before .before .before .axes-place .ensures) (o .args .spots .now) (o .pre .3)) (c .before .before .before .before .before .before .before .before .before .before .before .before .before .before .gain-at .ensures) (c .before .before .before .before .before .before .before .before .before .before .before .train-axes .ensures) (c .before .before .before .before .put .ensures)
 
 pub absorb-axes-spec : {M : Type 1} → statement M
 absorb-axes-spec =

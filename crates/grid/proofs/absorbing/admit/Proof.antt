@@ -1,5 +1,5 @@
 -- Nothing stands against the sample, so the grid takes it; else nothing is written.
-use mathlib.Core.Path.{sym, _∙_}
+use mathlib.Core.Path.{refl, sym, _∙_}
 use native.Mathlib.Omega.{arith}
 use Rattle.grid.specs.Memory.{memory}
 use Rattle.grid.specs.State.{rootOf}
@@ -16,7 +16,7 @@ use Rattle.grid.proofs.acceptance.objection.Reads as objection-reads
 
 -- src/absorbing.rt:227:9
 objection-requires : tie.Need-objection-requires
-objection-requires c κs = search needs
+objection-requires c κs = let o = c .before .before .before .before .before .before in (o .pre .0, o .pre .1, o .pre .2, refl)
 
 -- src/absorbing.rt:242:9
 same-length : tie.Need-same-length
@@ -28,11 +28,11 @@ same-length-2 c = search needs
 
 -- src/absorbing.rt:242:9
 returns : tie.Need-returns
-returns c = (c .before .objection .ensures, sym (admitted-none (c .before .objection .result) (c .before .before .before .before .before .before .before .args .table .now) (sampleIn (c .before .before .before .before .before .before .before .args .path .now) (c .before .before .before .before .before .before .before .args .levels) (c .before .before .before .before .before .before .before .args .weights .now) (c .before .before .before .before .before .before .before .args .weighed) (c .before .before .before .before .before .before .before .args .coordinates .now) (c .before .before .before .before .before .before .before .args .many)) (c .before .before .before .before .before .before .before .args .evaluation) (c .before .before .before .before .before .before .before .args .number) (memory (c .before .before .before .before .before .before .before .args .reals .now) (c .before .before .before .before .before .before .before .args .counts .now)) (c .if1 .taken)))
+returns c = (c .before .objection .ensures .0, sym (admitted-none (c .before .objection .result) (c .before .before .before .before .before .before .before .before .args .table .now) (sampleIn (c .before .before .before .before .before .before .before .before .args .path .now) (c .before .before .before .before .before .before .before .before .args .levels) (c .before .before .before .before .before .before .before .before .args .weights .now) (c .before .before .before .before .before .before .before .before .args .weighed) (c .before .before .before .before .before .before .before .before .args .coordinates .now) (c .before .before .before .before .before .before .before .before .args .many)) (c .before .before .before .before .before .before .before .before .args .evaluation) (c .before .before .before .before .before .before .before .before .args .number) (memory (c .before .before .before .before .before .before .before .before .args .reals .now) (c .before .before .before .before .before .before .before .before .args .counts .now)) (c .if1 .taken)))
 
 -- src/absorbing.rt:244:5
 absorb-grid-requires : tie.Need-absorb-grid-requires
-absorb-grid-requires c κs = (c .before .before .before .before .before .before .before .before .before .pre .0, omega arith, takes-root (rootOf (c .before .before .before .before .before .before .before .before .before .args .table .now) (c .before .before .before .before .before .before .before .before .before .args .reals .now) (c .before .before .before .before .before .before .before .before .before .args .counts .now)) (sampleIn (c .before .before .before .before .before .before .before .before .before .args .path .now) (c .before .before .before .before .before .before .before .before .before .args .levels) (c .before .before .before .before .before .before .before .before .before .args .weights .now) (c .before .before .before .before .before .before .before .before .before .args .weighed) (c .before .before .before .before .before .before .before .before .before .args .coordinates .now) (c .before .before .before .before .before .before .before .before .before .args .many)) (c .before .before .before .before .before .before .before .before .before .args .evaluation) (c .before .before .before .before .before .before .before .before .before .args .number) (c .before .before .before .before .before .before .before .before .before .pre .1) (sym (c .before .before .before .objection .ensures) ∙ c .before .before .if1 .left))
+absorb-grid-requires c κs = (c .before .before .before .before .before .before .before .before .before .before .before .pre .0, omega arith, takes-root (rootOf (c .before .before .before .before .before .before .before .before .before .before .before .args .table .now) (c .before .before .before .before .before .before .before .before .before .before .before .args .reals .now) (c .before .before .before .before .before .before .before .before .before .before .before .args .counts .now)) (sampleIn (c .before .before .before .before .before .before .before .before .before .before .before .args .path .now) (c .before .before .before .before .before .before .before .before .before .before .before .args .levels) (c .before .before .before .before .before .before .before .before .before .before .before .args .weights .now) (c .before .before .before .before .before .before .before .before .before .before .before .args .weighed) (c .before .before .before .before .before .before .before .before .before .before .before .args .coordinates .now) (c .before .before .before .before .before .before .before .before .before .before .before .args .many)) (c .before .before .before .before .before .before .before .before .before .before .before .args .evaluation) (c .before .before .before .before .before .before .before .before .before .before .before .args .number) (c .before .before .before .before .before .before .before .before .before .before .before .pre .1) (sym (c .before .before .before .before .objection .ensures .0) ∙ c .before .before .before .if1 .left), c .before .before .before .before .objection .ensures .1 (c .before .before .before .if1 .left))
 
 -- src/absorbing.rt:209:1
 same-length-3 : tie.Need-same-length-3
@@ -44,7 +44,7 @@ same-length-4 c = search needs
 
 -- src/absorbing.rt:209:1
 returns-2 : tie.Need-returns-2
-returns-2 c = (c .before .before .before .before .before .before .before .before .objection .ensures, c .before .before .before .before .absorb-grid .ensures ∙ sym (admitted-all (c .before .before .before .before .before .before .before .before .objection .result) (c .before .before .before .before .before .before .before .before .before .before .before .before .before .before .args .table .now) (sampleIn (c .before .before .before .before .before .before .before .before .before .before .before .before .before .before .args .path .now) (c .before .before .before .before .before .before .before .before .before .before .before .before .before .before .args .levels) (c .before .before .before .before .before .before .before .before .before .before .before .before .before .before .args .weights .now) (c .before .before .before .before .before .before .before .before .before .before .before .before .before .before .args .weighed) (c .before .before .before .before .before .before .before .before .before .before .before .before .before .before .args .coordinates .now) (c .before .before .before .before .before .before .before .before .before .before .before .before .before .before .args .many)) (c .before .before .before .before .before .before .before .before .before .before .before .before .before .before .args .evaluation) (c .before .before .before .before .before .before .before .before .before .before .before .before .before .before .args .number) (memory (c .before .before .before .before .before .before .before .before .before .before .before .before .before .before .args .reals .now) (c .before .before .before .before .before .before .before .before .before .before .before .before .before .before .args .counts .now)) (c .before .before .before .before .before .before .before .if1 .left)))
+returns-2 c = (c .before .before .before .before .before .before .before .before .before .objection .ensures .0, c .before .before .before .before .absorb-grid .ensures ∙ sym (admitted-all (c .before .before .before .before .before .before .before .before .before .objection .result) (c .before .before .before .before .before .before .before .before .before .before .before .before .before .before .before .before .args .table .now) (sampleIn (c .before .before .before .before .before .before .before .before .before .before .before .before .before .before .before .before .args .path .now) (c .before .before .before .before .before .before .before .before .before .before .before .before .before .before .before .before .args .levels) (c .before .before .before .before .before .before .before .before .before .before .before .before .before .before .before .before .args .weights .now) (c .before .before .before .before .before .before .before .before .before .before .before .before .before .before .before .before .args .weighed) (c .before .before .before .before .before .before .before .before .before .before .before .before .before .before .before .before .args .coordinates .now) (c .before .before .before .before .before .before .before .before .before .before .before .before .before .before .before .before .args .many)) (c .before .before .before .before .before .before .before .before .before .before .before .before .before .before .before .before .args .evaluation) (c .before .before .before .before .before .before .before .before .before .before .before .before .before .before .before .before .args .number) (memory (c .before .before .before .before .before .before .before .before .before .before .before .before .before .before .before .before .args .reals .now) (c .before .before .before .before .before .before .before .before .before .before .before .before .before .before .before .before .args .counts .now)) (c .before .before .before .before .before .before .before .before .if1 .left)))
 
 pub admit-spec : {M : Type 1} → statement M
 admit-spec =

@@ -5,6 +5,7 @@ use native.Mathlib.Omega.{arith}
 use lib.ListN.{getD}
 use lib.Ieee.{nan, binary64, mul}
 use Rattle.grid.proofs.Accepts.{fit-there, cells-of, own-sound, axes-told}
+use Rattle.grid.proofs.Finds.{axes-found}
 use Rattle.grid.specs.Sampled.{sampleIn}
 use borrow.Author.Needs.{needs}
 use Rattle.grid.proofs.acceptance.axes_accept.Statement.{statement}
@@ -30,9 +31,9 @@ axes-place-requires c κs = search needs
 -- src/acceptance.rt:41:9
 axes-fit-requires : tie.Need-axes-fit-requires
 axes-fit-requires c κs =
-    let o = c .before .before .before .before .before in
+    let o = c .before .before .before .before .before .before in
     let s = sampleIn (o .args .path .now) (o .args .levels) (o .args .weights .now) (o .args .weighed) (o .args .coordinates .now) (o .args .many) in
-    cells-of (o .args .table .now) (o .args .reals .now) (o .args .counts .now) (o .args .w) s (o .args .depth) (o .args .number) (o .pre .0) (o .pre .2) (c .axes-place .result) (c .axes-place .ensures)
+    (cells-of (o .args .table .now) (o .args .reals .now) (o .args .counts .now) (o .args .w) s (o .args .depth) (o .args .number) (o .pre .0) (o .pre .2) (c .before .axes-place .result) (c .before .axes-place .ensures), o .pre .3)
 
 -- src/acceptance.rt:42:19
 add-r : tie.Need-add-r
@@ -61,17 +62,21 @@ shared-slice-read-c c = search needs
 -- src/acceptance.rt:44:9
 fits-with-requires : tie.Need-fits-with-requires
 fits-with-requires c κs =
-    let o = c .before .before .before .before .before .before .before .before in
+    let o = c .before .before .before .before .before .before .before .before .before in
     let s = sampleIn (o .args .path .now) (o .args .levels) (o .args .weights .now) (o .args .weighed) (o .args .coordinates .now) (o .args .many) in
     (omega (arith, o .pre .0), omega (arith, o .pre .0), own-sound (o .args .table .now) (o .args .reals .now) (o .args .counts .now) (o .args .w) s (o .args .depth) (o .pre .2 .well), o .pre .2 .number)
 
 -- src/acceptance.rt:19:1
 returns : tie.Need-returns
 returns c =
-    let o = c .before .before .before .before .before .before .before .before .before in
+    let o = c .before .before .before .before .before .before .before .before .before .before in
     let s = sampleIn (o .args .path .now) (o .args .levels) (o .args .weights .now) (o .args .weighed) (o .args .coordinates .now) (o .args .many) in
-    ap₂ _&&_ (c .fits-with .ensures) (c .before .before .before .axes-fit .ensures ∙ fit-there (o .args .table .now) (o .args .reals .now) (o .args .counts .now) (o .args .w) s (o .args .depth) (o .args .number) (o .pre .0) (o .pre .2) (c .before .before .before .before .axes-place .result) (c .before .before .before .before .axes-place .ensures) (mul binary64 (getD (o .args .weights .now) (o .args .depth) nan) (o .args .evaluation)))
-    ∙ axes-told (o .args .table .now) (o .args .reals .now) (o .args .counts .now) (o .args .w) s (o .args .depth) (o .args .number) (o .pre .0) (o .pre .2) (o .args .evaluation)
+    let place = c .before .before .before .before .before .axes-place in
+    let fit = c .before .before .before .axes-fit in (
+      ap₂ _&&_ (c .fits-with .ensures) (fit .ensures .0 ∙ fit-there (o .args .table .now) (o .args .reals .now) (o .args .counts .now) (o .args .w) s (o .args .depth) (o .args .number) (o .pre .0) (o .pre .2) (place .result) (place .ensures) (mul binary64 (getD (o .args .weights .now) (o .args .depth) nan) (o .args .evaluation)))
+          ∙ axes-told (o .args .table .now) (o .args .reals .now) (o .args .counts .now) (o .args .w) s (o .args .depth) (o .args .number) (o .pre .0) (o .pre .2) (o .args .evaluation),
+      axes-found (o .args .table .now) (o .args .reals .now) (o .args .counts .now) (o .args .w) s (o .args .depth) (o .args .number) (o .pre .0) (o .pre .2) (place .result) (place .ensures) (fit .last .1 .1 .1 .1 .1 .1 .0) (fit .ensures .1),
+    )
 
 pub axes-accept-spec : {M : Type 1} → statement M
 axes-accept-spec =

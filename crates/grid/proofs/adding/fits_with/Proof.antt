@@ -11,7 +11,7 @@ use Rattle.grid.proofs.adding.fits_with.Tie as tie
 use Rattle.grid.proofs.adding.fits_with.Reads as reads
 use Rattle.grid.proofs.adding.fits_with.Lts as lts
 use Rattle.grid.proofs.training.zero_count.Reads as zero-count-reads
-use Rattle.real.proofs.finite.Reads as finite-reads
+use Rattle.grid.proofs.training.are_sums_finite.Reads as are-sums-finite-reads
 
 -- src/adding.rt:21:15
 mul-sum : tie.Need-mul-sum
@@ -67,18 +67,13 @@ add-zeros-2 : tie.Need-add-zeros-2
 unfolding recordAt
 add-zeros-2 c = omega (arith, within _ (counts-of _ (c .before .before .before .before .before .before .before .pre .2)) .waitingZeros, c .zero-count .ensures, zero-count-small (c .before .before .before .before .before .before .before .args .v))
 
--- src/adding.rt:25:7
-finite-requires : tie.Need-finite-requires
-finite-requires c κs = search needs
-
--- src/adding.rt:25:27
-finite-requires-2 : tie.Need-finite-requires-2
-finite-requires-2 c κs = search needs
+are-sums-finite-requires : tie.Need-are-sums-finite-requires
+are-sums-finite-requires c κs = search needs
 
 -- src/adding.rt:17:1
 returns : tie.Need-returns
 unfolding recordAt
-returns c = rw (c .before .finite .ensures, c .finite2 .ensures, c .before .before .zero-count .ensures) (sym (added-fits (recordAt (c .before .before .before .before .before .before .before .before .before .args .reals .now) (c .before .before .before .before .before .before .before .before .before .args .counts .now) (c .before .before .before .before .before .before .before .before .before .args .r) (c .before .before .before .before .before .before .before .before .before .args .c)) (c .before .before .before .before .before .before .before .before .before .args .v) (c .before .before .before .before .before .before .before .before .before .args .number) (c .before .before .before .before .before .before .before .before .before .pre .2)))
+returns c = rw (c .are-sums-finite .ensures, c .before .zero-count .ensures) (sym (added-fits (recordAt (c .before .before .before .before .before .before .before .before .args .reals .now) (c .before .before .before .before .before .before .before .before .args .counts .now) (c .before .before .before .before .before .before .before .before .args .r) (c .before .before .before .before .before .before .before .before .args .c)) (c .before .before .before .before .before .before .before .before .args .v) (c .before .before .before .before .before .before .before .before .args .number) (c .before .before .before .before .before .before .before .before .pre .2)))
 
 pub fits-with-spec : {M : Type 1} → statement M
 fits-with-spec =
@@ -97,6 +92,5 @@ fits-with-spec =
     shared-slice-read-zeros
     zero-count-requires
     add-zeros-2
-    finite-requires
-    finite-requires-2
+    are-sums-finite-requires
     returns)

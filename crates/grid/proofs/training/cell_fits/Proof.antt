@@ -7,7 +7,7 @@ use Rattle.grid.proofs.training.cell_fits.Tie as tie
 use Rattle.grid.proofs.training.cell_fits.Reads as reads
 use Rattle.grid.proofs.training.cell_fits.Lts as lts
 use Rattle.grid.proofs.training.zero_count.Reads as zero-count-reads
-use Rattle.real.proofs.finite.Reads as finite-reads
+use Rattle.grid.proofs.training.are_sums_finite.Reads as are-sums-finite-reads
 
 -- src/training.rt:58:26
 mul-sum : tie.Need-mul-sum
@@ -105,18 +105,13 @@ zero-count-requires c κs = search needs
 add-zeros-4 : tie.Need-add-zeros-4
 add-zeros-4 c = omega (arith, c .before .before .before .before .before .before .before .pre .1 .zeros, c .zero-count .ensures, zero-count-small (c .before .before .before .before .before .before .before .args .v))
 
--- src/training.rt:62:7
-finite-requires : tie.Need-finite-requires
-finite-requires c κs = search needs
-
--- src/training.rt:62:27
-finite-requires-2 : tie.Need-finite-requires-2
-finite-requires-2 c κs = search needs
+are-sums-finite-requires : tie.Need-are-sums-finite-requires
+are-sums-finite-requires c κs = search needs
 
 -- src/training.rt:54:1
 returns : tie.Need-returns
 unfolding cellFits
-returns c = rw (c .before .finite .ensures, c .finite2 .ensures, c .before .before .zero-count .ensures)
+returns c = rw (c .are-sums-finite .ensures, c .before .zero-count .ensures)
 
 pub cell-fits-spec : {M : Type 1} → statement M
 cell-fits-spec =
@@ -146,6 +141,5 @@ cell-fits-spec =
     shared-slice-read-zeros
     zero-count-requires
     add-zeros-4
-    finite-requires
-    finite-requires-2
+    are-sums-finite-requires
     returns)
