@@ -6,7 +6,7 @@ use native.Mathlib.Omega.{arith}
 use borrow.Author.Tests.{ne-eqb}
 use lib.ListN.{length, getD}
 use lib.Ieee.{Float, nan}
-use Rattle.model.specs.Grid.{Grid, Child, Head, axes, bins}
+use Rattle.model.specs.Grid.{Grid, Head, axes, bins}
 use Rattle.grid.specs.declared.Sample.{Sample}
 use Rattle.grid.specs.declared.axes.AxesAt.{AxesAt}
 use Rattle.grid.specs.Memory.{memory, Asked}
@@ -14,10 +14,10 @@ use Rattle.grid.specs.Drawn.{axesAt}
 use Rattle.grid.specs.Tree.{axesPlace, axesGridAt, childIn, binsIn, AxesLaid}
 use Rattle.grid.specs.Sampled.{entries}
 use Rattle.grid.specs.Trained.{binsOn, Cell}
-use Rattle.grid.specs.Absorbed.{pathLeft, placesIn, Takes, TakesChild}
+use Rattle.grid.specs.Absorbed.{pathLeft, placesIn, Takes}
 use Rattle.grid.specs.Found.{spotsOf, spotsOfBin, spotsOfChild, Begins, Found, FoundChild, Held, HeldChild, held, heldChild}
 use Rattle.grid.proofs.Fitting.{one-left}
-use Rattle.grid.proofs.Accepts.{spots-there, spots-many, cells-of, formed, takes-below, takes-grid}
+use Rattle.grid.proofs.Accepts.{spots-there, spots-many, cells-of, formed, offered-of, offered-as, offered-below, offered-grid}
 
 -- ---- an axes grid
 
@@ -87,22 +87,22 @@ module _ (f : ℕ → Grid) (link : ℕ) (s : Sample) (d : ℕ) (spots : List �
 
 -- ---- what is handed over
 
-module _ {spots : List ℕ} {d number : ℕ} where
-  abbrev pub held-of : {g : Grid} (s : Sample) → Takes g s d number → Found spots g s d → Held (s .path) (s .weights) spots g d number
-  held-of s t f = record { coordinates = s .coordinates; levels = s .levels; weighed = s .given; many = s .axes; takes = t; found = f }
-
-  abbrev pub held-child : {c : Child} (s : Sample) → TakesChild c s d number → FoundChild spots c s d → HeldChild (s .path) (s .weights) spots c d number
-  held-child s t f = record { coordinates = s .coordinates; levels = s .levels; weighed = s .given; many = s .axes; takes = t; found = f }
+abbrev pub held-of : {spots : List ℕ} {d number : ℕ} {g : Grid} (s : Sample) → Takes g s d number → Found spots g s d → Held (s .path) (s .weights) spots g d number
+held-of s t k = record { coordinates = s .coordinates; offer = offered-of s t; found = k }
 
 module _ {path : List ℕ} {weights : List Float} {spots : List ℕ} {d number : ℕ} where
   abbrev pub held-as : {g g′ : Grid} → g ≡ g′ → Held path weights spots g d number → Held path weights spots g′ d number
-  held-as e h = held-of (held h) (subst (λ (o : Grid). Takes o (held h) d number) e (h .takes)) (subst (λ (o : Grid). Found spots o (held h) d) e (h .found))
+  held-as e h = record { coordinates = h .coordinates; offer = offered-as e (h .offer); found = subst (λ (g : Grid). Found spots g (held h) d) e (h .found) }
 
   module _ (f : ℕ → Grid) where
     abbrev pub held-below : (table : List ℕ) (reals : List Float) (counts : List ℕ) (w n : ℕ) (o : Head) → Held path weights spots (bins o (binsIn f table reals counts w 0 n)) d number
         → HeldChild path weights spots (childIn f (getD table (w + 7 + getD path d 0) 0)) (d + 1) number
     held-below table reals counts w n o h =
-        held-child (held h) (takes-below f table reals counts w n o (held h) d number (h .takes)) (found-below f table reals counts w n o (held h) d number (h .takes) spots (h .found))
+        record {
+          coordinates = h .coordinates;
+          offer = offered-below f table reals counts w n o (h .offer);
+          found = found-below f table reals counts w n o (held h) d number (h .offer .takes) spots (h .found);
+        }
 
     abbrev pub held-grid : (link : ℕ) → (link ≡ 0 → ⊥) → HeldChild path weights spots (childIn f link) d number → Held path weights spots (f link) d number
-    held-grid link z h = held-of (heldChild h) (takes-grid f link (heldChild h) d number z (h .takes)) (found-grid f link (heldChild h) d spots z (h .found))
+    held-grid link z h = record { coordinates = h .coordinates; offer = offered-grid f link z (h .offer); found = found-grid f link (heldChild h) d spots z (h .found) }
