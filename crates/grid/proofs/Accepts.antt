@@ -17,7 +17,7 @@ use Rattle.accumulator.specs.Steps.{zeroCount, addedOf}
 use Rattle.axis.specs.Edges.{inUnit, binOf}
 use Rattle.axis.specs.Edges as Edges
 use Rattle.axis.proofs.Bins.{bin-rule}
-use Rattle.model.specs.Grid.{Grid, Head, axes, bins, grid, withHead, withBin}
+use Rattle.model.specs.Grid.{Grid, Child, Head, axes, bins, grid, withHead, withBin}
 use Rattle.model.specs.Draw.{weightAt}
 use Rattle.model.specs.Sound.{chance, sound, formedGrid, allSound, keptAxis, keptAxisList, keptGrid, keptBins, keptChild}
 use Rattle.model.specs.Train.{faultOf, faultOfChild, trainAxis, trainAll, trainAxes, trainGrid, trainBin, trainChild}
@@ -30,7 +30,7 @@ use Rattle.grid.specs.Tree.{axesPlace, axesGridAt, binIn, childIn, binsI
 use Rattle.grid.specs.Judged.{soundBin}
 use Rattle.grid.specs.Sampled.{entries, soundChild}
 use Rattle.grid.specs.Trained.{allInUnit, binsOn, Cell, cellFits, cellsFit, formFault, CellsOf}
-use Rattle.grid.specs.Absorbed.{pathLeft, weightsLeft, placesIn, Takes, TakesChild}
+use Rattle.grid.specs.Absorbed.{pathLeft, weightsLeft, placesIn, Takes, TakesChild, Offered, OfferedChild, offered, offeredChild}
 use Rattle.grid.proofs.Judges.{sound-bin}
 use Rattle.grid.proofs.Reading.{length-axes, length-bins, getD-all}
 use Rattle.grid.proofs.Samples.{sound-in, sound-below, child-sound, sound-stands}
@@ -389,3 +389,23 @@ module _ (f : ℕ → Grid) (link : ℕ) where
   pub takes-grid : (s : Sample) (d number : ℕ) → (link ≡ 0 → ⊥) → TakesChild (childIn f link) s d number → Takes (f link) s d number
   takes-grid s d number z t =
       record { well = child-sound f link z (t .well); form = link-grid f link (pathLeft s d) (weightsLeft s d) (placesIn s) z ∙ t .form; number = t .number }
+
+-- ---- a sample that is taken, by its lists
+
+abbrev pub offered-of : {g : Grid} {d number : ℕ} (s : Sample) → Takes g s d number → Offered (s .path) (s .weights) (s .coordinates) g d number
+offered-of s t = record { levels = s .levels; weighed = s .given; many = s .axes; takes = t }
+
+abbrev pub offered-child : {c : Child} {d number : ℕ} (s : Sample) → TakesChild c s d number → OfferedChild (s .path) (s .weights) (s .coordinates) c d number
+offered-child s t = record { levels = s .levels; weighed = s .given; many = s .axes; takes = t }
+
+module _ {path : List ℕ} {weights coordinates : List Float} {d number : ℕ} where
+  abbrev pub offered-as : {g g′ : Grid} → g ≡ g′ → Offered path weights coordinates g d number → Offered path weights coordinates g′ d number
+  offered-as e o = offered-of (offered o) (subst (λ (g : Grid). Takes g (offered o) d number) e (o .takes))
+
+  module _ (f : ℕ → Grid) where
+    abbrev pub offered-below : (table : List ℕ) (reals : List Float) (counts : List ℕ) (w n : ℕ) (h : Head) → Offered path weights coordinates (bins h (binsIn f table reals counts w 0 n)) d number
+        → OfferedChild path weights coordinates (childIn f (getD table (w + 7 + getD path d 0) 0)) (d + 1) number
+    offered-below table reals counts w n h o = offered-child (offered o) (takes-below f table reals counts w n h (offered o) d number (o .takes))
+
+    abbrev pub offered-grid : (link : ℕ) → (link ≡ 0 → ⊥) → OfferedChild path weights coordinates (childIn f link) d number → Offered path weights coordinates (f link) d number
+    offered-grid link z o = offered-of (offeredChild o) (takes-grid f link (offeredChild o) d number z (o .takes))

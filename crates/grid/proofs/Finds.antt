@@ -15,9 +15,9 @@ use Rattle.grid.specs.Tree.{axesPlace, axesGridAt, childIn, binsIn, Axes
 use Rattle.grid.specs.Sampled.{entries}
 use Rattle.grid.specs.Trained.{binsOn, Cell}
 use Rattle.grid.specs.Absorbed.{pathLeft, placesIn, Takes}
-use Rattle.grid.specs.Found.{spotsOf, spotsOfBin, spotsOfChild, Begins, Found, FoundChild}
+use Rattle.grid.specs.Found.{spotsOf, spotsOfBin, spotsOfChild, Begins, Found, FoundChild, Held, HeldChild, held, heldChild}
 use Rattle.grid.proofs.Fitting.{one-left}
-use Rattle.grid.proofs.Accepts.{spots-there, spots-many, cells-of, formed}
+use Rattle.grid.proofs.Accepts.{spots-there, spots-many, cells-of, formed, offered-of, offered-as, offered-below, offered-grid}
 
 -- ---- an axes grid
 
@@ -84,3 +84,25 @@ module _ (f : ℕ → Grid) (link : ℕ) (s : Sample) (d : ℕ) (spots : List �
 
   pub found-grid : (link ≡ 0 → ⊥) → FoundChild spots (childIn f link) s d → Found spots (f link) s d
   found-grid z k = subst (λ (is : List ℕ). Begins spots is) (sym (spots-hung z)) k
+
+-- ---- what is handed over
+
+abbrev pub held-of : {spots : List ℕ} {d number : ℕ} {g : Grid} (s : Sample) → Takes g s d number → Found spots g s d → Held (s .path) (s .weights) spots g d number
+held-of s t k = record { coordinates = s .coordinates; offer = offered-of s t; found = k }
+
+module _ {path : List ℕ} {weights : List Float} {spots : List ℕ} {d number : ℕ} where
+  abbrev pub held-as : {g g′ : Grid} → g ≡ g′ → Held path weights spots g d number → Held path weights spots g′ d number
+  held-as e h = record { coordinates = h .coordinates; offer = offered-as e (h .offer); found = subst (λ (g : Grid). Found spots g (held h) d) e (h .found) }
+
+  module _ (f : ℕ → Grid) where
+    abbrev pub held-below : (table : List ℕ) (reals : List Float) (counts : List ℕ) (w n : ℕ) (o : Head) → Held path weights spots (bins o (binsIn f table reals counts w 0 n)) d number
+        → HeldChild path weights spots (childIn f (getD table (w + 7 + getD path d 0) 0)) (d + 1) number
+    held-below table reals counts w n o h =
+        record {
+          coordinates = h .coordinates;
+          offer = offered-below f table reals counts w n o (h .offer);
+          found = found-below f table reals counts w n o (held h) d number (h .offer .takes) spots (h .found);
+        }
+
+    abbrev pub held-grid : (link : ℕ) → (link ≡ 0 → ⊥) → HeldChild path weights spots (childIn f link) d number → Held path weights spots (f link) d number
+    held-grid link z h = record { coordinates = h .coordinates; offer = offered-grid f link z (h .offer); found = found-grid f link (heldChild h) d spots z (h .found) }

@@ -17,7 +17,7 @@ use Rattle.grid.specs.declared.adding.Gain.{Gain}
 use Rattle.grid.specs.Memory.{Memory, memory, recordAt}
 use Rattle.grid.specs.Drawn.{axesAt}
 use Rattle.grid.specs.Tree.{axesPlace}
-use Rattle.grid.specs.Sampled.{entries, soundChild}
+use Rattle.grid.specs.Sampled.{entries, sampleIn, soundChild}
 use Rattle.grid.specs.Trained.{binsOn, trainedOver}
 
 -- ---- what is left of a sample below d bins grids
@@ -46,6 +46,27 @@ pub record TakesChild (c : Child) (s : Sample) (d n : ℕ) : Type 0 where
   pub well : soundChild c ≡ true
   pub form : faultOfChild c (pathLeft s d) (weightsLeft s d) (placesIn s) ≡ 0
   pub number : numbered n ≡ true
+
+-- ---- a grid takes a sample whose lists are these, however many of their entries it has
+
+pub record Offered (path : List ℕ) (weights coordinates : List Float) (g : Grid) (d n : ℕ) : Type 0 where
+  pub levels : ℕ
+  pub weighed : ℕ
+  pub many : ℕ
+  pub takes : Takes g (sampleIn path levels weights weighed coordinates many) d n
+
+pub record OfferedChild (path : List ℕ) (weights coordinates : List Float) (c : Child) (d n : ℕ) : Type 0 where
+  pub levels : ℕ
+  pub weighed : ℕ
+  pub many : ℕ
+  pub takes : TakesChild c (sampleIn path levels weights weighed coordinates many) d n
+
+-- that sample
+abbrev pub offered : {path : List ℕ} {weights coordinates : List Float} {g : Grid} {d n : ℕ} → Offered path weights coordinates g d n → Sample
+offered {path} {weights} {coordinates} o = sampleIn path (o .levels) weights (o .weighed) coordinates (o .many)
+
+abbrev pub offeredChild : {path : List ℕ} {weights coordinates : List Float} {c : Child} {d n : ℕ} → OfferedChild path weights coordinates c d n → Sample
+offeredChild {path} {weights} {coordinates} o = sampleIn path (o .levels) weights (o .weighed) coordinates (o .many)
 
 -- ---- what it leaves
 

@@ -8,7 +8,7 @@ use Rattle.model.specs.Grid.{Grid, Bins, Child, axes, bins, none, more, nothing
 use Rattle.grid.specs.declared.Sample.{Sample}
 use Rattle.grid.specs.Sampled.{entries}
 use Rattle.grid.specs.Trained.{binsOn}
-use Rattle.grid.specs.Absorbed.{pathLeft, placesIn}
+use Rattle.grid.specs.Absorbed.{pathLeft, placesIn, Offered, OfferedChild, offered, offeredChild}
 
 unfoldable mutual
   pub spotsOf : Grid → List ℕ → List Float → List ℕ
@@ -35,3 +35,22 @@ Found spots g s d = Begins spots (spotsOf g (pathLeft s d) (placesIn s))
 
 abbrev pub FoundChild : List ℕ → Child → Sample → ℕ → Type 0
 FoundChild spots c s d = Begins spots (spotsOfChild c (pathLeft s d) (placesIn s))
+
+-- ---- a grid takes a sample with this path and these weights, and an array begins with its bins
+
+pub record Held (path : List ℕ) (weights : List Float) (spots : List ℕ) (g : Grid) (d number : ℕ) : Type 0 where
+  pub coordinates : List Float
+  pub offer : Offered path weights coordinates g d number
+  pub found : Found spots g (offered offer) d
+
+pub record HeldChild (path : List ℕ) (weights : List Float) (spots : List ℕ) (c : Child) (d number : ℕ) : Type 0 where
+  pub coordinates : List Float
+  pub offer : OfferedChild path weights coordinates c d number
+  pub found : FoundChild spots c (offeredChild offer) d
+
+-- that sample
+abbrev pub held : {path : List ℕ} {weights : List Float} {spots : List ℕ} {g : Grid} {d number : ℕ} → Held path weights spots g d number → Sample
+held h = offered (h .offer)
+
+abbrev pub heldChild : {path : List ℕ} {weights : List Float} {spots : List ℕ} {c : Child} {d number : ℕ} → HeldChild path weights spots c d number → Sample
+heldChild h = offeredChild (h .offer)

@@ -10,8 +10,8 @@ ghost use Rattle.grid.specs.State.{rootOf};
 ghost use Rattle.grid.specs.Memory.{memory};
 ghost use Rattle.grid.specs.Tree.{axesGridAt, headAt, childIn, binsIn, gridAt, AxesLaid, BinsLaid, Laid};
 ghost use Rattle.grid.specs.Sampled.{sampleIn, sampleOf, ChildLaid};
-ghost use Rattle.grid.specs.Absorbed.{formOf, Takes, TakesChild, absorbedAxes, absorbedChild, absorbedBins, absorbed, objectionOf, admitted};
-ghost use Rattle.grid.specs.Found.{Found, FoundChild};
+ghost use Rattle.grid.specs.Absorbed.{formOf, absorbedAxes, absorbedChild, absorbedBins, absorbed, objectionOf, admitted};
+ghost use Rattle.grid.specs.Found.{Held, HeldChild, held, heldChild};
 use crate::acceptance;
 use crate::adding;
 use crate::layout;
@@ -25,18 +25,14 @@ fn absorb_axes(
     w: usize,
     path: &[usize; 4],
     weights: &[f64; 5],
-    coordinates: &[f64; 8],
     depth: usize,
     evaluation: f64,
     number: u64,
     spots: &[usize; 8],
-    levels: usize,
-    weighed: usize,
-    many: usize,
 )
-    requires { ⌜ AxesLaid (now table) (length (now reals)) (length (now counts)) w × (depth ≤ 4) × Takes (axes (axesGridAt (now table) (now reals) (now counts) w)) (sampleIn (now path) levels (now weights) weighed (now coordinates) many) depth number
-        × Found (now spots) (axes (axesGridAt (now table) (now reals) (now counts) w)) (sampleIn (now path) levels (now weights) weighed (now coordinates) many) depth ⌝ }
-    ensures { λ _. ⌜ memory (now (reals .exit)) (now (counts .exit)) ≡ absorbedAxes (now (table .entry)) (sampleIn (now (path .entry)) levels (now (weights .entry)) weighed (now (coordinates .entry)) many) evaluation number w depth (memory (now (reals .entry)) (now (counts .entry))) ⌝ }
+    requires { ⌜ AxesLaid (now table) (length (now reals)) (length (now counts)) w × (depth ≤ 4) × Held (now path) (now weights) (now spots) (axes (axesGridAt (now table) (now reals) (now counts) w)) depth number ⌝ }
+    ensures { λ _. ⌜ ((h : Held (now (path .entry)) (now (weights .entry)) (now (spots .entry)) (axes (axesGridAt (now (table .entry)) (now (reals .entry)) (now (counts .entry)) w)) depth number)
+        → memory (now (reals .exit)) (now (counts .exit)) ≡ absorbedAxes (now (table .entry)) (held h) evaluation number w depth (memory (now (reals .entry)) (now (counts .entry)))) ⌝ }
 {
     let weight = weights[depth];
     let g = layout::axes_place(table, w);
@@ -56,18 +52,14 @@ fn absorb_child(
     link: usize,
     path: &[usize; 4],
     weights: &[f64; 5],
-    coordinates: &[f64; 8],
     depth: usize,
     evaluation: f64,
     number: u64,
     spots: &[usize; 8],
-    levels: usize,
-    weighed: usize,
-    many: usize,
 )
-    requires { ⌜ ChildLaid level (now table) (length (now reals)) (length (now counts)) link × (depth + level ≤ 4) × TakesChild (childIn (gridAt level (now table) (now reals) (now counts)) link) (sampleIn (now path) levels (now weights) weighed (now coordinates) many) depth number
-        × FoundChild (now spots) (childIn (gridAt level (now table) (now reals) (now counts)) link) (sampleIn (now path) levels (now weights) weighed (now coordinates) many) depth ⌝ }
-    ensures { λ _. ⌜ memory (now (reals .exit)) (now (counts .exit)) ≡ absorbedChild (absorbed level (now (table .entry)) (sampleIn (now (path .entry)) levels (now (weights .entry)) weighed (now (coordinates .entry)) many) evaluation number) link depth (memory (now (reals .entry)) (now (counts .entry))) ⌝ }
+    requires { ⌜ ChildLaid level (now table) (length (now reals)) (length (now counts)) link × (depth + level ≤ 4) × HeldChild (now path) (now weights) (now spots) (childIn (gridAt level (now table) (now reals) (now counts)) link) depth number ⌝ }
+    ensures { λ _. ⌜ ((h : HeldChild (now (path .entry)) (now (weights .entry)) (now (spots .entry)) (childIn (gridAt level (now (table .entry)) (now (reals .entry)) (now (counts .entry))) link) depth number)
+        → memory (now (reals .exit)) (now (counts .exit)) ≡ absorbedChild (absorbed level (now (table .entry)) (heldChild h) evaluation number) link depth (memory (now (reals .entry)) (now (counts .entry)))) ⌝ }
 {
     if link == 0 {
         return;
@@ -80,14 +72,10 @@ fn absorb_child(
         link,
         path,
         weights,
-        coordinates,
         depth,
         evaluation,
         number,
         spots,
-        levels,
-        weighed,
-        many,
     );
 }
 
@@ -100,19 +88,15 @@ fn absorb_bins(
     w: usize,
     path: &[usize; 4],
     weights: &[f64; 5],
-    coordinates: &[f64; 8],
     depth: usize,
     evaluation: f64,
     number: u64,
     spots: &[usize; 8],
-    levels: usize,
-    weighed: usize,
-    many: usize,
 )
     requires { ⌜ BinsLaid (Laid level (now table) (length (now reals)) (length (now counts))) (now table) (length (now reals)) (length (now counts)) w × (depth + level ≤ 3)
-        × Takes (bins (headAt (now table) (now reals) (now counts) w) (binsIn (gridAt level (now table) (now reals) (now counts)) (now table) (now reals) (now counts) w 0 (getD (now table) (w + 2) 0))) (sampleIn (now path) levels (now weights) weighed (now coordinates) many) depth number
-        × Found (now spots) (bins (headAt (now table) (now reals) (now counts) w) (binsIn (gridAt level (now table) (now reals) (now counts)) (now table) (now reals) (now counts) w 0 (getD (now table) (w + 2) 0))) (sampleIn (now path) levels (now weights) weighed (now coordinates) many) depth ⌝ }
-    ensures { λ _. ⌜ memory (now (reals .exit)) (now (counts .exit)) ≡ absorbedBins (absorbed level (now (table .entry)) (sampleIn (now (path .entry)) levels (now (weights .entry)) weighed (now (coordinates .entry)) many) evaluation number) (now (table .entry)) (sampleIn (now (path .entry)) levels (now (weights .entry)) weighed (now (coordinates .entry)) many) evaluation number w depth (memory (now (reals .entry)) (now (counts .entry))) ⌝ }
+        × Held (now path) (now weights) (now spots) (bins (headAt (now table) (now reals) (now counts) w) (binsIn (gridAt level (now table) (now reals) (now counts)) (now table) (now reals) (now counts) w 0 (getD (now table) (w + 2) 0))) depth number ⌝ }
+    ensures { λ _. ⌜ ((h : Held (now (path .entry)) (now (weights .entry)) (now (spots .entry)) (bins (headAt (now (table .entry)) (now (reals .entry)) (now (counts .entry)) w) (binsIn (gridAt level (now (table .entry)) (now (reals .entry)) (now (counts .entry))) (now (table .entry)) (now (reals .entry)) (now (counts .entry)) w 0 (getD (now (table .entry)) (w + 2) 0))) depth number)
+        → memory (now (reals .exit)) (now (counts .exit)) ≡ absorbedBins (absorbed level (now (table .entry)) (held h) evaluation number) (now (table .entry)) (held h) evaluation number w depth (memory (now (reals .entry)) (now (counts .entry)))) ⌝ }
 {
     let bin = path[depth];
     let weight = weights[depth];
@@ -133,14 +117,10 @@ fn absorb_bins(
         link,
         path,
         weights,
-        coordinates,
         depth + 1,
         evaluation,
         number,
         spots,
-        levels,
-        weighed,
-        many,
     );
     adding::put(reals, counts, inner_r, inner_c, inner);
     adding::put(reals, counts, r, c, own);
@@ -155,18 +135,14 @@ pub fn absorb_grid(
     w: usize,
     path: &[usize; 4],
     weights: &[f64; 5],
-    coordinates: &[f64; 8],
     depth: usize,
     evaluation: f64,
     number: u64,
     spots: &[usize; 8],
-    levels: usize,
-    weighed: usize,
-    many: usize,
 )
-    requires { ⌜ Laid level (now table) (length (now reals)) (length (now counts)) w × (depth + level ≤ 4) × Takes (gridAt level (now table) (now reals) (now counts) w) (sampleIn (now path) levels (now weights) weighed (now coordinates) many) depth number
-        × Found (now spots) (gridAt level (now table) (now reals) (now counts) w) (sampleIn (now path) levels (now weights) weighed (now coordinates) many) depth ⌝ }
-    ensures { λ _. ⌜ memory (now (reals .exit)) (now (counts .exit)) ≡ absorbed level (now (table .entry)) (sampleIn (now (path .entry)) levels (now (weights .entry)) weighed (now (coordinates .entry)) many) evaluation number w depth (memory (now (reals .entry)) (now (counts .entry))) ⌝ }
+    requires { ⌜ Laid level (now table) (length (now reals)) (length (now counts)) w × (depth + level ≤ 4) × Held (now path) (now weights) (now spots) (gridAt level (now table) (now reals) (now counts) w) depth number ⌝ }
+    ensures { λ _. ⌜ ((h : Held (now (path .entry)) (now (weights .entry)) (now (spots .entry)) (gridAt level (now (table .entry)) (now (reals .entry)) (now (counts .entry)) w) depth number)
+        → memory (now (reals .exit)) (now (counts .exit)) ≡ absorbed level (now (table .entry)) (held h) evaluation number w depth (memory (now (reals .entry)) (now (counts .entry)))) ⌝ }
 {
     if table[w] == 1 {
         absorb_axes(
@@ -176,14 +152,10 @@ pub fn absorb_grid(
             w,
             path,
             weights,
-            coordinates,
             depth,
             evaluation,
             number,
             spots,
-            levels,
-            weighed,
-            many,
         );
         return;
     }
@@ -195,14 +167,10 @@ pub fn absorb_grid(
         w,
         path,
         weights,
-        coordinates,
         depth,
         evaluation,
         number,
         spots,
-        levels,
-        weighed,
-        many,
     );
 }
 
@@ -255,14 +223,10 @@ pub fn admit(
         0,
         path,
         weights,
-        coordinates,
         0,
         evaluation,
         number,
         &spots,
-        levels,
-        weighed,
-        many,
     );
     refused
 }

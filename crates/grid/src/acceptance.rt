@@ -9,7 +9,7 @@ ghost use Rattle.model.specs.Train.{trainGrid, trainChild, trainOf};
 ghost use Rattle.grid.specs.Tree.{axesGridAt, headAt, childIn, binsIn, gridAt, AxesLaid, BinsLaid, Laid};
 ghost use Rattle.grid.specs.Sampled.{sampleIn, sampleOf, ChildLaid};
 ghost use Rattle.grid.specs.State.{rootOf};
-ghost use Rattle.grid.specs.Absorbed.{pathLeft, weightsLeft, placesIn, formOf, Takes, TakesChild, objectionOf};
+ghost use Rattle.grid.specs.Absorbed.{pathLeft, weightsLeft, placesIn, formOf, Offered, OfferedChild, offered, offeredChild, objectionOf};
 ghost use Rattle.grid.specs.Found.{Found, FoundChild};
 use crate::adding;
 use crate::layout;
@@ -29,13 +29,11 @@ fn axes_accept(
     number: u64,
     near: &[usize; 8],
     spots: &mut [usize; 8],
-    levels: usize,
-    weighed: usize,
-    many: usize,
 ) -> bool
-    requires { ⌜ AxesLaid (now table) (length (now reals)) (length (now counts)) w × (depth ≤ 4) × Takes (axes (axesGridAt (now table) (now reals) (now counts) w)) (sampleIn (now path) levels (now weights) weighed (now coordinates) many) depth number × (length (now spots) ≡ 8) ⌝ }
-    ensures { λ o. ⌜ (o ≡ keptGrid (trainGrid (axes (axesGridAt (now (table .entry)) (now (reals .entry)) (now (counts .entry)) w)) (pathLeft (sampleIn (now (path .entry)) levels (now (weights .entry)) weighed (now (coordinates .entry)) many) depth) (weightsLeft (sampleIn (now (path .entry)) levels (now (weights .entry)) weighed (now (coordinates .entry)) many) depth) (placesIn (sampleIn (now (path .entry)) levels (now (weights .entry)) weighed (now (coordinates .entry)) many)) evaluation number))
-        × Found (now (spots .exit)) (axes (axesGridAt (now (table .entry)) (now (reals .entry)) (now (counts .entry)) w)) (sampleIn (now (path .entry)) levels (now (weights .entry)) weighed (now (coordinates .entry)) many) depth ⌝ }
+    requires { ⌜ AxesLaid (now table) (length (now reals)) (length (now counts)) w × (depth ≤ 4) × Offered (now path) (now weights) (now coordinates) (axes (axesGridAt (now table) (now reals) (now counts) w)) depth number × (length (now spots) ≡ 8) ⌝ }
+    ensures { λ o. ⌜ ((s : Offered (now (path .entry)) (now (weights .entry)) (now (coordinates .entry)) (axes (axesGridAt (now (table .entry)) (now (reals .entry)) (now (counts .entry)) w)) depth number)
+        → (o ≡ keptGrid (trainGrid (axes (axesGridAt (now (table .entry)) (now (reals .entry)) (now (counts .entry)) w)) (pathLeft (offered s) depth) (weightsLeft (offered s) depth) (placesIn (offered s)) evaluation number))
+        × Found (now (spots .exit)) (axes (axesGridAt (now (table .entry)) (now (reals .entry)) (now (counts .entry)) w)) (offered s) depth) ⌝ }
 {
     let weight = weights[depth];
     let g = layout::axes_place(table, w);
@@ -69,13 +67,11 @@ fn child_accepts(
     number: u64,
     near: &[usize; 8],
     spots: &mut [usize; 8],
-    levels: usize,
-    weighed: usize,
-    many: usize,
 ) -> bool
-    requires { ⌜ ChildLaid level (now table) (length (now reals)) (length (now counts)) link × (depth + level ≤ 4) × TakesChild (childIn (gridAt level (now table) (now reals) (now counts)) link) (sampleIn (now path) levels (now weights) weighed (now coordinates) many) depth number × (length (now spots) ≡ 8) ⌝ }
-    ensures { λ o. ⌜ (o ≡ keptChild (trainChild (childIn (gridAt level (now (table .entry)) (now (reals .entry)) (now (counts .entry))) link) (pathLeft (sampleIn (now (path .entry)) levels (now (weights .entry)) weighed (now (coordinates .entry)) many) depth) (weightsLeft (sampleIn (now (path .entry)) levels (now (weights .entry)) weighed (now (coordinates .entry)) many) depth) (placesIn (sampleIn (now (path .entry)) levels (now (weights .entry)) weighed (now (coordinates .entry)) many)) evaluation number))
-        × FoundChild (now (spots .exit)) (childIn (gridAt level (now (table .entry)) (now (reals .entry)) (now (counts .entry))) link) (sampleIn (now (path .entry)) levels (now (weights .entry)) weighed (now (coordinates .entry)) many) depth ⌝ }
+    requires { ⌜ ChildLaid level (now table) (length (now reals)) (length (now counts)) link × (depth + level ≤ 4) × OfferedChild (now path) (now weights) (now coordinates) (childIn (gridAt level (now table) (now reals) (now counts)) link) depth number × (length (now spots) ≡ 8) ⌝ }
+    ensures { λ o. ⌜ ((s : OfferedChild (now (path .entry)) (now (weights .entry)) (now (coordinates .entry)) (childIn (gridAt level (now (table .entry)) (now (reals .entry)) (now (counts .entry))) link) depth number)
+        → (o ≡ keptChild (trainChild (childIn (gridAt level (now (table .entry)) (now (reals .entry)) (now (counts .entry))) link) (pathLeft (offeredChild s) depth) (weightsLeft (offeredChild s) depth) (placesIn (offeredChild s)) evaluation number))
+        × FoundChild (now (spots .exit)) (childIn (gridAt level (now (table .entry)) (now (reals .entry)) (now (counts .entry))) link) (offeredChild s) depth) ⌝ }
 {
     if link == 0 {
         return true;
@@ -94,9 +90,6 @@ fn child_accepts(
         number,
         near,
         spots,
-        levels,
-        weighed,
-        many,
     )
 }
 
@@ -115,16 +108,14 @@ fn bins_accept(
     number: u64,
     near: &[usize; 8],
     spots: &mut [usize; 8],
-    levels: usize,
-    weighed: usize,
-    many: usize,
 ) -> bool
     requires { ⌜ BinsLaid (Laid level (now table) (length (now reals)) (length (now counts))) (now table) (length (now reals)) (length (now counts)) w × (depth + level ≤ 3)
-        × Takes (bins (headAt (now table) (now reals) (now counts) w) (binsIn (gridAt level (now table) (now reals) (now counts)) (now table) (now reals) (now counts) w 0 (getD (now table) (w + 2) 0))) (sampleIn (now path) levels (now weights) weighed (now coordinates) many) depth number × (length (now spots) ≡ 8) ⌝ }
-    ensures { λ o. ⌜ (o ≡ keptGrid (trainGrid (bins (headAt (now (table .entry)) (now (reals .entry)) (now (counts .entry)) w)
+        × Offered (now path) (now weights) (now coordinates) (bins (headAt (now table) (now reals) (now counts) w) (binsIn (gridAt level (now table) (now reals) (now counts)) (now table) (now reals) (now counts) w 0 (getD (now table) (w + 2) 0))) depth number × (length (now spots) ≡ 8) ⌝ }
+    ensures { λ o. ⌜ ((s : Offered (now (path .entry)) (now (weights .entry)) (now (coordinates .entry)) (bins (headAt (now (table .entry)) (now (reals .entry)) (now (counts .entry)) w) (binsIn (gridAt level (now (table .entry)) (now (reals .entry)) (now (counts .entry))) (now (table .entry)) (now (reals .entry)) (now (counts .entry)) w 0 (getD (now (table .entry)) (w + 2) 0))) depth number)
+        → (o ≡ keptGrid (trainGrid (bins (headAt (now (table .entry)) (now (reals .entry)) (now (counts .entry)) w)
         (binsIn (gridAt level (now (table .entry)) (now (reals .entry)) (now (counts .entry))) (now (table .entry)) (now (reals .entry)) (now (counts .entry)) w 0 (getD (now (table .entry)) (w + 2) 0)))
-        (pathLeft (sampleIn (now (path .entry)) levels (now (weights .entry)) weighed (now (coordinates .entry)) many) depth) (weightsLeft (sampleIn (now (path .entry)) levels (now (weights .entry)) weighed (now (coordinates .entry)) many) depth) (placesIn (sampleIn (now (path .entry)) levels (now (weights .entry)) weighed (now (coordinates .entry)) many)) evaluation number))
-        × Found (now (spots .exit)) (bins (headAt (now (table .entry)) (now (reals .entry)) (now (counts .entry)) w) (binsIn (gridAt level (now (table .entry)) (now (reals .entry)) (now (counts .entry))) (now (table .entry)) (now (reals .entry)) (now (counts .entry)) w 0 (getD (now (table .entry)) (w + 2) 0))) (sampleIn (now (path .entry)) levels (now (weights .entry)) weighed (now (coordinates .entry)) many) depth ⌝ }
+        (pathLeft (offered s) depth) (weightsLeft (offered s) depth) (placesIn (offered s)) evaluation number))
+        × Found (now (spots .exit)) (bins (headAt (now (table .entry)) (now (reals .entry)) (now (counts .entry)) w) (binsIn (gridAt level (now (table .entry)) (now (reals .entry)) (now (counts .entry))) (now (table .entry)) (now (reals .entry)) (now (counts .entry)) w 0 (getD (now (table .entry)) (w + 2) 0))) (offered s) depth) ⌝ }
 {
     let bin = path[depth];
     let weight = weights[depth];
@@ -151,9 +142,6 @@ fn bins_accept(
         number,
         near,
         spots,
-        levels,
-        weighed,
-        many,
     );
     own & (inner & below)
 }
@@ -173,13 +161,11 @@ pub fn grid_accepts(
     number: u64,
     near: &[usize; 8],
     spots: &mut [usize; 8],
-    levels: usize,
-    weighed: usize,
-    many: usize,
 ) -> bool
-    requires { ⌜ Laid level (now table) (length (now reals)) (length (now counts)) w × (depth + level ≤ 4) × Takes (gridAt level (now table) (now reals) (now counts) w) (sampleIn (now path) levels (now weights) weighed (now coordinates) many) depth number × (length (now spots) ≡ 8) ⌝ }
-    ensures { λ o. ⌜ (o ≡ keptGrid (trainGrid (gridAt level (now (table .entry)) (now (reals .entry)) (now (counts .entry)) w) (pathLeft (sampleIn (now (path .entry)) levels (now (weights .entry)) weighed (now (coordinates .entry)) many) depth) (weightsLeft (sampleIn (now (path .entry)) levels (now (weights .entry)) weighed (now (coordinates .entry)) many) depth) (placesIn (sampleIn (now (path .entry)) levels (now (weights .entry)) weighed (now (coordinates .entry)) many)) evaluation number))
-        × Found (now (spots .exit)) (gridAt level (now (table .entry)) (now (reals .entry)) (now (counts .entry)) w) (sampleIn (now (path .entry)) levels (now (weights .entry)) weighed (now (coordinates .entry)) many) depth ⌝ }
+    requires { ⌜ Laid level (now table) (length (now reals)) (length (now counts)) w × (depth + level ≤ 4) × Offered (now path) (now weights) (now coordinates) (gridAt level (now table) (now reals) (now counts) w) depth number × (length (now spots) ≡ 8) ⌝ }
+    ensures { λ o. ⌜ ((s : Offered (now (path .entry)) (now (weights .entry)) (now (coordinates .entry)) (gridAt level (now (table .entry)) (now (reals .entry)) (now (counts .entry)) w) depth number)
+        → (o ≡ keptGrid (trainGrid (gridAt level (now (table .entry)) (now (reals .entry)) (now (counts .entry)) w) (pathLeft (offered s) depth) (weightsLeft (offered s) depth) (placesIn (offered s)) evaluation number))
+        × Found (now (spots .exit)) (gridAt level (now (table .entry)) (now (reals .entry)) (now (counts .entry)) w) (offered s) depth) ⌝ }
 {
     if table[w] == 1 {
         return axes_accept(
@@ -195,9 +181,6 @@ pub fn grid_accepts(
             number,
             near,
             spots,
-            levels,
-            weighed,
-            many,
         );
     }
     bins_accept(
@@ -214,9 +197,6 @@ pub fn grid_accepts(
         number,
         near,
         spots,
-        levels,
-        weighed,
-        many,
     )
 }
 
@@ -271,9 +251,6 @@ pub fn objection(
         number,
         near,
         spots,
-        levels,
-        weighed,
-        many,
     ) {
         return 8;
     }

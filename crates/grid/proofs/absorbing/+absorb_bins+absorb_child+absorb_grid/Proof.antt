@@ -1,20 +1,18 @@
 -- What both records gain is read before what hangs below is written, so all is the definition's step on memory as it was.
-use mathlib.Core.Path.{_∙_, subst}
+use mathlib.Core.Path.{_∙_}
 use native.Mathlib.Omega.{arith}
 use Prim.Native.Nat.{_+_, _-_, _*_}
 use lib.ListN.{length, getD}
-use Rattle.model.specs.Grid.{Grid}
 use Rattle.grid.specs.Memory.{memory}
 use Rattle.grid.specs.Tree.{headAt, binIn, gridAt}
 use Rattle.grid.specs.Sampled.{ChildLaid}
-use Rattle.grid.specs.Absorbed.{Takes, absorbed}
-use Rattle.grid.specs.Found.{Found}
+use Rattle.grid.specs.Absorbed.{absorbed}
+use Rattle.grid.specs.Found.{held, heldChild}
 use Rattle.grid.proofs.Laid.{laid-axes, laid-bins, laid-head}
 use Rattle.grid.proofs.Sounds.{node-axes, node-bins}
-use Rattle.grid.proofs.Accepts.{formed, head-sound, spot-sound, takes-below, takes-grid}
-use Rattle.grid.proofs.Finds.{found-below, found-grid}
+use Rattle.grid.proofs.Accepts.{formed, head-sound, spot-sound}
+use Rattle.grid.proofs.Finds.{held-as, held-below, held-grid}
 use Rattle.grid.proofs.Absorbs.{bins-absorbed, nothing-absorbed, child-absorbed, absorbed-axes, absorbed-bins}
-use Rattle.grid.specs.Sampled.{sampleIn}
 use Prim.Native.Nat.{ℕ, _<_}
 use borrow.Fn.Kinds.{In}
 use borrow.Fn.PlainCycle.{Measures, is, falls, and}
@@ -33,42 +31,42 @@ use Rattle.grid.proofs.adding.gain_at.Reads as gain-at-reads
 use Rattle.grid.proofs.absorbing.+absorb_bins+absorb_child+absorb_grid.{statement}
 use Rattle.grid.proofs.absorbing.+absorb_bins+absorb_child+absorb_grid.Tie.{close}
 
-abbrev μ-absorb-bins : Measures 7 absorb-bins-kinds.ps ℕ
+abbrev μ-absorb-bins : Measures 6 absorb-bins-kinds.ps ℕ
 μ-absorb-bins κs a = 3 * a .1 .1 .1 .0 + 2
 
-abbrev μ-absorb-child : Measures 7 absorb-child-kinds.ps ℕ
+abbrev μ-absorb-child : Measures 6 absorb-child-kinds.ps ℕ
 μ-absorb-child κs a = 3 * a .1 .1 .1 .0 + 1
 
-abbrev μ-absorb-grid : Measures 7 absorb-grid-kinds.ps ℕ
+abbrev μ-absorb-grid : Measures 6 absorb-grid-kinds.ps ℕ
 μ-absorb-grid κs a = 3 * a .1 .1 .1 .0
 
-abbrev absorb-bins-at : ℕ → In 7 absorb-bins-kinds.ps
+abbrev absorb-bins-at : ℕ → In 6 absorb-bins-kinds.ps
 absorb-bins-at t =
-    and 7 absorb-bins-kinds.ps (is 7 absorb-bins-kinds.ps μ-absorb-bins t) absorb-bins.Pre
+    and 6 absorb-bins-kinds.ps (is 6 absorb-bins-kinds.ps μ-absorb-bins t) absorb-bins.Pre
 
-abbrev absorb-bins-below : ℕ → In 7 absorb-bins-kinds.ps
+abbrev absorb-bins-below : ℕ → In 6 absorb-bins-kinds.ps
 absorb-bins-below t =
-    and 7 absorb-bins-kinds.ps (falls 7 absorb-bins-kinds.ps _<_ μ-absorb-bins t) absorb-bins.Pre
+    and 6 absorb-bins-kinds.ps (falls 6 absorb-bins-kinds.ps _<_ μ-absorb-bins t) absorb-bins.Pre
 
-abbrev absorb-child-at : ℕ → In 7 absorb-child-kinds.ps
+abbrev absorb-child-at : ℕ → In 6 absorb-child-kinds.ps
 absorb-child-at t =
-    and 7 absorb-child-kinds.ps (is 7 absorb-child-kinds.ps μ-absorb-child t) absorb-child.Pre
+    and 6 absorb-child-kinds.ps (is 6 absorb-child-kinds.ps μ-absorb-child t) absorb-child.Pre
 
-abbrev absorb-child-below : ℕ → In 7 absorb-child-kinds.ps
+abbrev absorb-child-below : ℕ → In 6 absorb-child-kinds.ps
 absorb-child-below t =
     and
-    7
+    6
     absorb-child-kinds.ps
-    (falls 7 absorb-child-kinds.ps _<_ μ-absorb-child t)
+    (falls 6 absorb-child-kinds.ps _<_ μ-absorb-child t)
     absorb-child.Pre
 
-abbrev absorb-grid-at : ℕ → In 7 absorb-grid-kinds.ps
+abbrev absorb-grid-at : ℕ → In 6 absorb-grid-kinds.ps
 absorb-grid-at t =
-    and 7 absorb-grid-kinds.ps (is 7 absorb-grid-kinds.ps μ-absorb-grid t) absorb-grid.Pre
+    and 6 absorb-grid-kinds.ps (is 6 absorb-grid-kinds.ps μ-absorb-grid t) absorb-grid.Pre
 
-abbrev absorb-grid-below : ℕ → In 7 absorb-grid-kinds.ps
+abbrev absorb-grid-below : ℕ → In 6 absorb-grid-kinds.ps
 absorb-grid-below t =
-    and 7 absorb-grid-kinds.ps (falls 7 absorb-grid-kinds.ps _<_ μ-absorb-grid t) absorb-grid.Pre
+    and 6 absorb-grid-kinds.ps (falls 6 absorb-grid-kinds.ps _<_ μ-absorb-grid t) absorb-grid.Pre
 
 -- src/absorbing.rt:110:15
 absorb-bins-mul-bin : (t : ℕ) → absorb-bins-lts.Need-mul-bin (
@@ -222,7 +220,7 @@ absorb-bins-add-link : (t : ℕ) → absorb-bins-lts.Need-add-link (
   put-reads.Asked,
   put-reads.Learnt,
 ) (absorb-bins-at t) absorb-bins.Post
-absorb-bins-add-link t c = omega (arith, (c .before .before .before .before .before .before .before .before .pre .1 .0), (formed (gridAt (c .before .before .before .before .before .before .before .before .args .level) (c .before .before .before .before .before .before .before .before .args .table .now) (c .before .before .before .before .before .before .before .before .args .reals .now) (c .before .before .before .before .before .before .before .before .args .counts .now)) (c .before .before .before .before .before .before .before .before .args .table .now) (c .before .before .before .before .before .before .before .before .args .reals .now) (c .before .before .before .before .before .before .before .before .args .counts .now) (c .before .before .before .before .before .before .before .before .args .w) (getD (c .before .before .before .before .before .before .before .before .args .table .now) ((c .before .before .before .before .before .before .before .before .args .w) + 2) 0) (headAt (c .before .before .before .before .before .before .before .before .args .table .now) (c .before .before .before .before .before .before .before .before .args .reals .now) (c .before .before .before .before .before .before .before .before .args .counts .now) (c .before .before .before .before .before .before .before .before .args .w)) (sampleIn (c .before .before .before .before .before .before .before .before .args .path .now) (c .before .before .before .before .before .before .before .before .args .levels) (c .before .before .before .before .before .before .before .before .args .weights .now) (c .before .before .before .before .before .before .before .before .args .weighed) (c .before .before .before .before .before .before .before .before .args .coordinates .now) (c .before .before .before .before .before .before .before .before .args .many)) (c .before .before .before .before .before .before .before .before .args .depth) (c .before .before .before .before .before .before .before .before .args .number) (c .before .before .before .before .before .before .before .before .pre .1 .2)) .bin)
+absorb-bins-add-link t c = omega (arith, (c .before .before .before .before .before .before .before .before .pre .1 .0), (formed (gridAt (c .before .before .before .before .before .before .before .before .args .level) (c .before .before .before .before .before .before .before .before .args .table .now) (c .before .before .before .before .before .before .before .before .args .reals .now) (c .before .before .before .before .before .before .before .before .args .counts .now)) (c .before .before .before .before .before .before .before .before .args .table .now) (c .before .before .before .before .before .before .before .before .args .reals .now) (c .before .before .before .before .before .before .before .before .args .counts .now) (c .before .before .before .before .before .before .before .before .args .w) (getD (c .before .before .before .before .before .before .before .before .args .table .now) ((c .before .before .before .before .before .before .before .before .args .w) + 2) 0) (headAt (c .before .before .before .before .before .before .before .before .args .table .now) (c .before .before .before .before .before .before .before .before .args .reals .now) (c .before .before .before .before .before .before .before .before .args .counts .now) (c .before .before .before .before .before .before .before .before .args .w)) (held (c .before .before .before .before .before .before .before .before .pre .1 .2)) (c .before .before .before .before .before .before .before .before .args .depth) (c .before .before .before .before .before .before .before .before .args .number) (c .before .before .before .before .before .before .before .before .pre .1 .2 .offer .takes)) .bin)
 
 -- src/absorbing.rt:115:22
 absorb-bins-add-link-2 : (t : ℕ) → absorb-bins-lts.Need-add-link-2 (
@@ -233,7 +231,7 @@ absorb-bins-add-link-2 : (t : ℕ) → absorb-bins-lts.Need-add-link-2 (
   put-reads.Asked,
   put-reads.Learnt,
 ) (absorb-bins-at t) absorb-bins.Post
-absorb-bins-add-link-2 t c = omega (arith, (c .before .before .before .before .before .before .before .before .pre .1 .0), (formed (gridAt (c .before .before .before .before .before .before .before .before .args .level) (c .before .before .before .before .before .before .before .before .args .table .now) (c .before .before .before .before .before .before .before .before .args .reals .now) (c .before .before .before .before .before .before .before .before .args .counts .now)) (c .before .before .before .before .before .before .before .before .args .table .now) (c .before .before .before .before .before .before .before .before .args .reals .now) (c .before .before .before .before .before .before .before .before .args .counts .now) (c .before .before .before .before .before .before .before .before .args .w) (getD (c .before .before .before .before .before .before .before .before .args .table .now) ((c .before .before .before .before .before .before .before .before .args .w) + 2) 0) (headAt (c .before .before .before .before .before .before .before .before .args .table .now) (c .before .before .before .before .before .before .before .before .args .reals .now) (c .before .before .before .before .before .before .before .before .args .counts .now) (c .before .before .before .before .before .before .before .before .args .w)) (sampleIn (c .before .before .before .before .before .before .before .before .args .path .now) (c .before .before .before .before .before .before .before .before .args .levels) (c .before .before .before .before .before .before .before .before .args .weights .now) (c .before .before .before .before .before .before .before .before .args .weighed) (c .before .before .before .before .before .before .before .before .args .coordinates .now) (c .before .before .before .before .before .before .before .before .args .many)) (c .before .before .before .before .before .before .before .before .args .depth) (c .before .before .before .before .before .before .before .before .args .number) (c .before .before .before .before .before .before .before .before .pre .1 .2)) .bin)
+absorb-bins-add-link-2 t c = omega (arith, (c .before .before .before .before .before .before .before .before .pre .1 .0), (formed (gridAt (c .before .before .before .before .before .before .before .before .args .level) (c .before .before .before .before .before .before .before .before .args .table .now) (c .before .before .before .before .before .before .before .before .args .reals .now) (c .before .before .before .before .before .before .before .before .args .counts .now)) (c .before .before .before .before .before .before .before .before .args .table .now) (c .before .before .before .before .before .before .before .before .args .reals .now) (c .before .before .before .before .before .before .before .before .args .counts .now) (c .before .before .before .before .before .before .before .before .args .w) (getD (c .before .before .before .before .before .before .before .before .args .table .now) ((c .before .before .before .before .before .before .before .before .args .w) + 2) 0) (headAt (c .before .before .before .before .before .before .before .before .args .table .now) (c .before .before .before .before .before .before .before .before .args .reals .now) (c .before .before .before .before .before .before .before .before .args .counts .now) (c .before .before .before .before .before .before .before .before .args .w)) (held (c .before .before .before .before .before .before .before .before .pre .1 .2)) (c .before .before .before .before .before .before .before .before .args .depth) (c .before .before .before .before .before .before .before .before .args .number) (c .before .before .before .before .before .before .before .before .pre .1 .2 .offer .takes)) .bin)
 
 -- src/absorbing.rt:115:16
 absorb-bins-mul-link : (t : ℕ) → absorb-bins-lts.Need-mul-link (
@@ -244,7 +242,7 @@ absorb-bins-mul-link : (t : ℕ) → absorb-bins-lts.Need-mul-link (
   put-reads.Asked,
   put-reads.Learnt,
 ) (absorb-bins-at t) absorb-bins.Post
-absorb-bins-mul-link t c = omega (arith, (c .before .before .before .before .before .before .before .before .pre .1 .0), (formed (gridAt (c .before .before .before .before .before .before .before .before .args .level) (c .before .before .before .before .before .before .before .before .args .table .now) (c .before .before .before .before .before .before .before .before .args .reals .now) (c .before .before .before .before .before .before .before .before .args .counts .now)) (c .before .before .before .before .before .before .before .before .args .table .now) (c .before .before .before .before .before .before .before .before .args .reals .now) (c .before .before .before .before .before .before .before .before .args .counts .now) (c .before .before .before .before .before .before .before .before .args .w) (getD (c .before .before .before .before .before .before .before .before .args .table .now) ((c .before .before .before .before .before .before .before .before .args .w) + 2) 0) (headAt (c .before .before .before .before .before .before .before .before .args .table .now) (c .before .before .before .before .before .before .before .before .args .reals .now) (c .before .before .before .before .before .before .before .before .args .counts .now) (c .before .before .before .before .before .before .before .before .args .w)) (sampleIn (c .before .before .before .before .before .before .before .before .args .path .now) (c .before .before .before .before .before .before .before .before .args .levels) (c .before .before .before .before .before .before .before .before .args .weights .now) (c .before .before .before .before .before .before .before .before .args .weighed) (c .before .before .before .before .before .before .before .before .args .coordinates .now) (c .before .before .before .before .before .before .before .before .args .many)) (c .before .before .before .before .before .before .before .before .args .depth) (c .before .before .before .before .before .before .before .before .args .number) (c .before .before .before .before .before .before .before .before .pre .1 .2)) .bin)
+absorb-bins-mul-link t c = omega (arith, (c .before .before .before .before .before .before .before .before .pre .1 .0), (formed (gridAt (c .before .before .before .before .before .before .before .before .args .level) (c .before .before .before .before .before .before .before .before .args .table .now) (c .before .before .before .before .before .before .before .before .args .reals .now) (c .before .before .before .before .before .before .before .before .args .counts .now)) (c .before .before .before .before .before .before .before .before .args .table .now) (c .before .before .before .before .before .before .before .before .args .reals .now) (c .before .before .before .before .before .before .before .before .args .counts .now) (c .before .before .before .before .before .before .before .before .args .w) (getD (c .before .before .before .before .before .before .before .before .args .table .now) ((c .before .before .before .before .before .before .before .before .args .w) + 2) 0) (headAt (c .before .before .before .before .before .before .before .before .args .table .now) (c .before .before .before .before .before .before .before .before .args .reals .now) (c .before .before .before .before .before .before .before .before .args .counts .now) (c .before .before .before .before .before .before .before .before .args .w)) (held (c .before .before .before .before .before .before .before .before .pre .1 .2)) (c .before .before .before .before .before .before .before .before .args .depth) (c .before .before .before .before .before .before .before .before .args .number) (c .before .before .before .before .before .before .before .before .pre .1 .2 .offer .takes)) .bin)
 
 -- src/absorbing.rt:115:16
 absorb-bins-shared-slice-read-link : (t : ℕ) → absorb-bins-lts.Need-shared-slice-read-link (
@@ -255,7 +253,7 @@ absorb-bins-shared-slice-read-link : (t : ℕ) → absorb-bins-lts.Need-shared-s
   put-reads.Asked,
   put-reads.Learnt,
 ) (absorb-bins-at t) absorb-bins.Post
-absorb-bins-shared-slice-read-link t c = omega (arith, (c .before .before .before .before .before .before .before .before .before .pre .1 .0), (formed (gridAt (c .before .before .before .before .before .before .before .before .before .args .level) (c .before .before .before .before .before .before .before .before .before .args .table .now) (c .before .before .before .before .before .before .before .before .before .args .reals .now) (c .before .before .before .before .before .before .before .before .before .args .counts .now)) (c .before .before .before .before .before .before .before .before .before .args .table .now) (c .before .before .before .before .before .before .before .before .before .args .reals .now) (c .before .before .before .before .before .before .before .before .before .args .counts .now) (c .before .before .before .before .before .before .before .before .before .args .w) (getD (c .before .before .before .before .before .before .before .before .before .args .table .now) ((c .before .before .before .before .before .before .before .before .before .args .w) + 2) 0) (headAt (c .before .before .before .before .before .before .before .before .before .args .table .now) (c .before .before .before .before .before .before .before .before .before .args .reals .now) (c .before .before .before .before .before .before .before .before .before .args .counts .now) (c .before .before .before .before .before .before .before .before .before .args .w)) (sampleIn (c .before .before .before .before .before .before .before .before .before .args .path .now) (c .before .before .before .before .before .before .before .before .before .args .levels) (c .before .before .before .before .before .before .before .before .before .args .weights .now) (c .before .before .before .before .before .before .before .before .before .args .weighed) (c .before .before .before .before .before .before .before .before .before .args .coordinates .now) (c .before .before .before .before .before .before .before .before .before .args .many)) (c .before .before .before .before .before .before .before .before .before .args .depth) (c .before .before .before .before .before .before .before .before .before .args .number) (c .before .before .before .before .before .before .before .before .before .pre .1 .2)) .bin)
+absorb-bins-shared-slice-read-link t c = omega (arith, (c .before .before .before .before .before .before .before .before .before .pre .1 .0), (formed (gridAt (c .before .before .before .before .before .before .before .before .before .args .level) (c .before .before .before .before .before .before .before .before .before .args .table .now) (c .before .before .before .before .before .before .before .before .before .args .reals .now) (c .before .before .before .before .before .before .before .before .before .args .counts .now)) (c .before .before .before .before .before .before .before .before .before .args .table .now) (c .before .before .before .before .before .before .before .before .before .args .reals .now) (c .before .before .before .before .before .before .before .before .before .args .counts .now) (c .before .before .before .before .before .before .before .before .before .args .w) (getD (c .before .before .before .before .before .before .before .before .before .args .table .now) ((c .before .before .before .before .before .before .before .before .before .args .w) + 2) 0) (headAt (c .before .before .before .before .before .before .before .before .before .args .table .now) (c .before .before .before .before .before .before .before .before .before .args .reals .now) (c .before .before .before .before .before .before .before .before .before .args .counts .now) (c .before .before .before .before .before .before .before .before .before .args .w)) (held (c .before .before .before .before .before .before .before .before .before .pre .1 .2)) (c .before .before .before .before .before .before .before .before .before .args .depth) (c .before .before .before .before .before .before .before .before .before .args .number) (c .before .before .before .before .before .before .before .before .before .pre .1 .2 .offer .takes)) .bin)
 
 -- src/absorbing.rt:116:33
 absorb-bins-add-value : (t : ℕ) → absorb-bins-lts.Need-add-value (
@@ -266,7 +264,7 @@ absorb-bins-add-value : (t : ℕ) → absorb-bins-lts.Need-add-value (
   put-reads.Asked,
   put-reads.Learnt,
 ) (absorb-bins-at t) absorb-bins.Post
-absorb-bins-add-value t c = omega (arith, (c .before .before .before .before .before .before .before .before .before .pre .1 .0), (formed (gridAt (c .before .before .before .before .before .before .before .before .before .args .level) (c .before .before .before .before .before .before .before .before .before .args .table .now) (c .before .before .before .before .before .before .before .before .before .args .reals .now) (c .before .before .before .before .before .before .before .before .before .args .counts .now)) (c .before .before .before .before .before .before .before .before .before .args .table .now) (c .before .before .before .before .before .before .before .before .before .args .reals .now) (c .before .before .before .before .before .before .before .before .before .args .counts .now) (c .before .before .before .before .before .before .before .before .before .args .w) (getD (c .before .before .before .before .before .before .before .before .before .args .table .now) ((c .before .before .before .before .before .before .before .before .before .args .w) + 2) 0) (headAt (c .before .before .before .before .before .before .before .before .before .args .table .now) (c .before .before .before .before .before .before .before .before .before .args .reals .now) (c .before .before .before .before .before .before .before .before .before .args .counts .now) (c .before .before .before .before .before .before .before .before .before .args .w)) (sampleIn (c .before .before .before .before .before .before .before .before .before .args .path .now) (c .before .before .before .before .before .before .before .before .before .args .levels) (c .before .before .before .before .before .before .before .before .before .args .weights .now) (c .before .before .before .before .before .before .before .before .before .args .weighed) (c .before .before .before .before .before .before .before .before .before .args .coordinates .now) (c .before .before .before .before .before .before .before .before .before .args .many)) (c .before .before .before .before .before .before .before .before .before .args .depth) (c .before .before .before .before .before .before .before .before .before .args .number) (c .before .before .before .before .before .before .before .before .before .pre .1 .2)) .bin)
+absorb-bins-add-value t c = omega (arith, (c .before .before .before .before .before .before .before .before .before .pre .1 .0), (formed (gridAt (c .before .before .before .before .before .before .before .before .before .args .level) (c .before .before .before .before .before .before .before .before .before .args .table .now) (c .before .before .before .before .before .before .before .before .before .args .reals .now) (c .before .before .before .before .before .before .before .before .before .args .counts .now)) (c .before .before .before .before .before .before .before .before .before .args .table .now) (c .before .before .before .before .before .before .before .before .before .args .reals .now) (c .before .before .before .before .before .before .before .before .before .args .counts .now) (c .before .before .before .before .before .before .before .before .before .args .w) (getD (c .before .before .before .before .before .before .before .before .before .args .table .now) ((c .before .before .before .before .before .before .before .before .before .args .w) + 2) 0) (headAt (c .before .before .before .before .before .before .before .before .before .args .table .now) (c .before .before .before .before .before .before .before .before .before .args .reals .now) (c .before .before .before .before .before .before .before .before .before .args .counts .now) (c .before .before .before .before .before .before .before .before .before .args .w)) (held (c .before .before .before .before .before .before .before .before .before .pre .1 .2)) (c .before .before .before .before .before .before .before .before .before .args .depth) (c .before .before .before .before .before .before .before .before .before .args .number) (c .before .before .before .before .before .before .before .before .before .pre .1 .2 .offer .takes)) .bin)
 
 -- src/absorbing.rt:116:33
 absorb-bins-add-value-2 : (t : ℕ) → absorb-bins-lts.Need-add-value-2 (
@@ -277,7 +275,7 @@ absorb-bins-add-value-2 : (t : ℕ) → absorb-bins-lts.Need-add-value-2 (
   put-reads.Asked,
   put-reads.Learnt,
 ) (absorb-bins-at t) absorb-bins.Post
-absorb-bins-add-value-2 t c = omega (arith, (c .before .before .before .before .before .before .before .before .before .pre .1 .0), (formed (gridAt (c .before .before .before .before .before .before .before .before .before .args .level) (c .before .before .before .before .before .before .before .before .before .args .table .now) (c .before .before .before .before .before .before .before .before .before .args .reals .now) (c .before .before .before .before .before .before .before .before .before .args .counts .now)) (c .before .before .before .before .before .before .before .before .before .args .table .now) (c .before .before .before .before .before .before .before .before .before .args .reals .now) (c .before .before .before .before .before .before .before .before .before .args .counts .now) (c .before .before .before .before .before .before .before .before .before .args .w) (getD (c .before .before .before .before .before .before .before .before .before .args .table .now) ((c .before .before .before .before .before .before .before .before .before .args .w) + 2) 0) (headAt (c .before .before .before .before .before .before .before .before .before .args .table .now) (c .before .before .before .before .before .before .before .before .before .args .reals .now) (c .before .before .before .before .before .before .before .before .before .args .counts .now) (c .before .before .before .before .before .before .before .before .before .args .w)) (sampleIn (c .before .before .before .before .before .before .before .before .before .args .path .now) (c .before .before .before .before .before .before .before .before .before .args .levels) (c .before .before .before .before .before .before .before .before .before .args .weights .now) (c .before .before .before .before .before .before .before .before .before .args .weighed) (c .before .before .before .before .before .before .before .before .before .args .coordinates .now) (c .before .before .before .before .before .before .before .before .before .args .many)) (c .before .before .before .before .before .before .before .before .before .args .depth) (c .before .before .before .before .before .before .before .before .before .args .number) (c .before .before .before .before .before .before .before .before .before .pre .1 .2)) .bin)
+absorb-bins-add-value-2 t c = omega (arith, (c .before .before .before .before .before .before .before .before .before .pre .1 .0), (formed (gridAt (c .before .before .before .before .before .before .before .before .before .args .level) (c .before .before .before .before .before .before .before .before .before .args .table .now) (c .before .before .before .before .before .before .before .before .before .args .reals .now) (c .before .before .before .before .before .before .before .before .before .args .counts .now)) (c .before .before .before .before .before .before .before .before .before .args .table .now) (c .before .before .before .before .before .before .before .before .before .args .reals .now) (c .before .before .before .before .before .before .before .before .before .args .counts .now) (c .before .before .before .before .before .before .before .before .before .args .w) (getD (c .before .before .before .before .before .before .before .before .before .args .table .now) ((c .before .before .before .before .before .before .before .before .before .args .w) + 2) 0) (headAt (c .before .before .before .before .before .before .before .before .before .args .table .now) (c .before .before .before .before .before .before .before .before .before .args .reals .now) (c .before .before .before .before .before .before .before .before .before .args .counts .now) (c .before .before .before .before .before .before .before .before .before .args .w)) (held (c .before .before .before .before .before .before .before .before .before .pre .1 .2)) (c .before .before .before .before .before .before .before .before .before .args .depth) (c .before .before .before .before .before .before .before .before .before .args .number) (c .before .before .before .before .before .before .before .before .before .pre .1 .2 .offer .takes)) .bin)
 
 -- src/absorbing.rt:116:27
 absorb-bins-mul-value : (t : ℕ) → absorb-bins-lts.Need-mul-value (
@@ -288,7 +286,7 @@ absorb-bins-mul-value : (t : ℕ) → absorb-bins-lts.Need-mul-value (
   put-reads.Asked,
   put-reads.Learnt,
 ) (absorb-bins-at t) absorb-bins.Post
-absorb-bins-mul-value t c = omega (arith, (c .before .before .before .before .before .before .before .before .before .pre .1 .0), (formed (gridAt (c .before .before .before .before .before .before .before .before .before .args .level) (c .before .before .before .before .before .before .before .before .before .args .table .now) (c .before .before .before .before .before .before .before .before .before .args .reals .now) (c .before .before .before .before .before .before .before .before .before .args .counts .now)) (c .before .before .before .before .before .before .before .before .before .args .table .now) (c .before .before .before .before .before .before .before .before .before .args .reals .now) (c .before .before .before .before .before .before .before .before .before .args .counts .now) (c .before .before .before .before .before .before .before .before .before .args .w) (getD (c .before .before .before .before .before .before .before .before .before .args .table .now) ((c .before .before .before .before .before .before .before .before .before .args .w) + 2) 0) (headAt (c .before .before .before .before .before .before .before .before .before .args .table .now) (c .before .before .before .before .before .before .before .before .before .args .reals .now) (c .before .before .before .before .before .before .before .before .before .args .counts .now) (c .before .before .before .before .before .before .before .before .before .args .w)) (sampleIn (c .before .before .before .before .before .before .before .before .before .args .path .now) (c .before .before .before .before .before .before .before .before .before .args .levels) (c .before .before .before .before .before .before .before .before .before .args .weights .now) (c .before .before .before .before .before .before .before .before .before .args .weighed) (c .before .before .before .before .before .before .before .before .before .args .coordinates .now) (c .before .before .before .before .before .before .before .before .before .args .many)) (c .before .before .before .before .before .before .before .before .before .args .depth) (c .before .before .before .before .before .before .before .before .before .args .number) (c .before .before .before .before .before .before .before .before .before .pre .1 .2)) .bin)
+absorb-bins-mul-value t c = omega (arith, (c .before .before .before .before .before .before .before .before .before .pre .1 .0), (formed (gridAt (c .before .before .before .before .before .before .before .before .before .args .level) (c .before .before .before .before .before .before .before .before .before .args .table .now) (c .before .before .before .before .before .before .before .before .before .args .reals .now) (c .before .before .before .before .before .before .before .before .before .args .counts .now)) (c .before .before .before .before .before .before .before .before .before .args .table .now) (c .before .before .before .before .before .before .before .before .before .args .reals .now) (c .before .before .before .before .before .before .before .before .before .args .counts .now) (c .before .before .before .before .before .before .before .before .before .args .w) (getD (c .before .before .before .before .before .before .before .before .before .args .table .now) ((c .before .before .before .before .before .before .before .before .before .args .w) + 2) 0) (headAt (c .before .before .before .before .before .before .before .before .before .args .table .now) (c .before .before .before .before .before .before .before .before .before .args .reals .now) (c .before .before .before .before .before .before .before .before .before .args .counts .now) (c .before .before .before .before .before .before .before .before .before .args .w)) (held (c .before .before .before .before .before .before .before .before .before .pre .1 .2)) (c .before .before .before .before .before .before .before .before .before .args .depth) (c .before .before .before .before .before .before .before .before .before .args .number) (c .before .before .before .before .before .before .before .before .before .pre .1 .2 .offer .takes)) .bin)
 
 -- src/absorbing.rt:116:27
 absorb-bins-slice-read-value : (t : ℕ) → absorb-bins-lts.Need-slice-read-value (
@@ -299,7 +297,7 @@ absorb-bins-slice-read-value : (t : ℕ) → absorb-bins-lts.Need-slice-read-val
   put-reads.Asked,
   put-reads.Learnt,
 ) (absorb-bins-at t) absorb-bins.Post
-absorb-bins-slice-read-value t c = omega (arith, (c .before .before .before .before .before .before .before .before .before .before .pre .1 .0), (formed (gridAt (c .before .before .before .before .before .before .before .before .before .before .args .level) (c .before .before .before .before .before .before .before .before .before .before .args .table .now) (c .before .before .before .before .before .before .before .before .before .before .args .reals .now) (c .before .before .before .before .before .before .before .before .before .before .args .counts .now)) (c .before .before .before .before .before .before .before .before .before .before .args .table .now) (c .before .before .before .before .before .before .before .before .before .before .args .reals .now) (c .before .before .before .before .before .before .before .before .before .before .args .counts .now) (c .before .before .before .before .before .before .before .before .before .before .args .w) (getD (c .before .before .before .before .before .before .before .before .before .before .args .table .now) ((c .before .before .before .before .before .before .before .before .before .before .args .w) + 2) 0) (headAt (c .before .before .before .before .before .before .before .before .before .before .args .table .now) (c .before .before .before .before .before .before .before .before .before .before .args .reals .now) (c .before .before .before .before .before .before .before .before .before .before .args .counts .now) (c .before .before .before .before .before .before .before .before .before .before .args .w)) (sampleIn (c .before .before .before .before .before .before .before .before .before .before .args .path .now) (c .before .before .before .before .before .before .before .before .before .before .args .levels) (c .before .before .before .before .before .before .before .before .before .before .args .weights .now) (c .before .before .before .before .before .before .before .before .before .before .args .weighed) (c .before .before .before .before .before .before .before .before .before .before .args .coordinates .now) (c .before .before .before .before .before .before .before .before .before .before .args .many)) (c .before .before .before .before .before .before .before .before .before .before .args .depth) (c .before .before .before .before .before .before .before .before .before .before .args .number) (c .before .before .before .before .before .before .before .before .before .before .pre .1 .2)) .bin)
+absorb-bins-slice-read-value t c = omega (arith, (c .before .before .before .before .before .before .before .before .before .before .pre .1 .0), (formed (gridAt (c .before .before .before .before .before .before .before .before .before .before .args .level) (c .before .before .before .before .before .before .before .before .before .before .args .table .now) (c .before .before .before .before .before .before .before .before .before .before .args .reals .now) (c .before .before .before .before .before .before .before .before .before .before .args .counts .now)) (c .before .before .before .before .before .before .before .before .before .before .args .table .now) (c .before .before .before .before .before .before .before .before .before .before .args .reals .now) (c .before .before .before .before .before .before .before .before .before .before .args .counts .now) (c .before .before .before .before .before .before .before .before .before .before .args .w) (getD (c .before .before .before .before .before .before .before .before .before .before .args .table .now) ((c .before .before .before .before .before .before .before .before .before .before .args .w) + 2) 0) (headAt (c .before .before .before .before .before .before .before .before .before .before .args .table .now) (c .before .before .before .before .before .before .before .before .before .before .args .reals .now) (c .before .before .before .before .before .before .before .before .before .before .args .counts .now) (c .before .before .before .before .before .before .before .before .before .before .args .w)) (held (c .before .before .before .before .before .before .before .before .before .before .pre .1 .2)) (c .before .before .before .before .before .before .before .before .before .before .args .depth) (c .before .before .before .before .before .before .before .before .before .before .args .number) (c .before .before .before .before .before .before .before .before .before .before .pre .1 .2 .offer .takes)) .bin)
 
 -- src/absorbing.rt:117:9
 absorb-bins-gain-at-requires : (t : ℕ) → absorb-bins-lts.Need-gain-at-requires (
@@ -316,9 +314,9 @@ absorb-bins-gain-at-requires t c κs =
     let f = gridAt (o .args .level) (o .args .table .now) (o .args .reals .now) (o .args .counts .now) in
     let n = getD (o .args .table .now) (o .args .w + 2) 0 in
     let h = headAt (o .args .table .now) (o .args .reals .now) (o .args .counts .now) (o .args .w) in
-    let s = sampleIn (o .args .path .now) (o .args .levels) (o .args .weights .now) (o .args .weighed) (o .args .coordinates .now) (o .args .many) in
-    let b = formed f (o .args .table .now) (o .args .reals .now) (o .args .counts .now) (o .args .w) n h s (o .args .depth) (o .args .number) (o .pre .1 .2) in
-    (omega (arith, o .pre .1 .0, b .bin), omega (arith, o .pre .1 .0, b .bin), head-sound f (o .args .table .now) (o .args .reals .now) (o .args .counts .now) (o .args .w) n h s (o .args .depth) (o .args .number) (o .pre .1 .2))
+    let s = held (o .pre .1 .2) in
+    let b = formed f (o .args .table .now) (o .args .reals .now) (o .args .counts .now) (o .args .w) n h s (o .args .depth) (o .args .number) (o .pre .1 .2 .offer .takes) in
+    (omega (arith, o .pre .1 .0, b .bin), omega (arith, o .pre .1 .0, b .bin), head-sound f (o .args .table .now) (o .args .reals .now) (o .args .counts .now) (o .args .w) n h s (o .args .depth) (o .args .number) (o .pre .1 .2 .offer .takes))
 
 -- src/absorbing.rt:118:19
 absorb-bins-add-inner-r : (t : ℕ) → absorb-bins-lts.Need-add-inner-r (
@@ -329,7 +327,7 @@ absorb-bins-add-inner-r : (t : ℕ) → absorb-bins-lts.Need-add-inner-r (
   put-reads.Asked,
   put-reads.Learnt,
 ) (absorb-bins-at t) absorb-bins.Post
-absorb-bins-add-inner-r t c = omega (arith, (c .before .before .before .before .before .before .before .before .before .before .before .before .before .pre .1 .0), (formed (gridAt (c .before .before .before .before .before .before .before .before .before .before .before .before .before .args .level) (c .before .before .before .before .before .before .before .before .before .before .before .before .before .args .table .now) (c .before .before .before .before .before .before .before .before .before .before .before .before .before .args .reals .now) (c .before .before .before .before .before .before .before .before .before .before .before .before .before .args .counts .now)) (c .before .before .before .before .before .before .before .before .before .before .before .before .before .args .table .now) (c .before .before .before .before .before .before .before .before .before .before .before .before .before .args .reals .now) (c .before .before .before .before .before .before .before .before .before .before .before .before .before .args .counts .now) (c .before .before .before .before .before .before .before .before .before .before .before .before .before .args .w) (getD (c .before .before .before .before .before .before .before .before .before .before .before .before .before .args .table .now) ((c .before .before .before .before .before .before .before .before .before .before .before .before .before .args .w) + 2) 0) (headAt (c .before .before .before .before .before .before .before .before .before .before .before .before .before .args .table .now) (c .before .before .before .before .before .before .before .before .before .before .before .before .before .args .reals .now) (c .before .before .before .before .before .before .before .before .before .before .before .before .before .args .counts .now) (c .before .before .before .before .before .before .before .before .before .before .before .before .before .args .w)) (sampleIn (c .before .before .before .before .before .before .before .before .before .before .before .before .before .args .path .now) (c .before .before .before .before .before .before .before .before .before .before .before .before .before .args .levels) (c .before .before .before .before .before .before .before .before .before .before .before .before .before .args .weights .now) (c .before .before .before .before .before .before .before .before .before .before .before .before .before .args .weighed) (c .before .before .before .before .before .before .before .before .before .before .before .before .before .args .coordinates .now) (c .before .before .before .before .before .before .before .before .before .before .before .before .before .args .many)) (c .before .before .before .before .before .before .before .before .before .before .before .before .before .args .depth) (c .before .before .before .before .before .before .before .before .before .before .before .before .before .args .number) (c .before .before .before .before .before .before .before .before .before .before .before .before .before .pre .1 .2)) .bin)
+absorb-bins-add-inner-r t c = omega (arith, (c .before .before .before .before .before .before .before .before .before .before .before .before .before .pre .1 .0), (formed (gridAt (c .before .before .before .before .before .before .before .before .before .before .before .before .before .args .level) (c .before .before .before .before .before .before .before .before .before .before .before .before .before .args .table .now) (c .before .before .before .before .before .before .before .before .before .before .before .before .before .args .reals .now) (c .before .before .before .before .before .before .before .before .before .before .before .before .before .args .counts .now)) (c .before .before .before .before .before .before .before .before .before .before .before .before .before .args .table .now) (c .before .before .before .before .before .before .before .before .before .before .before .before .before .args .reals .now) (c .before .before .before .before .before .before .before .before .before .before .before .before .before .args .counts .now) (c .before .before .before .before .before .before .before .before .before .before .before .before .before .args .w) (getD (c .before .before .before .before .before .before .before .before .before .before .before .before .before .args .table .now) ((c .before .before .before .before .before .before .before .before .before .before .before .before .before .args .w) + 2) 0) (headAt (c .before .before .before .before .before .before .before .before .before .before .before .before .before .args .table .now) (c .before .before .before .before .before .before .before .before .before .before .before .before .before .args .reals .now) (c .before .before .before .before .before .before .before .before .before .before .before .before .before .args .counts .now) (c .before .before .before .before .before .before .before .before .before .before .before .before .before .args .w)) (held (c .before .before .before .before .before .before .before .before .before .before .before .before .before .pre .1 .2)) (c .before .before .before .before .before .before .before .before .before .before .before .before .before .args .depth) (c .before .before .before .before .before .before .before .before .before .before .before .before .before .args .number) (c .before .before .before .before .before .before .before .before .before .before .before .before .before .pre .1 .2 .offer .takes)) .bin)
 
 -- src/absorbing.rt:118:19
 absorb-bins-add-inner-r-2 : (t : ℕ) → absorb-bins-lts.Need-add-inner-r-2 (
@@ -340,7 +338,7 @@ absorb-bins-add-inner-r-2 : (t : ℕ) → absorb-bins-lts.Need-add-inner-r-2 (
   put-reads.Asked,
   put-reads.Learnt,
 ) (absorb-bins-at t) absorb-bins.Post
-absorb-bins-add-inner-r-2 t c = omega (arith, (c .before .before .before .before .before .before .before .before .before .before .before .before .before .pre .1 .0), (formed (gridAt (c .before .before .before .before .before .before .before .before .before .before .before .before .before .args .level) (c .before .before .before .before .before .before .before .before .before .before .before .before .before .args .table .now) (c .before .before .before .before .before .before .before .before .before .before .before .before .before .args .reals .now) (c .before .before .before .before .before .before .before .before .before .before .before .before .before .args .counts .now)) (c .before .before .before .before .before .before .before .before .before .before .before .before .before .args .table .now) (c .before .before .before .before .before .before .before .before .before .before .before .before .before .args .reals .now) (c .before .before .before .before .before .before .before .before .before .before .before .before .before .args .counts .now) (c .before .before .before .before .before .before .before .before .before .before .before .before .before .args .w) (getD (c .before .before .before .before .before .before .before .before .before .before .before .before .before .args .table .now) ((c .before .before .before .before .before .before .before .before .before .before .before .before .before .args .w) + 2) 0) (headAt (c .before .before .before .before .before .before .before .before .before .before .before .before .before .args .table .now) (c .before .before .before .before .before .before .before .before .before .before .before .before .before .args .reals .now) (c .before .before .before .before .before .before .before .before .before .before .before .before .before .args .counts .now) (c .before .before .before .before .before .before .before .before .before .before .before .before .before .args .w)) (sampleIn (c .before .before .before .before .before .before .before .before .before .before .before .before .before .args .path .now) (c .before .before .before .before .before .before .before .before .before .before .before .before .before .args .levels) (c .before .before .before .before .before .before .before .before .before .before .before .before .before .args .weights .now) (c .before .before .before .before .before .before .before .before .before .before .before .before .before .args .weighed) (c .before .before .before .before .before .before .before .before .before .before .before .before .before .args .coordinates .now) (c .before .before .before .before .before .before .before .before .before .before .before .before .before .args .many)) (c .before .before .before .before .before .before .before .before .before .before .before .before .before .args .depth) (c .before .before .before .before .before .before .before .before .before .before .before .before .before .args .number) (c .before .before .before .before .before .before .before .before .before .before .before .before .before .pre .1 .2)) .bin)
+absorb-bins-add-inner-r-2 t c = omega (arith, (c .before .before .before .before .before .before .before .before .before .before .before .before .before .pre .1 .0), (formed (gridAt (c .before .before .before .before .before .before .before .before .before .before .before .before .before .args .level) (c .before .before .before .before .before .before .before .before .before .before .before .before .before .args .table .now) (c .before .before .before .before .before .before .before .before .before .before .before .before .before .args .reals .now) (c .before .before .before .before .before .before .before .before .before .before .before .before .before .args .counts .now)) (c .before .before .before .before .before .before .before .before .before .before .before .before .before .args .table .now) (c .before .before .before .before .before .before .before .before .before .before .before .before .before .args .reals .now) (c .before .before .before .before .before .before .before .before .before .before .before .before .before .args .counts .now) (c .before .before .before .before .before .before .before .before .before .before .before .before .before .args .w) (getD (c .before .before .before .before .before .before .before .before .before .before .before .before .before .args .table .now) ((c .before .before .before .before .before .before .before .before .before .before .before .before .before .args .w) + 2) 0) (headAt (c .before .before .before .before .before .before .before .before .before .before .before .before .before .args .table .now) (c .before .before .before .before .before .before .before .before .before .before .before .before .before .args .reals .now) (c .before .before .before .before .before .before .before .before .before .before .before .before .before .args .counts .now) (c .before .before .before .before .before .before .before .before .before .before .before .before .before .args .w)) (held (c .before .before .before .before .before .before .before .before .before .before .before .before .before .pre .1 .2)) (c .before .before .before .before .before .before .before .before .before .before .before .before .before .args .depth) (c .before .before .before .before .before .before .before .before .before .before .before .before .before .args .number) (c .before .before .before .before .before .before .before .before .before .before .before .before .before .pre .1 .2 .offer .takes)) .bin)
 
 -- src/absorbing.rt:118:32
 absorb-bins-mul-inner-r : (t : ℕ) → absorb-bins-lts.Need-mul-inner-r (
@@ -351,7 +349,7 @@ absorb-bins-mul-inner-r : (t : ℕ) → absorb-bins-lts.Need-mul-inner-r (
   put-reads.Asked,
   put-reads.Learnt,
 ) (absorb-bins-at t) absorb-bins.Post
-absorb-bins-mul-inner-r t c = omega (arith, (c .before .before .before .before .before .before .before .before .before .before .before .before .before .pre .1 .0), (formed (gridAt (c .before .before .before .before .before .before .before .before .before .before .before .before .before .args .level) (c .before .before .before .before .before .before .before .before .before .before .before .before .before .args .table .now) (c .before .before .before .before .before .before .before .before .before .before .before .before .before .args .reals .now) (c .before .before .before .before .before .before .before .before .before .before .before .before .before .args .counts .now)) (c .before .before .before .before .before .before .before .before .before .before .before .before .before .args .table .now) (c .before .before .before .before .before .before .before .before .before .before .before .before .before .args .reals .now) (c .before .before .before .before .before .before .before .before .before .before .before .before .before .args .counts .now) (c .before .before .before .before .before .before .before .before .before .before .before .before .before .args .w) (getD (c .before .before .before .before .before .before .before .before .before .before .before .before .before .args .table .now) ((c .before .before .before .before .before .before .before .before .before .before .before .before .before .args .w) + 2) 0) (headAt (c .before .before .before .before .before .before .before .before .before .before .before .before .before .args .table .now) (c .before .before .before .before .before .before .before .before .before .before .before .before .before .args .reals .now) (c .before .before .before .before .before .before .before .before .before .before .before .before .before .args .counts .now) (c .before .before .before .before .before .before .before .before .before .before .before .before .before .args .w)) (sampleIn (c .before .before .before .before .before .before .before .before .before .before .before .before .before .args .path .now) (c .before .before .before .before .before .before .before .before .before .before .before .before .before .args .levels) (c .before .before .before .before .before .before .before .before .before .before .before .before .before .args .weights .now) (c .before .before .before .before .before .before .before .before .before .before .before .before .before .args .weighed) (c .before .before .before .before .before .before .before .before .before .before .before .before .before .args .coordinates .now) (c .before .before .before .before .before .before .before .before .before .before .before .before .before .args .many)) (c .before .before .before .before .before .before .before .before .before .before .before .before .before .args .depth) (c .before .before .before .before .before .before .before .before .before .before .before .before .before .args .number) (c .before .before .before .before .before .before .before .before .before .before .before .before .before .pre .1 .2)) .bin)
+absorb-bins-mul-inner-r t c = omega (arith, (c .before .before .before .before .before .before .before .before .before .before .before .before .before .pre .1 .0), (formed (gridAt (c .before .before .before .before .before .before .before .before .before .before .before .before .before .args .level) (c .before .before .before .before .before .before .before .before .before .before .before .before .before .args .table .now) (c .before .before .before .before .before .before .before .before .before .before .before .before .before .args .reals .now) (c .before .before .before .before .before .before .before .before .before .before .before .before .before .args .counts .now)) (c .before .before .before .before .before .before .before .before .before .before .before .before .before .args .table .now) (c .before .before .before .before .before .before .before .before .before .before .before .before .before .args .reals .now) (c .before .before .before .before .before .before .before .before .before .before .before .before .before .args .counts .now) (c .before .before .before .before .before .before .before .before .before .before .before .before .before .args .w) (getD (c .before .before .before .before .before .before .before .before .before .before .before .before .before .args .table .now) ((c .before .before .before .before .before .before .before .before .before .before .before .before .before .args .w) + 2) 0) (headAt (c .before .before .before .before .before .before .before .before .before .before .before .before .before .args .table .now) (c .before .before .before .before .before .before .before .before .before .before .before .before .before .args .reals .now) (c .before .before .before .before .before .before .before .before .before .before .before .before .before .args .counts .now) (c .before .before .before .before .before .before .before .before .before .before .before .before .before .args .w)) (held (c .before .before .before .before .before .before .before .before .before .before .before .before .before .pre .1 .2)) (c .before .before .before .before .before .before .before .before .before .before .before .before .before .args .depth) (c .before .before .before .before .before .before .before .before .before .before .before .before .before .args .number) (c .before .before .before .before .before .before .before .before .before .before .before .before .before .pre .1 .2 .offer .takes)) .bin)
 
 -- src/absorbing.rt:118:19
 absorb-bins-add-inner-r-3 : (t : ℕ) → absorb-bins-lts.Need-add-inner-r-3 (
@@ -362,7 +360,7 @@ absorb-bins-add-inner-r-3 : (t : ℕ) → absorb-bins-lts.Need-add-inner-r-3 (
   put-reads.Asked,
   put-reads.Learnt,
 ) (absorb-bins-at t) absorb-bins.Post
-absorb-bins-add-inner-r-3 t c = omega (arith, (c .before .before .before .before .before .before .before .before .before .before .before .before .before .pre .1 .0), (formed (gridAt (c .before .before .before .before .before .before .before .before .before .before .before .before .before .args .level) (c .before .before .before .before .before .before .before .before .before .before .before .before .before .args .table .now) (c .before .before .before .before .before .before .before .before .before .before .before .before .before .args .reals .now) (c .before .before .before .before .before .before .before .before .before .before .before .before .before .args .counts .now)) (c .before .before .before .before .before .before .before .before .before .before .before .before .before .args .table .now) (c .before .before .before .before .before .before .before .before .before .before .before .before .before .args .reals .now) (c .before .before .before .before .before .before .before .before .before .before .before .before .before .args .counts .now) (c .before .before .before .before .before .before .before .before .before .before .before .before .before .args .w) (getD (c .before .before .before .before .before .before .before .before .before .before .before .before .before .args .table .now) ((c .before .before .before .before .before .before .before .before .before .before .before .before .before .args .w) + 2) 0) (headAt (c .before .before .before .before .before .before .before .before .before .before .before .before .before .args .table .now) (c .before .before .before .before .before .before .before .before .before .before .before .before .before .args .reals .now) (c .before .before .before .before .before .before .before .before .before .before .before .before .before .args .counts .now) (c .before .before .before .before .before .before .before .before .before .before .before .before .before .args .w)) (sampleIn (c .before .before .before .before .before .before .before .before .before .before .before .before .before .args .path .now) (c .before .before .before .before .before .before .before .before .before .before .before .before .before .args .levels) (c .before .before .before .before .before .before .before .before .before .before .before .before .before .args .weights .now) (c .before .before .before .before .before .before .before .before .before .before .before .before .before .args .weighed) (c .before .before .before .before .before .before .before .before .before .before .before .before .before .args .coordinates .now) (c .before .before .before .before .before .before .before .before .before .before .before .before .before .args .many)) (c .before .before .before .before .before .before .before .before .before .before .before .before .before .args .depth) (c .before .before .before .before .before .before .before .before .before .before .before .before .before .args .number) (c .before .before .before .before .before .before .before .before .before .before .before .before .before .pre .1 .2)) .bin)
+absorb-bins-add-inner-r-3 t c = omega (arith, (c .before .before .before .before .before .before .before .before .before .before .before .before .before .pre .1 .0), (formed (gridAt (c .before .before .before .before .before .before .before .before .before .before .before .before .before .args .level) (c .before .before .before .before .before .before .before .before .before .before .before .before .before .args .table .now) (c .before .before .before .before .before .before .before .before .before .before .before .before .before .args .reals .now) (c .before .before .before .before .before .before .before .before .before .before .before .before .before .args .counts .now)) (c .before .before .before .before .before .before .before .before .before .before .before .before .before .args .table .now) (c .before .before .before .before .before .before .before .before .before .before .before .before .before .args .reals .now) (c .before .before .before .before .before .before .before .before .before .before .before .before .before .args .counts .now) (c .before .before .before .before .before .before .before .before .before .before .before .before .before .args .w) (getD (c .before .before .before .before .before .before .before .before .before .before .before .before .before .args .table .now) ((c .before .before .before .before .before .before .before .before .before .before .before .before .before .args .w) + 2) 0) (headAt (c .before .before .before .before .before .before .before .before .before .before .before .before .before .args .table .now) (c .before .before .before .before .before .before .before .before .before .before .before .before .before .args .reals .now) (c .before .before .before .before .before .before .before .before .before .before .before .before .before .args .counts .now) (c .before .before .before .before .before .before .before .before .before .before .before .before .before .args .w)) (held (c .before .before .before .before .before .before .before .before .before .before .before .before .before .pre .1 .2)) (c .before .before .before .before .before .before .before .before .before .before .before .before .before .args .depth) (c .before .before .before .before .before .before .before .before .before .before .before .before .before .args .number) (c .before .before .before .before .before .before .before .before .before .before .before .before .before .pre .1 .2 .offer .takes)) .bin)
 
 -- src/absorbing.rt:119:19
 absorb-bins-add-inner-c : (t : ℕ) → absorb-bins-lts.Need-add-inner-c (
@@ -373,7 +371,7 @@ absorb-bins-add-inner-c : (t : ℕ) → absorb-bins-lts.Need-add-inner-c (
   put-reads.Asked,
   put-reads.Learnt,
 ) (absorb-bins-at t) absorb-bins.Post
-absorb-bins-add-inner-c t c = omega (arith, (c .before .before .before .before .before .before .before .before .before .before .before .before .before .pre .1 .0), (formed (gridAt (c .before .before .before .before .before .before .before .before .before .before .before .before .before .args .level) (c .before .before .before .before .before .before .before .before .before .before .before .before .before .args .table .now) (c .before .before .before .before .before .before .before .before .before .before .before .before .before .args .reals .now) (c .before .before .before .before .before .before .before .before .before .before .before .before .before .args .counts .now)) (c .before .before .before .before .before .before .before .before .before .before .before .before .before .args .table .now) (c .before .before .before .before .before .before .before .before .before .before .before .before .before .args .reals .now) (c .before .before .before .before .before .before .before .before .before .before .before .before .before .args .counts .now) (c .before .before .before .before .before .before .before .before .before .before .before .before .before .args .w) (getD (c .before .before .before .before .before .before .before .before .before .before .before .before .before .args .table .now) ((c .before .before .before .before .before .before .before .before .before .before .before .before .before .args .w) + 2) 0) (headAt (c .before .before .before .before .before .before .before .before .before .before .before .before .before .args .table .now) (c .before .before .before .before .before .before .before .before .before .before .before .before .before .args .reals .now) (c .before .before .before .before .before .before .before .before .before .before .before .before .before .args .counts .now) (c .before .before .before .before .before .before .before .before .before .before .before .before .before .args .w)) (sampleIn (c .before .before .before .before .before .before .before .before .before .before .before .before .before .args .path .now) (c .before .before .before .before .before .before .before .before .before .before .before .before .before .args .levels) (c .before .before .before .before .before .before .before .before .before .before .before .before .before .args .weights .now) (c .before .before .before .before .before .before .before .before .before .before .before .before .before .args .weighed) (c .before .before .before .before .before .before .before .before .before .before .before .before .before .args .coordinates .now) (c .before .before .before .before .before .before .before .before .before .before .before .before .before .args .many)) (c .before .before .before .before .before .before .before .before .before .before .before .before .before .args .depth) (c .before .before .before .before .before .before .before .before .before .before .before .before .before .args .number) (c .before .before .before .before .before .before .before .before .before .before .before .before .before .pre .1 .2)) .bin)
+absorb-bins-add-inner-c t c = omega (arith, (c .before .before .before .before .before .before .before .before .before .before .before .before .before .pre .1 .0), (formed (gridAt (c .before .before .before .before .before .before .before .before .before .before .before .before .before .args .level) (c .before .before .before .before .before .before .before .before .before .before .before .before .before .args .table .now) (c .before .before .before .before .before .before .before .before .before .before .before .before .before .args .reals .now) (c .before .before .before .before .before .before .before .before .before .before .before .before .before .args .counts .now)) (c .before .before .before .before .before .before .before .before .before .before .before .before .before .args .table .now) (c .before .before .before .before .before .before .before .before .before .before .before .before .before .args .reals .now) (c .before .before .before .before .before .before .before .before .before .before .before .before .before .args .counts .now) (c .before .before .before .before .before .before .before .before .before .before .before .before .before .args .w) (getD (c .before .before .before .before .before .before .before .before .before .before .before .before .before .args .table .now) ((c .before .before .before .before .before .before .before .before .before .before .before .before .before .args .w) + 2) 0) (headAt (c .before .before .before .before .before .before .before .before .before .before .before .before .before .args .table .now) (c .before .before .before .before .before .before .before .before .before .before .before .before .before .args .reals .now) (c .before .before .before .before .before .before .before .before .before .before .before .before .before .args .counts .now) (c .before .before .before .before .before .before .before .before .before .before .before .before .before .args .w)) (held (c .before .before .before .before .before .before .before .before .before .before .before .before .before .pre .1 .2)) (c .before .before .before .before .before .before .before .before .before .before .before .before .before .args .depth) (c .before .before .before .before .before .before .before .before .before .before .before .before .before .args .number) (c .before .before .before .before .before .before .before .before .before .before .before .before .before .pre .1 .2 .offer .takes)) .bin)
 
 -- src/absorbing.rt:119:27
 absorb-bins-mul-inner-c : (t : ℕ) → absorb-bins-lts.Need-mul-inner-c (
@@ -384,7 +382,7 @@ absorb-bins-mul-inner-c : (t : ℕ) → absorb-bins-lts.Need-mul-inner-c (
   put-reads.Asked,
   put-reads.Learnt,
 ) (absorb-bins-at t) absorb-bins.Post
-absorb-bins-mul-inner-c t c = omega (arith, (c .before .before .before .before .before .before .before .before .before .before .before .before .before .pre .1 .0), (formed (gridAt (c .before .before .before .before .before .before .before .before .before .before .before .before .before .args .level) (c .before .before .before .before .before .before .before .before .before .before .before .before .before .args .table .now) (c .before .before .before .before .before .before .before .before .before .before .before .before .before .args .reals .now) (c .before .before .before .before .before .before .before .before .before .before .before .before .before .args .counts .now)) (c .before .before .before .before .before .before .before .before .before .before .before .before .before .args .table .now) (c .before .before .before .before .before .before .before .before .before .before .before .before .before .args .reals .now) (c .before .before .before .before .before .before .before .before .before .before .before .before .before .args .counts .now) (c .before .before .before .before .before .before .before .before .before .before .before .before .before .args .w) (getD (c .before .before .before .before .before .before .before .before .before .before .before .before .before .args .table .now) ((c .before .before .before .before .before .before .before .before .before .before .before .before .before .args .w) + 2) 0) (headAt (c .before .before .before .before .before .before .before .before .before .before .before .before .before .args .table .now) (c .before .before .before .before .before .before .before .before .before .before .before .before .before .args .reals .now) (c .before .before .before .before .before .before .before .before .before .before .before .before .before .args .counts .now) (c .before .before .before .before .before .before .before .before .before .before .before .before .before .args .w)) (sampleIn (c .before .before .before .before .before .before .before .before .before .before .before .before .before .args .path .now) (c .before .before .before .before .before .before .before .before .before .before .before .before .before .args .levels) (c .before .before .before .before .before .before .before .before .before .before .before .before .before .args .weights .now) (c .before .before .before .before .before .before .before .before .before .before .before .before .before .args .weighed) (c .before .before .before .before .before .before .before .before .before .before .before .before .before .args .coordinates .now) (c .before .before .before .before .before .before .before .before .before .before .before .before .before .args .many)) (c .before .before .before .before .before .before .before .before .before .before .before .before .before .args .depth) (c .before .before .before .before .before .before .before .before .before .before .before .before .before .args .number) (c .before .before .before .before .before .before .before .before .before .before .before .before .before .pre .1 .2)) .bin)
+absorb-bins-mul-inner-c t c = omega (arith, (c .before .before .before .before .before .before .before .before .before .before .before .before .before .pre .1 .0), (formed (gridAt (c .before .before .before .before .before .before .before .before .before .before .before .before .before .args .level) (c .before .before .before .before .before .before .before .before .before .before .before .before .before .args .table .now) (c .before .before .before .before .before .before .before .before .before .before .before .before .before .args .reals .now) (c .before .before .before .before .before .before .before .before .before .before .before .before .before .args .counts .now)) (c .before .before .before .before .before .before .before .before .before .before .before .before .before .args .table .now) (c .before .before .before .before .before .before .before .before .before .before .before .before .before .args .reals .now) (c .before .before .before .before .before .before .before .before .before .before .before .before .before .args .counts .now) (c .before .before .before .before .before .before .before .before .before .before .before .before .before .args .w) (getD (c .before .before .before .before .before .before .before .before .before .before .before .before .before .args .table .now) ((c .before .before .before .before .before .before .before .before .before .before .before .before .before .args .w) + 2) 0) (headAt (c .before .before .before .before .before .before .before .before .before .before .before .before .before .args .table .now) (c .before .before .before .before .before .before .before .before .before .before .before .before .before .args .reals .now) (c .before .before .before .before .before .before .before .before .before .before .before .before .before .args .counts .now) (c .before .before .before .before .before .before .before .before .before .before .before .before .before .args .w)) (held (c .before .before .before .before .before .before .before .before .before .before .before .before .before .pre .1 .2)) (c .before .before .before .before .before .before .before .before .before .before .before .before .before .args .depth) (c .before .before .before .before .before .before .before .before .before .before .before .before .before .args .number) (c .before .before .before .before .before .before .before .before .before .before .before .before .before .pre .1 .2 .offer .takes)) .bin)
 
 -- src/absorbing.rt:119:19
 absorb-bins-add-inner-c-2 : (t : ℕ) → absorb-bins-lts.Need-add-inner-c-2 (
@@ -395,7 +393,7 @@ absorb-bins-add-inner-c-2 : (t : ℕ) → absorb-bins-lts.Need-add-inner-c-2 (
   put-reads.Asked,
   put-reads.Learnt,
 ) (absorb-bins-at t) absorb-bins.Post
-absorb-bins-add-inner-c-2 t c = omega (arith, (c .before .before .before .before .before .before .before .before .before .before .before .before .before .pre .1 .0), (formed (gridAt (c .before .before .before .before .before .before .before .before .before .before .before .before .before .args .level) (c .before .before .before .before .before .before .before .before .before .before .before .before .before .args .table .now) (c .before .before .before .before .before .before .before .before .before .before .before .before .before .args .reals .now) (c .before .before .before .before .before .before .before .before .before .before .before .before .before .args .counts .now)) (c .before .before .before .before .before .before .before .before .before .before .before .before .before .args .table .now) (c .before .before .before .before .before .before .before .before .before .before .before .before .before .args .reals .now) (c .before .before .before .before .before .before .before .before .before .before .before .before .before .args .counts .now) (c .before .before .before .before .before .before .before .before .before .before .before .before .before .args .w) (getD (c .before .before .before .before .before .before .before .before .before .before .before .before .before .args .table .now) ((c .before .before .before .before .before .before .before .before .before .before .before .before .before .args .w) + 2) 0) (headAt (c .before .before .before .before .before .before .before .before .before .before .before .before .before .args .table .now) (c .before .before .before .before .before .before .before .before .before .before .before .before .before .args .reals .now) (c .before .before .before .before .before .before .before .before .before .before .before .before .before .args .counts .now) (c .before .before .before .before .before .before .before .before .before .before .before .before .before .args .w)) (sampleIn (c .before .before .before .before .before .before .before .before .before .before .before .before .before .args .path .now) (c .before .before .before .before .before .before .before .before .before .before .before .before .before .args .levels) (c .before .before .before .before .before .before .before .before .before .before .before .before .before .args .weights .now) (c .before .before .before .before .before .before .before .before .before .before .before .before .before .args .weighed) (c .before .before .before .before .before .before .before .before .before .before .before .before .before .args .coordinates .now) (c .before .before .before .before .before .before .before .before .before .before .before .before .before .args .many)) (c .before .before .before .before .before .before .before .before .before .before .before .before .before .args .depth) (c .before .before .before .before .before .before .before .before .before .before .before .before .before .args .number) (c .before .before .before .before .before .before .before .before .before .before .before .before .before .pre .1 .2)) .bin)
+absorb-bins-add-inner-c-2 t c = omega (arith, (c .before .before .before .before .before .before .before .before .before .before .before .before .before .pre .1 .0), (formed (gridAt (c .before .before .before .before .before .before .before .before .before .before .before .before .before .args .level) (c .before .before .before .before .before .before .before .before .before .before .before .before .before .args .table .now) (c .before .before .before .before .before .before .before .before .before .before .before .before .before .args .reals .now) (c .before .before .before .before .before .before .before .before .before .before .before .before .before .args .counts .now)) (c .before .before .before .before .before .before .before .before .before .before .before .before .before .args .table .now) (c .before .before .before .before .before .before .before .before .before .before .before .before .before .args .reals .now) (c .before .before .before .before .before .before .before .before .before .before .before .before .before .args .counts .now) (c .before .before .before .before .before .before .before .before .before .before .before .before .before .args .w) (getD (c .before .before .before .before .before .before .before .before .before .before .before .before .before .args .table .now) ((c .before .before .before .before .before .before .before .before .before .before .before .before .before .args .w) + 2) 0) (headAt (c .before .before .before .before .before .before .before .before .before .before .before .before .before .args .table .now) (c .before .before .before .before .before .before .before .before .before .before .before .before .before .args .reals .now) (c .before .before .before .before .before .before .before .before .before .before .before .before .before .args .counts .now) (c .before .before .before .before .before .before .before .before .before .before .before .before .before .args .w)) (held (c .before .before .before .before .before .before .before .before .before .before .before .before .before .pre .1 .2)) (c .before .before .before .before .before .before .before .before .before .before .before .before .before .args .depth) (c .before .before .before .before .before .before .before .before .before .before .before .before .before .args .number) (c .before .before .before .before .before .before .before .before .before .before .before .before .before .pre .1 .2 .offer .takes)) .bin)
 
 -- src/absorbing.rt:120:9
 absorb-bins-gain-at-requires-2 : (t : ℕ) → absorb-bins-lts.Need-gain-at-requires-2 (
@@ -412,9 +410,9 @@ absorb-bins-gain-at-requires-2 t c κs =
     let f = gridAt (o .args .level) (o .args .table .now) (o .args .reals .now) (o .args .counts .now) in
     let n = getD (o .args .table .now) (o .args .w + 2) 0 in
     let h = headAt (o .args .table .now) (o .args .reals .now) (o .args .counts .now) (o .args .w) in
-    let s = sampleIn (o .args .path .now) (o .args .levels) (o .args .weights .now) (o .args .weighed) (o .args .coordinates .now) (o .args .many) in
-    let b = formed f (o .args .table .now) (o .args .reals .now) (o .args .counts .now) (o .args .w) n h s (o .args .depth) (o .args .number) (o .pre .1 .2) in
-    (omega (arith, o .pre .1 .0, b .bin), omega (arith, o .pre .1 .0, b .bin), spot-sound f (o .args .table .now) (o .args .reals .now) (o .args .counts .now) (o .args .w) n h s (o .args .depth) (o .args .number) (o .pre .1 .2))
+    let s = held (o .pre .1 .2) in
+    let b = formed f (o .args .table .now) (o .args .reals .now) (o .args .counts .now) (o .args .w) n h s (o .args .depth) (o .args .number) (o .pre .1 .2 .offer .takes) in
+    (omega (arith, o .pre .1 .0, b .bin), omega (arith, o .pre .1 .0, b .bin), spot-sound f (o .args .table .now) (o .args .reals .now) (o .args .counts .now) (o .args .w) n h s (o .args .depth) (o .args .number) (o .pre .1 .2 .offer .takes))
 
 -- src/absorbing.rt:130:9
 absorb-bins-add-absorb-child : (t : ℕ) → absorb-bins-lts.Need-add-absorb-child (
@@ -437,7 +435,7 @@ absorb-bins-absorb-child-requires : (t : ℕ) → absorb-bins-lts.Need-absorb-ch
   put-reads.Learnt,
 ) (absorb-bins-at t) absorb-bins.Post
 unfolding ChildLaid
-absorb-bins-absorb-child-requires t c κs = (omega (arith, c .before .before .before .before .before .before .before .before .before .before .before .before .before .before .before .before .before .before .pre .0), (λ z. (c .before .before .before .before .before .before .before .before .before .before .before .before .before .before .before .before .before .before .pre .1 .0) .children (getD (c .before .before .before .before .before .before .before .before .before .before .before .before .before .before .before .before .before .before .args .path .now) (c .before .before .before .before .before .before .before .before .before .before .before .before .before .before .before .before .before .before .args .depth) 0) ((formed (gridAt (c .before .before .before .before .before .before .before .before .before .before .before .before .before .before .before .before .before .before .args .level) (c .before .before .before .before .before .before .before .before .before .before .before .before .before .before .before .before .before .before .args .table .now) (c .before .before .before .before .before .before .before .before .before .before .before .before .before .before .before .before .before .before .args .reals .now) (c .before .before .before .before .before .before .before .before .before .before .before .before .before .before .before .before .before .before .args .counts .now)) (c .before .before .before .before .before .before .before .before .before .before .before .before .before .before .before .before .before .before .args .table .now) (c .before .before .before .before .before .before .before .before .before .before .before .before .before .before .before .before .before .before .args .reals .now) (c .before .before .before .before .before .before .before .before .before .before .before .before .before .before .before .before .before .before .args .counts .now) (c .before .before .before .before .before .before .before .before .before .before .before .before .before .before .before .before .before .before .args .w) (getD (c .before .before .before .before .before .before .before .before .before .before .before .before .before .before .before .before .before .before .args .table .now) ((c .before .before .before .before .before .before .before .before .before .before .before .before .before .before .before .before .before .before .args .w) + 2) 0) (headAt (c .before .before .before .before .before .before .before .before .before .before .before .before .before .before .before .before .before .before .args .table .now) (c .before .before .before .before .before .before .before .before .before .before .before .before .before .before .before .before .before .before .args .reals .now) (c .before .before .before .before .before .before .before .before .before .before .before .before .before .before .before .before .before .before .args .counts .now) (c .before .before .before .before .before .before .before .before .before .before .before .before .before .before .before .before .before .before .args .w)) (sampleIn (c .before .before .before .before .before .before .before .before .before .before .before .before .before .before .before .before .before .before .args .path .now) (c .before .before .before .before .before .before .before .before .before .before .before .before .before .before .before .before .before .before .args .levels) (c .before .before .before .before .before .before .before .before .before .before .before .before .before .before .before .before .before .before .args .weights .now) (c .before .before .before .before .before .before .before .before .before .before .before .before .before .before .before .before .before .before .args .weighed) (c .before .before .before .before .before .before .before .before .before .before .before .before .before .before .before .before .before .before .args .coordinates .now) (c .before .before .before .before .before .before .before .before .before .before .before .before .before .before .before .before .before .before .args .many)) (c .before .before .before .before .before .before .before .before .before .before .before .before .before .before .before .before .before .before .args .depth) (c .before .before .before .before .before .before .before .before .before .before .before .before .before .before .before .before .before .before .args .number) (c .before .before .before .before .before .before .before .before .before .before .before .before .before .before .before .before .before .before .pre .1 .2)) .bin) z, omega (arith, c .before .before .before .before .before .before .before .before .before .before .before .before .before .before .before .before .before .before .pre .1 .1), takes-below (gridAt (c .before .before .before .before .before .before .before .before .before .before .before .before .before .before .before .before .before .before .args .level) (c .before .before .before .before .before .before .before .before .before .before .before .before .before .before .before .before .before .before .args .table .now) (c .before .before .before .before .before .before .before .before .before .before .before .before .before .before .before .before .before .before .args .reals .now) (c .before .before .before .before .before .before .before .before .before .before .before .before .before .before .before .before .before .before .args .counts .now)) (c .before .before .before .before .before .before .before .before .before .before .before .before .before .before .before .before .before .before .args .table .now) (c .before .before .before .before .before .before .before .before .before .before .before .before .before .before .before .before .before .before .args .reals .now) (c .before .before .before .before .before .before .before .before .before .before .before .before .before .before .before .before .before .before .args .counts .now) (c .before .before .before .before .before .before .before .before .before .before .before .before .before .before .before .before .before .before .args .w) (getD (c .before .before .before .before .before .before .before .before .before .before .before .before .before .before .before .before .before .before .args .table .now) ((c .before .before .before .before .before .before .before .before .before .before .before .before .before .before .before .before .before .before .args .w) + 2) 0) (headAt (c .before .before .before .before .before .before .before .before .before .before .before .before .before .before .before .before .before .before .args .table .now) (c .before .before .before .before .before .before .before .before .before .before .before .before .before .before .before .before .before .before .args .reals .now) (c .before .before .before .before .before .before .before .before .before .before .before .before .before .before .before .before .before .before .args .counts .now) (c .before .before .before .before .before .before .before .before .before .before .before .before .before .before .before .before .before .before .args .w)) (sampleIn (c .before .before .before .before .before .before .before .before .before .before .before .before .before .before .before .before .before .before .args .path .now) (c .before .before .before .before .before .before .before .before .before .before .before .before .before .before .before .before .before .before .args .levels) (c .before .before .before .before .before .before .before .before .before .before .before .before .before .before .before .before .before .before .args .weights .now) (c .before .before .before .before .before .before .before .before .before .before .before .before .before .before .before .before .before .before .args .weighed) (c .before .before .before .before .before .before .before .before .before .before .before .before .before .before .before .before .before .before .args .coordinates .now) (c .before .before .before .before .before .before .before .before .before .before .before .before .before .before .before .before .before .before .args .many)) (c .before .before .before .before .before .before .before .before .before .before .before .before .before .before .before .before .before .before .args .depth) (c .before .before .before .before .before .before .before .before .before .before .before .before .before .before .before .before .before .before .args .number) (c .before .before .before .before .before .before .before .before .before .before .before .before .before .before .before .before .before .before .pre .1 .2), found-below (gridAt (c .before .before .before .before .before .before .before .before .before .before .before .before .before .before .before .before .before .before .args .level) (c .before .before .before .before .before .before .before .before .before .before .before .before .before .before .before .before .before .before .args .table .now) (c .before .before .before .before .before .before .before .before .before .before .before .before .before .before .before .before .before .before .args .reals .now) (c .before .before .before .before .before .before .before .before .before .before .before .before .before .before .before .before .before .before .args .counts .now)) (c .before .before .before .before .before .before .before .before .before .before .before .before .before .before .before .before .before .before .args .table .now) (c .before .before .before .before .before .before .before .before .before .before .before .before .before .before .before .before .before .before .args .reals .now) (c .before .before .before .before .before .before .before .before .before .before .before .before .before .before .before .before .before .before .args .counts .now) (c .before .before .before .before .before .before .before .before .before .before .before .before .before .before .before .before .before .before .args .w) (getD (c .before .before .before .before .before .before .before .before .before .before .before .before .before .before .before .before .before .before .args .table .now) ((c .before .before .before .before .before .before .before .before .before .before .before .before .before .before .before .before .before .before .args .w) + 2) 0) (headAt (c .before .before .before .before .before .before .before .before .before .before .before .before .before .before .before .before .before .before .args .table .now) (c .before .before .before .before .before .before .before .before .before .before .before .before .before .before .before .before .before .before .args .reals .now) (c .before .before .before .before .before .before .before .before .before .before .before .before .before .before .before .before .before .before .args .counts .now) (c .before .before .before .before .before .before .before .before .before .before .before .before .before .before .before .before .before .before .args .w)) (sampleIn (c .before .before .before .before .before .before .before .before .before .before .before .before .before .before .before .before .before .before .args .path .now) (c .before .before .before .before .before .before .before .before .before .before .before .before .before .before .before .before .before .before .args .levels) (c .before .before .before .before .before .before .before .before .before .before .before .before .before .before .before .before .before .before .args .weights .now) (c .before .before .before .before .before .before .before .before .before .before .before .before .before .before .before .before .before .before .args .weighed) (c .before .before .before .before .before .before .before .before .before .before .before .before .before .before .before .before .before .before .args .coordinates .now) (c .before .before .before .before .before .before .before .before .before .before .before .before .before .before .before .before .before .before .args .many)) (c .before .before .before .before .before .before .before .before .before .before .before .before .before .before .before .before .before .before .args .depth) (c .before .before .before .before .before .before .before .before .before .before .before .before .before .before .before .before .before .before .args .number) (c .before .before .before .before .before .before .before .before .before .before .before .before .before .before .before .before .before .before .pre .1 .2) (c .before .before .before .before .before .before .before .before .before .before .before .before .before .before .before .before .before .before .args .spots .now) (c .before .before .before .before .before .before .before .before .before .before .before .before .before .before .before .before .before .before .pre .1 .3)))
+absorb-bins-absorb-child-requires t c κs = (omega (arith, c .before .before .before .before .before .before .before .before .before .before .before .before .before .before .before .before .before .before .pre .0), (λ z. (c .before .before .before .before .before .before .before .before .before .before .before .before .before .before .before .before .before .before .pre .1 .0) .children (getD (c .before .before .before .before .before .before .before .before .before .before .before .before .before .before .before .before .before .before .args .path .now) (c .before .before .before .before .before .before .before .before .before .before .before .before .before .before .before .before .before .before .args .depth) 0) ((formed (gridAt (c .before .before .before .before .before .before .before .before .before .before .before .before .before .before .before .before .before .before .args .level) (c .before .before .before .before .before .before .before .before .before .before .before .before .before .before .before .before .before .before .args .table .now) (c .before .before .before .before .before .before .before .before .before .before .before .before .before .before .before .before .before .before .args .reals .now) (c .before .before .before .before .before .before .before .before .before .before .before .before .before .before .before .before .before .before .args .counts .now)) (c .before .before .before .before .before .before .before .before .before .before .before .before .before .before .before .before .before .before .args .table .now) (c .before .before .before .before .before .before .before .before .before .before .before .before .before .before .before .before .before .before .args .reals .now) (c .before .before .before .before .before .before .before .before .before .before .before .before .before .before .before .before .before .before .args .counts .now) (c .before .before .before .before .before .before .before .before .before .before .before .before .before .before .before .before .before .before .args .w) (getD (c .before .before .before .before .before .before .before .before .before .before .before .before .before .before .before .before .before .before .args .table .now) ((c .before .before .before .before .before .before .before .before .before .before .before .before .before .before .before .before .before .before .args .w) + 2) 0) (headAt (c .before .before .before .before .before .before .before .before .before .before .before .before .before .before .before .before .before .before .args .table .now) (c .before .before .before .before .before .before .before .before .before .before .before .before .before .before .before .before .before .before .args .reals .now) (c .before .before .before .before .before .before .before .before .before .before .before .before .before .before .before .before .before .before .args .counts .now) (c .before .before .before .before .before .before .before .before .before .before .before .before .before .before .before .before .before .before .args .w)) (held (c .before .before .before .before .before .before .before .before .before .before .before .before .before .before .before .before .before .before .pre .1 .2)) (c .before .before .before .before .before .before .before .before .before .before .before .before .before .before .before .before .before .before .args .depth) (c .before .before .before .before .before .before .before .before .before .before .before .before .before .before .before .before .before .before .args .number) (c .before .before .before .before .before .before .before .before .before .before .before .before .before .before .before .before .before .before .pre .1 .2 .offer .takes)) .bin) z, omega (arith, c .before .before .before .before .before .before .before .before .before .before .before .before .before .before .before .before .before .before .pre .1 .1), held-below (gridAt (c .before .before .before .before .before .before .before .before .before .before .before .before .before .before .before .before .before .before .args .level) (c .before .before .before .before .before .before .before .before .before .before .before .before .before .before .before .before .before .before .args .table .now) (c .before .before .before .before .before .before .before .before .before .before .before .before .before .before .before .before .before .before .args .reals .now) (c .before .before .before .before .before .before .before .before .before .before .before .before .before .before .before .before .before .before .args .counts .now)) (c .before .before .before .before .before .before .before .before .before .before .before .before .before .before .before .before .before .before .args .table .now) (c .before .before .before .before .before .before .before .before .before .before .before .before .before .before .before .before .before .before .args .reals .now) (c .before .before .before .before .before .before .before .before .before .before .before .before .before .before .before .before .before .before .args .counts .now) (c .before .before .before .before .before .before .before .before .before .before .before .before .before .before .before .before .before .before .args .w) (getD (c .before .before .before .before .before .before .before .before .before .before .before .before .before .before .before .before .before .before .args .table .now) (c .before .before .before .before .before .before .before .before .before .before .before .before .before .before .before .before .before .before .args .w + 2) 0) (headAt (c .before .before .before .before .before .before .before .before .before .before .before .before .before .before .before .before .before .before .args .table .now) (c .before .before .before .before .before .before .before .before .before .before .before .before .before .before .before .before .before .before .args .reals .now) (c .before .before .before .before .before .before .before .before .before .before .before .before .before .before .before .before .before .before .args .counts .now) (c .before .before .before .before .before .before .before .before .before .before .before .before .before .before .before .before .before .before .args .w)) (c .before .before .before .before .before .before .before .before .before .before .before .before .before .before .before .before .before .before .pre .1 .2)))
 
 -- src/absorbing.rt:138:5
 absorb-bins-put-requires : (t : ℕ) → absorb-bins-lts.Need-put-requires (
@@ -448,7 +446,7 @@ absorb-bins-put-requires : (t : ℕ) → absorb-bins-lts.Need-put-requires (
   put-reads.Asked,
   put-reads.Learnt,
 ) (absorb-bins-at t) absorb-bins.Post
-absorb-bins-put-requires t c κs = (omega (arith, (c .before .before .before .before .before .before .before .before .before .before .before .before .before .before .before .before .before .before .before .before .before .before .before .before .before .pre .1 .0), (formed (gridAt (c .before .before .before .before .before .before .before .before .before .before .before .before .before .before .before .before .before .before .before .before .before .before .before .before .before .args .level) (c .before .before .before .before .before .before .before .before .before .before .before .before .before .before .before .before .before .before .before .before .before .before .before .before .before .args .table .now) (c .before .before .before .before .before .before .before .before .before .before .before .before .before .before .before .before .before .before .before .before .before .before .before .before .before .args .reals .now) (c .before .before .before .before .before .before .before .before .before .before .before .before .before .before .before .before .before .before .before .before .before .before .before .before .before .args .counts .now)) (c .before .before .before .before .before .before .before .before .before .before .before .before .before .before .before .before .before .before .before .before .before .before .before .before .before .args .table .now) (c .before .before .before .before .before .before .before .before .before .before .before .before .before .before .before .before .before .before .before .before .before .before .before .before .before .args .reals .now) (c .before .before .before .before .before .before .before .before .before .before .before .before .before .before .before .before .before .before .before .before .before .before .before .before .before .args .counts .now) (c .before .before .before .before .before .before .before .before .before .before .before .before .before .before .before .before .before .before .before .before .before .before .before .before .before .args .w) (getD (c .before .before .before .before .before .before .before .before .before .before .before .before .before .before .before .before .before .before .before .before .before .before .before .before .before .args .table .now) ((c .before .before .before .before .before .before .before .before .before .before .before .before .before .before .before .before .before .before .before .before .before .before .before .before .before .args .w) + 2) 0) (headAt (c .before .before .before .before .before .before .before .before .before .before .before .before .before .before .before .before .before .before .before .before .before .before .before .before .before .args .table .now) (c .before .before .before .before .before .before .before .before .before .before .before .before .before .before .before .before .before .before .before .before .before .before .before .before .before .args .reals .now) (c .before .before .before .before .before .before .before .before .before .before .before .before .before .before .before .before .before .before .before .before .before .before .before .before .before .args .counts .now) (c .before .before .before .before .before .before .before .before .before .before .before .before .before .before .before .before .before .before .before .before .before .before .before .before .before .args .w)) (sampleIn (c .before .before .before .before .before .before .before .before .before .before .before .before .before .before .before .before .before .before .before .before .before .before .before .before .before .args .path .now) (c .before .before .before .before .before .before .before .before .before .before .before .before .before .before .before .before .before .before .before .before .before .before .before .before .before .args .levels) (c .before .before .before .before .before .before .before .before .before .before .before .before .before .before .before .before .before .before .before .before .before .before .before .before .before .args .weights .now) (c .before .before .before .before .before .before .before .before .before .before .before .before .before .before .before .before .before .before .before .before .before .before .before .before .before .args .weighed) (c .before .before .before .before .before .before .before .before .before .before .before .before .before .before .before .before .before .before .before .before .before .before .before .before .before .args .coordinates .now) (c .before .before .before .before .before .before .before .before .before .before .before .before .before .before .before .before .before .before .before .before .before .before .before .before .before .args .many)) (c .before .before .before .before .before .before .before .before .before .before .before .before .before .before .before .before .before .before .before .before .before .before .before .before .before .args .depth) (c .before .before .before .before .before .before .before .before .before .before .before .before .before .before .before .before .before .before .before .before .before .before .before .before .before .args .number) (c .before .before .before .before .before .before .before .before .before .before .before .before .before .before .before .before .before .before .before .before .before .before .before .before .before .pre .1 .2)) .bin, c .before .before .before .before .before .before .absorb-child .kept .1 .0), omega (arith, (c .before .before .before .before .before .before .before .before .before .before .before .before .before .before .before .before .before .before .before .before .before .before .before .before .before .pre .1 .0), (formed (gridAt (c .before .before .before .before .before .before .before .before .before .before .before .before .before .before .before .before .before .before .before .before .before .before .before .before .before .args .level) (c .before .before .before .before .before .before .before .before .before .before .before .before .before .before .before .before .before .before .before .before .before .before .before .before .before .args .table .now) (c .before .before .before .before .before .before .before .before .before .before .before .before .before .before .before .before .before .before .before .before .before .before .before .before .before .args .reals .now) (c .before .before .before .before .before .before .before .before .before .before .before .before .before .before .before .before .before .before .before .before .before .before .before .before .before .args .counts .now)) (c .before .before .before .before .before .before .before .before .before .before .before .before .before .before .before .before .before .before .before .before .before .before .before .before .before .args .table .now) (c .before .before .before .before .before .before .before .before .before .before .before .before .before .before .before .before .before .before .before .before .before .before .before .before .before .args .reals .now) (c .before .before .before .before .before .before .before .before .before .before .before .before .before .before .before .before .before .before .before .before .before .before .before .before .before .args .counts .now) (c .before .before .before .before .before .before .before .before .before .before .before .before .before .before .before .before .before .before .before .before .before .before .before .before .before .args .w) (getD (c .before .before .before .before .before .before .before .before .before .before .before .before .before .before .before .before .before .before .before .before .before .before .before .before .before .args .table .now) ((c .before .before .before .before .before .before .before .before .before .before .before .before .before .before .before .before .before .before .before .before .before .before .before .before .before .args .w) + 2) 0) (headAt (c .before .before .before .before .before .before .before .before .before .before .before .before .before .before .before .before .before .before .before .before .before .before .before .before .before .args .table .now) (c .before .before .before .before .before .before .before .before .before .before .before .before .before .before .before .before .before .before .before .before .before .before .before .before .before .args .reals .now) (c .before .before .before .before .before .before .before .before .before .before .before .before .before .before .before .before .before .before .before .before .before .before .before .before .before .args .counts .now) (c .before .before .before .before .before .before .before .before .before .before .before .before .before .before .before .before .before .before .before .before .before .before .before .before .before .args .w)) (sampleIn (c .before .before .before .before .before .before .before .before .before .before .before .before .before .before .before .before .before .before .before .before .before .before .before .before .before .args .path .now) (c .before .before .before .before .before .before .before .before .before .before .before .before .before .before .before .before .before .before .before .before .before .before .before .before .before .args .levels) (c .before .before .before .before .before .before .before .before .before .before .before .before .before .before .before .before .before .before .before .before .before .before .before .before .before .args .weights .now) (c .before .before .before .before .before .before .before .before .before .before .before .before .before .before .before .before .before .before .before .before .before .before .before .before .before .args .weighed) (c .before .before .before .before .before .before .before .before .before .before .before .before .before .before .before .before .before .before .before .before .before .before .before .before .before .args .coordinates .now) (c .before .before .before .before .before .before .before .before .before .before .before .before .before .before .before .before .before .before .before .before .before .before .before .before .before .args .many)) (c .before .before .before .before .before .before .before .before .before .before .before .before .before .before .before .before .before .before .before .before .before .before .before .before .before .args .depth) (c .before .before .before .before .before .before .before .before .before .before .before .before .before .before .before .before .before .before .before .before .before .before .before .before .before .args .number) (c .before .before .before .before .before .before .before .before .before .before .before .before .before .before .before .before .before .before .before .before .before .before .before .before .before .pre .1 .2)) .bin, c .before .before .before .before .before .before .absorb-child .kept .1 .1 .0))
+absorb-bins-put-requires t c κs = (omega (arith, (c .before .before .before .before .before .before .before .before .before .before .before .before .before .before .before .before .before .before .before .before .before .before .before .before .before .pre .1 .0), (formed (gridAt (c .before .before .before .before .before .before .before .before .before .before .before .before .before .before .before .before .before .before .before .before .before .before .before .before .before .args .level) (c .before .before .before .before .before .before .before .before .before .before .before .before .before .before .before .before .before .before .before .before .before .before .before .before .before .args .table .now) (c .before .before .before .before .before .before .before .before .before .before .before .before .before .before .before .before .before .before .before .before .before .before .before .before .before .args .reals .now) (c .before .before .before .before .before .before .before .before .before .before .before .before .before .before .before .before .before .before .before .before .before .before .before .before .before .args .counts .now)) (c .before .before .before .before .before .before .before .before .before .before .before .before .before .before .before .before .before .before .before .before .before .before .before .before .before .args .table .now) (c .before .before .before .before .before .before .before .before .before .before .before .before .before .before .before .before .before .before .before .before .before .before .before .before .before .args .reals .now) (c .before .before .before .before .before .before .before .before .before .before .before .before .before .before .before .before .before .before .before .before .before .before .before .before .before .args .counts .now) (c .before .before .before .before .before .before .before .before .before .before .before .before .before .before .before .before .before .before .before .before .before .before .before .before .before .args .w) (getD (c .before .before .before .before .before .before .before .before .before .before .before .before .before .before .before .before .before .before .before .before .before .before .before .before .before .args .table .now) ((c .before .before .before .before .before .before .before .before .before .before .before .before .before .before .before .before .before .before .before .before .before .before .before .before .before .args .w) + 2) 0) (headAt (c .before .before .before .before .before .before .before .before .before .before .before .before .before .before .before .before .before .before .before .before .before .before .before .before .before .args .table .now) (c .before .before .before .before .before .before .before .before .before .before .before .before .before .before .before .before .before .before .before .before .before .before .before .before .before .args .reals .now) (c .before .before .before .before .before .before .before .before .before .before .before .before .before .before .before .before .before .before .before .before .before .before .before .before .before .args .counts .now) (c .before .before .before .before .before .before .before .before .before .before .before .before .before .before .before .before .before .before .before .before .before .before .before .before .before .args .w)) (held (c .before .before .before .before .before .before .before .before .before .before .before .before .before .before .before .before .before .before .before .before .before .before .before .before .before .pre .1 .2)) (c .before .before .before .before .before .before .before .before .before .before .before .before .before .before .before .before .before .before .before .before .before .before .before .before .before .args .depth) (c .before .before .before .before .before .before .before .before .before .before .before .before .before .before .before .before .before .before .before .before .before .before .before .before .before .args .number) (c .before .before .before .before .before .before .before .before .before .before .before .before .before .before .before .before .before .before .before .before .before .before .before .before .before .pre .1 .2 .offer .takes)) .bin, c .before .before .before .before .before .before .absorb-child .kept .1 .0), omega (arith, (c .before .before .before .before .before .before .before .before .before .before .before .before .before .before .before .before .before .before .before .before .before .before .before .before .before .pre .1 .0), (formed (gridAt (c .before .before .before .before .before .before .before .before .before .before .before .before .before .before .before .before .before .before .before .before .before .before .before .before .before .args .level) (c .before .before .before .before .before .before .before .before .before .before .before .before .before .before .before .before .before .before .before .before .before .before .before .before .before .args .table .now) (c .before .before .before .before .before .before .before .before .before .before .before .before .before .before .before .before .before .before .before .before .before .before .before .before .before .args .reals .now) (c .before .before .before .before .before .before .before .before .before .before .before .before .before .before .before .before .before .before .before .before .before .before .before .before .before .args .counts .now)) (c .before .before .before .before .before .before .before .before .before .before .before .before .before .before .before .before .before .before .before .before .before .before .before .before .before .args .table .now) (c .before .before .before .before .before .before .before .before .before .before .before .before .before .before .before .before .before .before .before .before .before .before .before .before .before .args .reals .now) (c .before .before .before .before .before .before .before .before .before .before .before .before .before .before .before .before .before .before .before .before .before .before .before .before .before .args .counts .now) (c .before .before .before .before .before .before .before .before .before .before .before .before .before .before .before .before .before .before .before .before .before .before .before .before .before .args .w) (getD (c .before .before .before .before .before .before .before .before .before .before .before .before .before .before .before .before .before .before .before .before .before .before .before .before .before .args .table .now) ((c .before .before .before .before .before .before .before .before .before .before .before .before .before .before .before .before .before .before .before .before .before .before .before .before .before .args .w) + 2) 0) (headAt (c .before .before .before .before .before .before .before .before .before .before .before .before .before .before .before .before .before .before .before .before .before .before .before .before .before .args .table .now) (c .before .before .before .before .before .before .before .before .before .before .before .before .before .before .before .before .before .before .before .before .before .before .before .before .before .args .reals .now) (c .before .before .before .before .before .before .before .before .before .before .before .before .before .before .before .before .before .before .before .before .before .before .before .before .before .args .counts .now) (c .before .before .before .before .before .before .before .before .before .before .before .before .before .before .before .before .before .before .before .before .before .before .before .before .before .args .w)) (held (c .before .before .before .before .before .before .before .before .before .before .before .before .before .before .before .before .before .before .before .before .before .before .before .before .before .pre .1 .2)) (c .before .before .before .before .before .before .before .before .before .before .before .before .before .before .before .before .before .before .before .before .before .before .before .before .before .args .depth) (c .before .before .before .before .before .before .before .before .before .before .before .before .before .before .before .before .before .before .before .before .before .before .before .before .before .args .number) (c .before .before .before .before .before .before .before .before .before .before .before .before .before .before .before .before .before .before .before .before .before .before .before .before .before .pre .1 .2 .offer .takes)) .bin, c .before .before .before .before .before .before .absorb-child .kept .1 .1 .0))
 
 -- src/absorbing.rt:139:5
 absorb-bins-put-requires-2 : (t : ℕ) → absorb-bins-lts.Need-put-requires-2 (
@@ -492,14 +490,14 @@ absorb-bins-returns : (t : ℕ) → absorb-bins-lts.Need-returns (
   put-reads.Asked,
   put-reads.Learnt,
 ) (absorb-bins-at t) absorb-bins.Post
-absorb-bins-returns t c = bins-absorbed (c .before .before .before .before .before .before .before .before .before .before .before .before .before .before .before .before .before .before .before .before .before .before .before .before .before .before .before .before .before .before .before .before .before .before .before .before .before .args .table .now) (sampleIn (c .before .before .before .before .before .before .before .before .before .before .before .before .before .before .before .before .before .before .before .before .before .before .before .before .before .before .before .before .before .before .before .before .before .before .before .before .before .args .path .now) (c .before .before .before .before .before .before .before .before .before .before .before .before .before .before .before .before .before .before .before .before .before .before .before .before .before .before .before .before .before .before .before .before .before .before .before .before .before .args .levels) (c .before .before .before .before .before .before .before .before .before .before .before .before .before .before .before .before .before .before .before .before .before .before .before .before .before .before .before .before .before .before .before .before .before .before .before .before .before .args .weights .now) (c .before .before .before .before .before .before .before .before .before .before .before .before .before .before .before .before .before .before .before .before .before .before .before .before .before .before .before .before .before .before .before .before .before .before .before .before .before .args .weighed) (c .before .before .before .before .before .before .before .before .before .before .before .before .before .before .before .before .before .before .before .before .before .before .before .before .before .before .before .before .before .before .before .before .before .before .before .before .before .args .coordinates .now) (c .before .before .before .before .before .before .before .before .before .before .before .before .before .before .before .before .before .before .before .before .before .before .before .before .before .before .before .before .before .before .before .before .before .before .before .before .before .args .many)) (c .before .before .before .before .before .before .before .before .before .before .before .before .before .before .before .before .before .before .before .before .before .before .before .before .before .before .before .before .before .before .before .before .before .before .before .before .before .args .evaluation) (c .before .before .before .before .before .before .before .before .before .before .before .before .before .before .before .before .before .before .before .before .before .before .before .before .before .before .before .before .before .before .before .before .before .before .before .before .before .args .number) (c .before .before .before .before .before .before .before .before .before .before .before .before .before .before .before .before .before .before .before .before .before .before .before .before .before .before .before .before .before .before .before .before .before .before .before .before .before .args .w) (c .before .before .before .before .before .before .before .before .before .before .before .before .before .before .before .before .before .before .before .before .before .before .before .before .before .before .before .before .before .before .before .before .before .before .before .before .before .args .depth) (absorbed (c .before .before .before .before .before .before .before .before .before .before .before .before .before .before .before .before .before .before .before .before .before .before .before .before .before .before .before .before .before .before .before .before .before .before .before .before .before .args .level) (c .before .before .before .before .before .before .before .before .before .before .before .before .before .before .before .before .before .before .before .before .before .before .before .before .before .before .before .before .before .before .before .before .before .before .before .before .before .args .table .now) (sampleIn (c .before .before .before .before .before .before .before .before .before .before .before .before .before .before .before .before .before .before .before .before .before .before .before .before .before .before .before .before .before .before .before .before .before .before .before .before .before .args .path .now) (c .before .before .before .before .before .before .before .before .before .before .before .before .before .before .before .before .before .before .before .before .before .before .before .before .before .before .before .before .before .before .before .before .before .before .before .before .before .args .levels) (c .before .before .before .before .before .before .before .before .before .before .before .before .before .before .before .before .before .before .before .before .before .before .before .before .before .before .before .before .before .before .before .before .before .before .before .before .before .args .weights .now) (c .before .before .before .before .before .before .before .before .before .before .before .before .before .before .before .before .before .before .before .before .before .before .before .before .before .before .before .before .before .before .before .before .before .before .before .before .before .args .weighed) (c .before .before .before .before .before .before .before .before .before .before .before .before .before .before .before .before .before .before .before .before .before .before .before .before .before .before .before .before .before .before .before .before .before .before .before .before .before .args .coordinates .now) (c .before .before .before .before .before .before .before .before .before .before .before .before .before .before .before .before .before .before .before .before .before .before .before .before .before .before .before .before .before .before .before .before .before .before .before .before .before .args .many)) (c .before .before .before .before .before .before .before .before .before .before .before .before .before .before .before .before .before .before .before .before .before .before .before .before .before .before .before .before .before .before .before .before .before .before .before .before .before .args .evaluation) (c .before .before .before .before .before .before .before .before .before .before .before .before .before .before .before .before .before .before .before .before .before .before .before .before .before .before .before .before .before .before .before .before .before .before .before .before .before .args .number)) (memory (c .before .before .before .before .before .before .before .before .before .before .before .before .before .before .before .before .before .before .before .before .before .before .before .before .before .before .before .before .before .before .before .before .before .before .before .before .before .args .reals .now) (c .before .before .before .before .before .before .before .before .before .before .before .before .before .before .before .before .before .before .before .before .before .before .before .before .before .before .before .before .before .before .before .before .before .before .before .before .before .args .counts .now)) (memory (c .before .before .before .before .before .before .before .before .before .before .before .before .before .before .before .before .before .before .absorb-child .last .1 .0) (c .before .before .before .before .before .before .before .before .before .before .before .before .before .before .before .before .before .before .absorb-child .last .1 .1 .0)) (memory (c .before .before .before .before .before .before .before .before .before .before .before .put .last .0) (c .before .before .before .before .before .before .before .before .before .before .before .put .last .1 .0)) (memory (c .before .before .before .before .put2 .last .0) (c .before .before .before .before .put2 .last .1 .0)) (c .before .before .before .before .before .before .before .before .before .before .before .before .before .before .before .before .before .before .before .before .before .before .before .before .gain-at .result) (c .before .before .before .before .before .before .before .before .before .before .before .before .before .before .before .before .before .before .before .before .before .gain-at2 .result) (c .before .before .before .before .before .before .before .before .before .before .before .before .before .before .before .before .before .before .before .before .before .before .before .before .gain-at .ensures) (c .before .before .before .before .before .before .before .before .before .before .before .before .before .before .before .before .before .before .before .before .before .gain-at2 .ensures) (c .before .before .before .before .before .before .before .before .before .before .before .before .before .before .before .before .before .before .absorb-child .ensures) (c .before .before .before .before .before .before .before .before .before .before .before .put .ensures) (c .before .before .before .before .put2 .ensures)
+absorb-bins-returns t c h = bins-absorbed (c .before .before .before .before .before .before .before .before .before .before .before .before .before .before .before .before .before .before .before .before .before .before .before .before .before .before .before .before .before .before .before .before .before .before .before .before .before .args .table .now) (held h) (c .before .before .before .before .before .before .before .before .before .before .before .before .before .before .before .before .before .before .before .before .before .before .before .before .before .before .before .before .before .before .before .before .before .before .before .before .before .args .evaluation) (c .before .before .before .before .before .before .before .before .before .before .before .before .before .before .before .before .before .before .before .before .before .before .before .before .before .before .before .before .before .before .before .before .before .before .before .before .before .args .number) (c .before .before .before .before .before .before .before .before .before .before .before .before .before .before .before .before .before .before .before .before .before .before .before .before .before .before .before .before .before .before .before .before .before .before .before .before .before .args .w) (c .before .before .before .before .before .before .before .before .before .before .before .before .before .before .before .before .before .before .before .before .before .before .before .before .before .before .before .before .before .before .before .before .before .before .before .before .before .args .depth) (absorbed (c .before .before .before .before .before .before .before .before .before .before .before .before .before .before .before .before .before .before .before .before .before .before .before .before .before .before .before .before .before .before .before .before .before .before .before .before .before .args .level) (c .before .before .before .before .before .before .before .before .before .before .before .before .before .before .before .before .before .before .before .before .before .before .before .before .before .before .before .before .before .before .before .before .before .before .before .before .before .args .table .now) (held h) (c .before .before .before .before .before .before .before .before .before .before .before .before .before .before .before .before .before .before .before .before .before .before .before .before .before .before .before .before .before .before .before .before .before .before .before .before .before .args .evaluation) (c .before .before .before .before .before .before .before .before .before .before .before .before .before .before .before .before .before .before .before .before .before .before .before .before .before .before .before .before .before .before .before .before .before .before .before .before .before .args .number)) (memory (c .before .before .before .before .before .before .before .before .before .before .before .before .before .before .before .before .before .before .before .before .before .before .before .before .before .before .before .before .before .before .before .before .before .before .before .before .before .args .reals .now) (c .before .before .before .before .before .before .before .before .before .before .before .before .before .before .before .before .before .before .before .before .before .before .before .before .before .before .before .before .before .before .before .before .before .before .before .before .before .args .counts .now)) (memory (c .before .before .before .before .before .before .before .before .before .before .before .before .before .before .before .before .before .before .absorb-child .last .1 .0) (c .before .before .before .before .before .before .before .before .before .before .before .before .before .before .before .before .before .before .absorb-child .last .1 .1 .0)) (memory (c .before .before .before .before .before .before .before .before .before .before .before .put .last .0) (c .before .before .before .before .before .before .before .before .before .before .before .put .last .1 .0)) (memory (c .before .before .before .before .put2 .last .0) (c .before .before .before .before .put2 .last .1 .0)) (c .before .before .before .before .before .before .before .before .before .before .before .before .before .before .before .before .before .before .before .before .before .before .before .before .gain-at .result) (c .before .before .before .before .before .before .before .before .before .before .before .before .before .before .before .before .before .before .before .before .before .gain-at2 .result) (c .before .before .before .before .before .before .before .before .before .before .before .before .before .before .before .before .before .before .before .before .before .before .before .before .gain-at .ensures) (c .before .before .before .before .before .before .before .before .before .before .before .before .before .before .before .before .before .before .before .before .before .gain-at2 .ensures) (c .before .before .before .before .before .before .before .before .before .before .before .before .before .before .before .before .before .before .absorb-child .ensures (held-below (gridAt (c .before .before .before .before .before .before .before .before .before .before .before .before .before .before .before .before .before .before .before .before .before .before .before .before .before .before .before .before .before .before .before .before .before .before .before .before .before .args .level) (c .before .before .before .before .before .before .before .before .before .before .before .before .before .before .before .before .before .before .before .before .before .before .before .before .before .before .before .before .before .before .before .before .before .before .before .before .before .args .table .now) (c .before .before .before .before .before .before .before .before .before .before .before .before .before .before .before .before .before .before .before .before .before .before .before .before .before .before .before .before .before .before .before .before .before .before .before .before .before .args .reals .now) (c .before .before .before .before .before .before .before .before .before .before .before .before .before .before .before .before .before .before .before .before .before .before .before .before .before .before .before .before .before .before .before .before .before .before .before .before .before .args .counts .now)) (c .before .before .before .before .before .before .before .before .before .before .before .before .before .before .before .before .before .before .before .before .before .before .before .before .before .before .before .before .before .before .before .before .before .before .before .before .before .args .table .now) (c .before .before .before .before .before .before .before .before .before .before .before .before .before .before .before .before .before .before .before .before .before .before .before .before .before .before .before .before .before .before .before .before .before .before .before .before .before .args .reals .now) (c .before .before .before .before .before .before .before .before .before .before .before .before .before .before .before .before .before .before .before .before .before .before .before .before .before .before .before .before .before .before .before .before .before .before .before .before .before .args .counts .now) (c .before .before .before .before .before .before .before .before .before .before .before .before .before .before .before .before .before .before .before .before .before .before .before .before .before .before .before .before .before .before .before .before .before .before .before .before .before .args .w) (getD (c .before .before .before .before .before .before .before .before .before .before .before .before .before .before .before .before .before .before .before .before .before .before .before .before .before .before .before .before .before .before .before .before .before .before .before .before .before .args .table .now) (c .before .before .before .before .before .before .before .before .before .before .before .before .before .before .before .before .before .before .before .before .before .before .before .before .before .before .before .before .before .before .before .before .before .before .before .before .before .args .w + 2) 0) (headAt (c .before .before .before .before .before .before .before .before .before .before .before .before .before .before .before .before .before .before .before .before .before .before .before .before .before .before .before .before .before .before .before .before .before .before .before .before .before .args .table .now) (c .before .before .before .before .before .before .before .before .before .before .before .before .before .before .before .before .before .before .before .before .before .before .before .before .before .before .before .before .before .before .before .before .before .before .before .before .before .args .reals .now) (c .before .before .before .before .before .before .before .before .before .before .before .before .before .before .before .before .before .before .before .before .before .before .before .before .before .before .before .before .before .before .before .before .before .before .before .before .before .args .counts .now) (c .before .before .before .before .before .before .before .before .before .before .before .before .before .before .before .before .before .before .before .before .before .before .before .before .before .before .before .before .before .before .before .before .before .before .before .before .before .args .w)) h)) (c .before .before .before .before .before .before .before .before .before .before .before .put .ensures) (c .before .before .before .before .put2 .ensures)
 
 -- src/absorbing.rt:67:9
 absorb-child-returns : (t : ℕ) → absorb-child-lts.Need-returns (
   absorb-grid-below t,
   absorb-grid.Post,
 ) (absorb-child-at t) absorb-child.Post
-absorb-child-returns t c = nothing-absorbed (absorbed (c .before .before .before .before .args .level) (c .before .before .before .before .args .table .now) (sampleIn (c .before .before .before .before .args .path .now) (c .before .before .before .before .args .levels) (c .before .before .before .before .args .weights .now) (c .before .before .before .before .args .weighed) (c .before .before .before .before .args .coordinates .now) (c .before .before .before .before .args .many)) (c .before .before .before .before .args .evaluation) (c .before .before .before .before .args .number)) (c .before .before .before .before .args .link) (c .before .before .before .before .args .depth) (memory (c .before .before .before .before .args .reals .now) (c .before .before .before .before .args .counts .now)) (c .if1 .taken)
+absorb-child-returns t c h = nothing-absorbed (absorbed (c .before .before .before .before .args .level) (c .before .before .before .before .args .table .now) (heldChild h) (c .before .before .before .before .args .evaluation) (c .before .before .before .before .args .number)) (c .before .before .before .before .args .link) (c .before .before .before .before .args .depth) (memory (c .before .before .before .before .args .reals .now) (c .before .before .before .before .args .counts .now)) (c .if1 .taken)
 
 -- src/absorbing.rt:69:5
 absorb-child-absorb-grid-requires : (t : ℕ) → absorb-child-lts.Need-absorb-grid-requires (
@@ -507,7 +505,7 @@ absorb-child-absorb-grid-requires : (t : ℕ) → absorb-child-lts.Need-absorb-g
   absorb-grid.Post,
 ) (absorb-child-at t) absorb-child.Post
 unfolding ChildLaid
-absorb-child-absorb-grid-requires t c κs = (omega (arith, c .before .before .before .before .before .before .pre .0), (c .before .before .before .before .before .before .pre .1 .0 (c .before .before .if1 .left), c .before .before .before .before .before .before .pre .1 .1, takes-grid (gridAt (c .before .before .before .before .before .before .args .level) (c .before .before .before .before .before .before .args .table .now) (c .before .before .before .before .before .before .args .reals .now) (c .before .before .before .before .before .before .args .counts .now)) (c .before .before .before .before .before .before .args .link) (sampleIn (c .before .before .before .before .before .before .args .path .now) (c .before .before .before .before .before .before .args .levels) (c .before .before .before .before .before .before .args .weights .now) (c .before .before .before .before .before .before .args .weighed) (c .before .before .before .before .before .before .args .coordinates .now) (c .before .before .before .before .before .before .args .many)) (c .before .before .before .before .before .before .args .depth) (c .before .before .before .before .before .before .args .number) (c .before .before .if1 .left) (c .before .before .before .before .before .before .pre .1 .2), found-grid (gridAt (c .before .before .before .before .before .before .args .level) (c .before .before .before .before .before .before .args .table .now) (c .before .before .before .before .before .before .args .reals .now) (c .before .before .before .before .before .before .args .counts .now)) (c .before .before .before .before .before .before .args .link) (sampleIn (c .before .before .before .before .before .before .args .path .now) (c .before .before .before .before .before .before .args .levels) (c .before .before .before .before .before .before .args .weights .now) (c .before .before .before .before .before .before .args .weighed) (c .before .before .before .before .before .before .args .coordinates .now) (c .before .before .before .before .before .before .args .many)) (c .before .before .before .before .before .before .args .depth) (c .before .before .before .before .before .before .args .spots .now) (c .before .before .if1 .left) (c .before .before .before .before .before .before .pre .1 .3)))
+absorb-child-absorb-grid-requires t c κs = (omega (arith, c .before .before .before .before .before .before .pre .0), (c .before .before .before .before .before .before .pre .1 .0 (c .before .before .if1 .left), c .before .before .before .before .before .before .pre .1 .1, held-grid (gridAt (c .before .before .before .before .before .before .args .level) (c .before .before .before .before .before .before .args .table .now) (c .before .before .before .before .before .before .args .reals .now) (c .before .before .before .before .before .before .args .counts .now)) (c .before .before .before .before .before .before .args .link) (c .before .before .if1 .left) (c .before .before .before .before .before .before .pre .1 .2)))
 
 -- src/absorbing.rt:46:1
 absorb-child-same-length : (t : ℕ) → absorb-child-lts.Need-same-length (
@@ -528,7 +526,7 @@ absorb-child-returns-2 : (t : ℕ) → absorb-child-lts.Need-returns-2 (
   absorb-grid-below t,
   absorb-grid.Post,
 ) (absorb-child-at t) absorb-child.Post
-absorb-child-returns-2 t c = c .before .before .before .before .absorb-grid .ensures ∙ child-absorbed (absorbed (c .before .before .before .before .before .before .before .before .before .before .before .args .level) (c .before .before .before .before .before .before .before .before .before .before .before .args .table .now) (sampleIn (c .before .before .before .before .before .before .before .before .before .before .before .args .path .now) (c .before .before .before .before .before .before .before .before .before .before .before .args .levels) (c .before .before .before .before .before .before .before .before .before .before .before .args .weights .now) (c .before .before .before .before .before .before .before .before .before .before .before .args .weighed) (c .before .before .before .before .before .before .before .before .before .before .before .args .coordinates .now) (c .before .before .before .before .before .before .before .before .before .before .before .args .many)) (c .before .before .before .before .before .before .before .before .before .before .before .args .evaluation) (c .before .before .before .before .before .before .before .before .before .before .before .args .number)) (c .before .before .before .before .before .before .before .before .before .before .before .args .link) (c .before .before .before .before .before .before .before .before .before .before .before .args .depth) (memory (c .before .before .before .before .before .before .before .before .before .before .before .args .reals .now) (c .before .before .before .before .before .before .before .before .before .before .before .args .counts .now)) (c .before .before .before .before .before .before .before .if1 .left)
+absorb-child-returns-2 t c h = c .before .before .before .before .absorb-grid .ensures (held-grid (gridAt (c .before .before .before .before .before .before .before .before .before .before .before .args .level) (c .before .before .before .before .before .before .before .before .before .before .before .args .table .now) (c .before .before .before .before .before .before .before .before .before .before .before .args .reals .now) (c .before .before .before .before .before .before .before .before .before .before .before .args .counts .now)) (c .before .before .before .before .before .before .before .before .before .before .before .args .link) (c .before .before .before .before .before .before .before .if1 .left) h) ∙ child-absorbed (absorbed (c .before .before .before .before .before .before .before .before .before .before .before .args .level) (c .before .before .before .before .before .before .before .before .before .before .before .args .table .now) (heldChild h) (c .before .before .before .before .before .before .before .before .before .before .before .args .evaluation) (c .before .before .before .before .before .before .before .before .before .before .before .args .number)) (c .before .before .before .before .before .before .before .before .before .before .before .args .link) (c .before .before .before .before .before .before .before .before .before .before .before .args .depth) (memory (c .before .before .before .before .before .before .before .before .before .before .before .args .reals .now) (c .before .before .before .before .before .before .before .before .before .before .before .args .counts .now)) (c .before .before .before .before .before .before .before .if1 .left)
 
 -- src/absorbing.rt:163:8
 absorb-grid-mul-if1 : (t : ℕ) → absorb-grid-lts.Need-mul-if1 (
@@ -555,7 +553,7 @@ absorb-grid-absorb-axes-requires : (t : ℕ) → absorb-grid-lts.Need-absorb-axe
   absorb-bins-below t,
   absorb-bins.Post,
 ) (absorb-grid-at t) absorb-grid.Post
-absorb-grid-absorb-axes-requires t c κs = ((laid-axes (c .before .before .before .before .before .before .before .args .level) (c .before .before .before .before .before .before .before .args .table .now) (length (c .before .before .before .before .before .before .before .args .reals .now)) (length (c .before .before .before .before .before .before .before .args .counts .now)) (c .before .before .before .before .before .before .before .args .w) (c .before .before .before .before .before .before .before .pre .1 .0) (c .before .before .if1 .taken)), omega (arith, c .before .before .before .before .before .before .before .pre .1 .1), subst (λ (g : Grid). Takes g (sampleIn (c .before .before .before .before .before .before .before .args .path .now) (c .before .before .before .before .before .before .before .args .levels) (c .before .before .before .before .before .before .before .args .weights .now) (c .before .before .before .before .before .before .before .args .weighed) (c .before .before .before .before .before .before .before .args .coordinates .now) (c .before .before .before .before .before .before .before .args .many)) (c .before .before .before .before .before .before .before .args .depth) (c .before .before .before .before .before .before .before .args .number)) (node-axes (c .before .before .before .before .before .before .before .args .level) (c .before .before .before .before .before .before .before .args .table .now) (c .before .before .before .before .before .before .before .args .reals .now) (c .before .before .before .before .before .before .before .args .counts .now) (c .before .before .before .before .before .before .before .args .w) (c .before .before .if1 .taken)) (c .before .before .before .before .before .before .before .pre .1 .2), subst (λ (g : Grid). Found (c .before .before .before .before .before .before .before .args .spots .now) g (sampleIn (c .before .before .before .before .before .before .before .args .path .now) (c .before .before .before .before .before .before .before .args .levels) (c .before .before .before .before .before .before .before .args .weights .now) (c .before .before .before .before .before .before .before .args .weighed) (c .before .before .before .before .before .before .before .args .coordinates .now) (c .before .before .before .before .before .before .before .args .many)) (c .before .before .before .before .before .before .before .args .depth)) (node-axes (c .before .before .before .before .before .before .before .args .level) (c .before .before .before .before .before .before .before .args .table .now) (c .before .before .before .before .before .before .before .args .reals .now) (c .before .before .before .before .before .before .before .args .counts .now) (c .before .before .before .before .before .before .before .args .w) (c .before .before .if1 .taken)) (c .before .before .before .before .before .before .before .pre .1 .3))
+absorb-grid-absorb-axes-requires t c κs = ((laid-axes (c .before .before .before .before .before .before .before .args .level) (c .before .before .before .before .before .before .before .args .table .now) (length (c .before .before .before .before .before .before .before .args .reals .now)) (length (c .before .before .before .before .before .before .before .args .counts .now)) (c .before .before .before .before .before .before .before .args .w) (c .before .before .before .before .before .before .before .pre .1 .0) (c .before .before .if1 .taken)), omega (arith, c .before .before .before .before .before .before .before .pre .1 .1), held-as (node-axes (c .before .before .before .before .before .before .before .args .level) (c .before .before .before .before .before .before .before .args .table .now) (c .before .before .before .before .before .before .before .args .reals .now) (c .before .before .before .before .before .before .before .args .counts .now) (c .before .before .before .before .before .before .before .args .w) (c .before .before .if1 .taken)) (c .before .before .before .before .before .before .before .pre .1 .2))
 
 -- src/absorbing.rt:165:9
 absorb-grid-same-length : (t : ℕ) → absorb-grid-lts.Need-same-length (
@@ -582,7 +580,7 @@ absorb-grid-returns : (t : ℕ) → absorb-grid-lts.Need-returns (
   absorb-bins-below t,
   absorb-bins.Post,
 ) (absorb-grid-at t) absorb-grid.Post
-absorb-grid-returns t c = c .before .before .before .before .absorb-axes .ensures ∙ absorbed-axes (c .before .before .before .before .before .before .before .before .before .before .before .before .args .table .now) (sampleIn (c .before .before .before .before .before .before .before .before .before .before .before .before .args .path .now) (c .before .before .before .before .before .before .before .before .before .before .before .before .args .levels) (c .before .before .before .before .before .before .before .before .before .before .before .before .args .weights .now) (c .before .before .before .before .before .before .before .before .before .before .before .before .args .weighed) (c .before .before .before .before .before .before .before .before .before .before .before .before .args .coordinates .now) (c .before .before .before .before .before .before .before .before .before .before .before .before .args .many)) (c .before .before .before .before .before .before .before .before .before .before .before .before .args .evaluation) (c .before .before .before .before .before .before .before .before .before .before .before .before .args .number) (c .before .before .before .before .before .before .before .before .before .before .before .before .args .w) (c .before .before .before .before .before .before .before .before .before .before .before .before .args .depth) (memory (c .before .before .before .before .before .before .before .before .before .before .before .before .args .reals .now) (c .before .before .before .before .before .before .before .before .before .before .before .before .args .counts .now)) (c .before .before .before .before .before .before .before .before .before .before .before .before .args .level) (c .before .before .before .before .before .before .before .if1 .taken)
+absorb-grid-returns t c h = c .before .before .before .before .absorb-axes .ensures (held-as (node-axes (c .before .before .before .before .before .before .before .before .before .before .before .before .args .level) (c .before .before .before .before .before .before .before .before .before .before .before .before .args .table .now) (c .before .before .before .before .before .before .before .before .before .before .before .before .args .reals .now) (c .before .before .before .before .before .before .before .before .before .before .before .before .args .counts .now) (c .before .before .before .before .before .before .before .before .before .before .before .before .args .w) (c .before .before .before .before .before .before .before .if1 .taken)) h) ∙ absorbed-axes (c .before .before .before .before .before .before .before .before .before .before .before .before .args .table .now) (held h) (c .before .before .before .before .before .before .before .before .before .before .before .before .args .evaluation) (c .before .before .before .before .before .before .before .before .before .before .before .before .args .number) (c .before .before .before .before .before .before .before .before .before .before .before .before .args .w) (c .before .before .before .before .before .before .before .before .before .before .before .before .args .depth) (memory (c .before .before .before .before .before .before .before .before .before .before .before .before .args .reals .now) (c .before .before .before .before .before .before .before .before .before .before .before .before .args .counts .now)) (c .before .before .before .before .before .before .before .before .before .before .before .before .args .level) (c .before .before .before .before .before .before .before .if1 .taken)
 
 -- src/absorbing.rt:171:9
 absorb-grid-sub-absorb-bins : (t : ℕ) → absorb-grid-lts.Need-sub-absorb-bins (
@@ -600,7 +598,7 @@ absorb-grid-absorb-bins-requires : (t : ℕ) → absorb-grid-lts.Need-absorb-bin
   absorb-bins-below t,
   absorb-bins.Post,
 ) (absorb-grid-at t) absorb-grid.Post
-absorb-grid-absorb-bins-requires t c κs = (omega (arith, c .before .before .before .before .before .before .before .pre .0, (laid-bins (c .before .before .before .before .before .before .before .args .level) (c .before .before .before .before .before .before .before .args .table .now) (length (c .before .before .before .before .before .before .before .args .reals .now)) (length (c .before .before .before .before .before .before .before .args .counts .now)) (c .before .before .before .before .before .before .before .args .w) (c .before .before .before .before .before .before .before .pre .1 .0) (c .before .before .if1 .left)) .level), ((laid-bins (c .before .before .before .before .before .before .before .args .level) (c .before .before .before .before .before .before .before .args .table .now) (length (c .before .before .before .before .before .before .before .args .reals .now)) (length (c .before .before .before .before .before .before .before .args .counts .now)) (c .before .before .before .before .before .before .before .args .w) (c .before .before .before .before .before .before .before .pre .1 .0) (c .before .before .if1 .left)) .bins, omega (arith, c .before .before .before .before .before .before .before .pre .1 .1, (laid-bins (c .before .before .before .before .before .before .before .args .level) (c .before .before .before .before .before .before .before .args .table .now) (length (c .before .before .before .before .before .before .before .args .reals .now)) (length (c .before .before .before .before .before .before .before .args .counts .now)) (c .before .before .before .before .before .before .before .args .w) (c .before .before .before .before .before .before .before .pre .1 .0) (c .before .before .if1 .left)) .level), subst (λ (g : Grid). Takes g (sampleIn (c .before .before .before .before .before .before .before .args .path .now) (c .before .before .before .before .before .before .before .args .levels) (c .before .before .before .before .before .before .before .args .weights .now) (c .before .before .before .before .before .before .before .args .weighed) (c .before .before .before .before .before .before .before .args .coordinates .now) (c .before .before .before .before .before .before .before .args .many)) (c .before .before .before .before .before .before .before .args .depth) (c .before .before .before .before .before .before .before .args .number)) (node-bins (c .before .before .before .before .before .before .before .args .level) (c .before .before .before .before .before .before .before .args .table .now) (c .before .before .before .before .before .before .before .args .reals .now) (c .before .before .before .before .before .before .before .args .counts .now) (c .before .before .before .before .before .before .before .args .w) (c .before .before .if1 .left) ((laid-bins (c .before .before .before .before .before .before .before .args .level) (c .before .before .before .before .before .before .before .args .table .now) (length (c .before .before .before .before .before .before .before .args .reals .now)) (length (c .before .before .before .before .before .before .before .args .counts .now)) (c .before .before .before .before .before .before .before .args .w) (c .before .before .before .before .before .before .before .pre .1 .0) (c .before .before .if1 .left)) .level)) (c .before .before .before .before .before .before .before .pre .1 .2), subst (λ (g : Grid). Found (c .before .before .before .before .before .before .before .args .spots .now) g (sampleIn (c .before .before .before .before .before .before .before .args .path .now) (c .before .before .before .before .before .before .before .args .levels) (c .before .before .before .before .before .before .before .args .weights .now) (c .before .before .before .before .before .before .before .args .weighed) (c .before .before .before .before .before .before .before .args .coordinates .now) (c .before .before .before .before .before .before .before .args .many)) (c .before .before .before .before .before .before .before .args .depth)) (node-bins (c .before .before .before .before .before .before .before .args .level) (c .before .before .before .before .before .before .before .args .table .now) (c .before .before .before .before .before .before .before .args .reals .now) (c .before .before .before .before .before .before .before .args .counts .now) (c .before .before .before .before .before .before .before .args .w) (c .before .before .if1 .left) ((laid-bins (c .before .before .before .before .before .before .before .args .level) (c .before .before .before .before .before .before .before .args .table .now) (length (c .before .before .before .before .before .before .before .args .reals .now)) (length (c .before .before .before .before .before .before .before .args .counts .now)) (c .before .before .before .before .before .before .before .args .w) (c .before .before .before .before .before .before .before .pre .1 .0) (c .before .before .if1 .left)) .level)) (c .before .before .before .before .before .before .before .pre .1 .3)))
+absorb-grid-absorb-bins-requires t c κs = (omega (arith, c .before .before .before .before .before .before .before .pre .0, (laid-bins (c .before .before .before .before .before .before .before .args .level) (c .before .before .before .before .before .before .before .args .table .now) (length (c .before .before .before .before .before .before .before .args .reals .now)) (length (c .before .before .before .before .before .before .before .args .counts .now)) (c .before .before .before .before .before .before .before .args .w) (c .before .before .before .before .before .before .before .pre .1 .0) (c .before .before .if1 .left)) .level), ((laid-bins (c .before .before .before .before .before .before .before .args .level) (c .before .before .before .before .before .before .before .args .table .now) (length (c .before .before .before .before .before .before .before .args .reals .now)) (length (c .before .before .before .before .before .before .before .args .counts .now)) (c .before .before .before .before .before .before .before .args .w) (c .before .before .before .before .before .before .before .pre .1 .0) (c .before .before .if1 .left)) .bins, omega (arith, c .before .before .before .before .before .before .before .pre .1 .1, (laid-bins (c .before .before .before .before .before .before .before .args .level) (c .before .before .before .before .before .before .before .args .table .now) (length (c .before .before .before .before .before .before .before .args .reals .now)) (length (c .before .before .before .before .before .before .before .args .counts .now)) (c .before .before .before .before .before .before .before .args .w) (c .before .before .before .before .before .before .before .pre .1 .0) (c .before .before .if1 .left)) .level), held-as (node-bins (c .before .before .before .before .before .before .before .args .level) (c .before .before .before .before .before .before .before .args .table .now) (c .before .before .before .before .before .before .before .args .reals .now) (c .before .before .before .before .before .before .before .args .counts .now) (c .before .before .before .before .before .before .before .args .w) (c .before .before .if1 .left) ((laid-bins (c .before .before .before .before .before .before .before .args .level) (c .before .before .before .before .before .before .before .args .table .now) (length (c .before .before .before .before .before .before .before .args .reals .now)) (length (c .before .before .before .before .before .before .before .args .counts .now)) (c .before .before .before .before .before .before .before .args .w) (c .before .before .before .before .before .before .before .pre .1 .0) (c .before .before .if1 .left)) .level)) (c .before .before .before .before .before .before .before .pre .1 .2)))
 
 -- src/absorbing.rt:143:1
 absorb-grid-same-length-3 : (t : ℕ) → absorb-grid-lts.Need-same-length-3 (
@@ -627,7 +625,7 @@ absorb-grid-returns-2 : (t : ℕ) → absorb-grid-lts.Need-returns-2 (
   absorb-bins-below t,
   absorb-bins.Post,
 ) (absorb-grid-at t) absorb-grid.Post
-absorb-grid-returns-2 t c = c .before .before .before .before .absorb-bins .ensures ∙ absorbed-bins (c .before .before .before .before .before .before .before .before .before .before .before .before .args .table .now) (sampleIn (c .before .before .before .before .before .before .before .before .before .before .before .before .args .path .now) (c .before .before .before .before .before .before .before .before .before .before .before .before .args .levels) (c .before .before .before .before .before .before .before .before .before .before .before .before .args .weights .now) (c .before .before .before .before .before .before .before .before .before .before .before .before .args .weighed) (c .before .before .before .before .before .before .before .before .before .before .before .before .args .coordinates .now) (c .before .before .before .before .before .before .before .before .before .before .before .before .args .many)) (c .before .before .before .before .before .before .before .before .before .before .before .before .args .evaluation) (c .before .before .before .before .before .before .before .before .before .before .before .before .args .number) (c .before .before .before .before .before .before .before .before .before .before .before .before .args .w) (c .before .before .before .before .before .before .before .before .before .before .before .before .args .depth) (memory (c .before .before .before .before .before .before .before .before .before .before .before .before .args .reals .now) (c .before .before .before .before .before .before .before .before .before .before .before .before .args .counts .now)) (c .before .before .before .before .before .before .before .before .before .before .before .before .args .level) (c .before .before .before .before .before .before .before .if1 .left) ((laid-bins (c .before .before .before .before .before .before .before .before .before .before .before .before .args .level) (c .before .before .before .before .before .before .before .before .before .before .before .before .args .table .now) (length (c .before .before .before .before .before .before .before .before .before .before .before .before .args .reals .now)) (length (c .before .before .before .before .before .before .before .before .before .before .before .before .args .counts .now)) (c .before .before .before .before .before .before .before .before .before .before .before .before .args .w) (c .before .before .before .before .before .before .before .before .before .before .before .before .pre .1 .0) (c .before .before .before .before .before .before .before .if1 .left)) .level)
+absorb-grid-returns-2 t c h = c .before .before .before .before .absorb-bins .ensures (held-as (node-bins (c .before .before .before .before .before .before .before .before .before .before .before .before .args .level) (c .before .before .before .before .before .before .before .before .before .before .before .before .args .table .now) (c .before .before .before .before .before .before .before .before .before .before .before .before .args .reals .now) (c .before .before .before .before .before .before .before .before .before .before .before .before .args .counts .now) (c .before .before .before .before .before .before .before .before .before .before .before .before .args .w) (c .before .before .before .before .before .before .before .if1 .left) ((laid-bins (c .before .before .before .before .before .before .before .before .before .before .before .before .args .level) (c .before .before .before .before .before .before .before .before .before .before .before .before .args .table .now) (length (c .before .before .before .before .before .before .before .before .before .before .before .before .args .reals .now)) (length (c .before .before .before .before .before .before .before .before .before .before .before .before .args .counts .now)) (c .before .before .before .before .before .before .before .before .before .before .before .before .args .w) (c .before .before .before .before .before .before .before .before .before .before .before .before .pre .1 .0) (c .before .before .before .before .before .before .before .if1 .left)) .level)) h) ∙ absorbed-bins (c .before .before .before .before .before .before .before .before .before .before .before .before .args .table .now) (held h) (c .before .before .before .before .before .before .before .before .before .before .before .before .args .evaluation) (c .before .before .before .before .before .before .before .before .before .before .before .before .args .number) (c .before .before .before .before .before .before .before .before .before .before .before .before .args .w) (c .before .before .before .before .before .before .before .before .before .before .before .before .args .depth) (memory (c .before .before .before .before .before .before .before .before .before .before .before .before .args .reals .now) (c .before .before .before .before .before .before .before .before .before .before .before .before .args .counts .now)) (c .before .before .before .before .before .before .before .before .before .before .before .before .args .level) (c .before .before .before .before .before .before .before .if1 .left) ((laid-bins (c .before .before .before .before .before .before .before .before .before .before .before .before .args .level) (c .before .before .before .before .before .before .before .before .before .before .before .before .args .table .now) (length (c .before .before .before .before .before .before .before .before .before .before .before .before .args .reals .now)) (length (c .before .before .before .before .before .before .before .before .before .before .before .before .args .counts .now)) (c .before .before .before .before .before .before .before .before .before .before .before .before .args .w) (c .before .before .before .before .before .before .before .before .before .before .before .before .pre .1 .0) (c .before .before .before .before .before .before .before .if1 .left)) .level)
 
 pub +absorb-bins+absorb-child+absorb-grid-spec : {M : Type 1} → statement M
 +absorb-bins+absorb-child+absorb-grid-spec =

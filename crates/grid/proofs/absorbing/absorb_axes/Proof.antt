@@ -4,7 +4,8 @@ use Rattle.grid.specs.Memory.{memory}
 use Rattle.grid.proofs.Accepts.{own-sound}
 use Rattle.grid.proofs.Finds.{found-there, found-asked}
 use Rattle.grid.proofs.Absorbs.{axes-absorbed}
-use Rattle.grid.specs.Sampled.{entries, sampleIn}
+use Rattle.grid.specs.Sampled.{entries}
+use Rattle.grid.specs.Found.{held}
 use borrow.Author.Needs.{needs}
 use Rattle.grid.proofs.absorbing.absorb_axes.Statement.{statement}
 use Rattle.grid.proofs.absorbing.absorb_axes.Tie as tie
@@ -55,15 +56,15 @@ shared-slice-read-c c = search needs
 gain-at-requires : tie.Need-gain-at-requires
 gain-at-requires c κs =
     let o = c .before .before .before .before .before .before .before .before .before in
-    let s = sampleIn (o .args .path .now) (o .args .levels) (o .args .weights .now) (o .args .weighed) (o .args .coordinates .now) (o .args .many) in
-    (omega (arith, o .pre .0), omega (arith, o .pre .0), own-sound (o .args .table .now) (o .args .reals .now) (o .args .counts .now) (o .args .w) s (o .args .depth) (o .pre .2 .well))
+    let s = held (o .pre .2) in
+    (omega (arith, o .pre .0), omega (arith, o .pre .0), own-sound (o .args .table .now) (o .args .reals .now) (o .args .counts .now) (o .args .w) s (o .args .depth) (o .pre .2 .offer .takes .well))
 
 -- src/absorbing.rt:41:5
 train-axes-requires : tie.Need-train-axes-requires
 train-axes-requires c κs =
     let o = c .before .before .before .before .before .before .before .before .before .before .before .before in
-    let s = sampleIn (o .args .path .now) (o .args .levels) (o .args .weights .now) (o .args .weighed) (o .args .coordinates .now) (o .args .many) in
-    found-asked (o .args .table .now) (o .args .reals .now) (o .args .counts .now) (o .args .w) s (o .args .depth) (o .args .number) (o .pre .0) (o .pre .2) (c .before .before .before .before .before .before .before .axes-place .result) (c .before .before .before .before .before .before .before .axes-place .ensures) (o .args .spots .now) (o .pre .3)
+    let s = held (o .pre .2) in
+    found-asked (o .args .table .now) (o .args .reals .now) (o .args .counts .now) (o .args .w) s (o .args .depth) (o .args .number) (o .pre .0) (o .pre .2 .offer .takes) (c .before .before .before .before .before .before .before .axes-place .result) (c .before .before .before .before .before .before .before .axes-place .ensures) (o .args .spots .now) (o .pre .2 .found)
 
 -- src/absorbing.rt:42:5
 put-requires : tie.Need-put-requires
@@ -79,15 +80,15 @@ same-length-2 c = search needs
 
 -- src/absorbing.rt:16:1
 returns : tie.Need-returns
-returns c =
+returns c h =
     let o = c .before .before .before .before .before .before .before .before .before .before .before .before .before .before .before .before .before .before .before .before .before .before .before .before in
-    let s = sampleIn (o .args .path .now) (o .args .levels) (o .args .weights .now) (o .args .weighed) (o .args .coordinates .now) (o .args .many) in
+    let s = held h in
     let g = c .before .before .before .before .before .before .before .before .before .before .before .before .before .before .before .before .before .before .before .axes-place .result in
     let m = memory (o .args .reals .now) (o .args .counts .now) in
     axes-absorbed (o .args .table .now) s (o .args .evaluation) (o .args .number) (o .args .w) (o .args .depth) m
     (memory (c .before .before .before .before .before .before .before .before .before .before .before .train-axes .last .0) (c .before .before .before .before .before .before .before .before .before .before .before .train-axes .last .1 .0)) (memory (c .before .before .before .before .put .last .0) (c .before .before .before .before .put .last .1 .0))
     g (entries 0 (o .args .spots .now) 0 (g .axes)) (c .before .before .before .before .before .before .before .before .before .before .before .before .before .before .gain-at .result)
-    (c .before .before .before .before .before .before .before .before .before .before .before .before .before .before .before .before .before .before .before .axes-place .ensures) (found-there (o .args .table .now) (o .args .reals .now) (o .args .counts .now) (o .args .w) s (o .args .depth) (o .args .number) (o .pre .0) (o .pre .2) g (c .before .before .before .before .before .before .before .before .before .before .before .before .before .before .before .before .before .before .before .axes-place .ensures) (o .args .spots .now) (o .pre .3)) (c .before .before .before .before .before .before .before .before .before .before .before .before .before .before .gain-at .ensures) (c .before .before .before .before .before .before .before .before .before .before .before .train-axes .ensures) (c .before .before .before .before .put .ensures)
+    (c .before .before .before .before .before .before .before .before .before .before .before .before .before .before .before .before .before .before .before .axes-place .ensures) (found-there (o .args .table .now) (o .args .reals .now) (o .args .counts .now) (o .args .w) s (o .args .depth) (o .args .number) (o .pre .0) (h .offer .takes) g (c .before .before .before .before .before .before .before .before .before .before .before .before .before .before .before .before .before .before .before .axes-place .ensures) (o .args .spots .now) (h .found)) (c .before .before .before .before .before .before .before .before .before .before .before .before .before .before .gain-at .ensures) (c .before .before .before .before .before .before .before .before .before .before .before .train-axes .ensures) (c .before .before .before .before .put .ensures)
 
 pub absorb-axes-spec : {M : Type 1} → statement M
 absorb-axes-spec =

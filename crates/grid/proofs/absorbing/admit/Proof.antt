@@ -5,6 +5,7 @@ use Rattle.grid.specs.Memory.{memory}
 use Rattle.grid.specs.State.{rootOf}
 use Rattle.grid.specs.Sampled.{sampleIn}
 use Rattle.grid.proofs.Objections.{takes-root}
+use Rattle.grid.proofs.Finds.{held-of}
 use Rattle.grid.proofs.Absorbs.{admitted-all, admitted-none}
 use borrow.Author.Needs.{needs}
 use Rattle.grid.proofs.absorbing.admit.Statement.{statement}
@@ -32,7 +33,12 @@ returns c = (c .before .objection .ensures .0, sym (admitted-none (c .before .ob
 
 -- src/absorbing.rt:244:5
 absorb-grid-requires : tie.Need-absorb-grid-requires
-absorb-grid-requires c κs = (c .before .before .before .before .before .before .before .before .before .before .before .pre .0, omega arith, takes-root (rootOf (c .before .before .before .before .before .before .before .before .before .before .before .args .table .now) (c .before .before .before .before .before .before .before .before .before .before .before .args .reals .now) (c .before .before .before .before .before .before .before .before .before .before .before .args .counts .now)) (sampleIn (c .before .before .before .before .before .before .before .before .before .before .before .args .path .now) (c .before .before .before .before .before .before .before .before .before .before .before .args .levels) (c .before .before .before .before .before .before .before .before .before .before .before .args .weights .now) (c .before .before .before .before .before .before .before .before .before .before .before .args .weighed) (c .before .before .before .before .before .before .before .before .before .before .before .args .coordinates .now) (c .before .before .before .before .before .before .before .before .before .before .before .args .many)) (c .before .before .before .before .before .before .before .before .before .before .before .args .evaluation) (c .before .before .before .before .before .before .before .before .before .before .before .args .number) (c .before .before .before .before .before .before .before .before .before .before .before .pre .1) (sym (c .before .before .before .before .objection .ensures .0) ∙ c .before .before .before .if1 .left), c .before .before .before .before .objection .ensures .1 (c .before .before .before .if1 .left))
+absorb-grid-requires c κs =
+    let o = c .before .before .before .before .before .before .before .before .before .before .before in
+    let n = c .before .before .before .before .objection in
+    let z = c .before .before .before .if1 .left in
+    let s = sampleIn (o .args .path .now) (o .args .levels) (o .args .weights .now) (o .args .weighed) (o .args .coordinates .now) (o .args .many) in
+    (o .pre .0, omega arith, held-of s (takes-root (rootOf (o .args .table .now) (o .args .reals .now) (o .args .counts .now)) s (o .args .evaluation) (o .args .number) (o .pre .1) (sym (n .ensures .0) ∙ z)) (n .ensures .1 z))
 
 -- src/absorbing.rt:209:1
 same-length-3 : tie.Need-same-length-3
@@ -44,7 +50,15 @@ same-length-4 c = search needs
 
 -- src/absorbing.rt:209:1
 returns-2 : tie.Need-returns-2
-returns-2 c = (c .before .before .before .before .before .before .before .before .before .objection .ensures .0, c .before .before .before .before .absorb-grid .ensures ∙ sym (admitted-all (c .before .before .before .before .before .before .before .before .before .objection .result) (c .before .before .before .before .before .before .before .before .before .before .before .before .before .before .before .before .args .table .now) (sampleIn (c .before .before .before .before .before .before .before .before .before .before .before .before .before .before .before .before .args .path .now) (c .before .before .before .before .before .before .before .before .before .before .before .before .before .before .before .before .args .levels) (c .before .before .before .before .before .before .before .before .before .before .before .before .before .before .before .before .args .weights .now) (c .before .before .before .before .before .before .before .before .before .before .before .before .before .before .before .before .args .weighed) (c .before .before .before .before .before .before .before .before .before .before .before .before .before .before .before .before .args .coordinates .now) (c .before .before .before .before .before .before .before .before .before .before .before .before .before .before .before .before .args .many)) (c .before .before .before .before .before .before .before .before .before .before .before .before .before .before .before .before .args .evaluation) (c .before .before .before .before .before .before .before .before .before .before .before .before .before .before .before .before .args .number) (memory (c .before .before .before .before .before .before .before .before .before .before .before .before .before .before .before .before .args .reals .now) (c .before .before .before .before .before .before .before .before .before .before .before .before .before .before .before .before .args .counts .now)) (c .before .before .before .before .before .before .before .before .if1 .left)))
+returns-2 c =
+    let o = c .before .before .before .before .before .before .before .before .before .before .before .before .before .before .before .before in
+    let n = c .before .before .before .before .before .before .before .before .before .objection in
+    let z = c .before .before .before .before .before .before .before .before .if1 .left in
+    let s = sampleIn (o .args .path .now) (o .args .levels) (o .args .weights .now) (o .args .weighed) (o .args .coordinates .now) (o .args .many) in (
+      n .ensures .0,
+      c .before .before .before .before .absorb-grid .ensures (held-of s (takes-root (rootOf (o .args .table .now) (o .args .reals .now) (o .args .counts .now)) s (o .args .evaluation) (o .args .number) (o .pre .1) (sym (n .ensures .0) ∙ z)) (n .ensures .1 z))
+          ∙ sym (admitted-all (n .result) (o .args .table .now) s (o .args .evaluation) (o .args .number) (memory (o .args .reals .now) (o .args .counts .now)) z),
+    )
 
 pub admit-spec : {M : Type 1} → statement M
 admit-spec =

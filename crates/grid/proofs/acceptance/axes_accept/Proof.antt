@@ -6,7 +6,7 @@ use lib.ListN.{getD}
 use lib.Ieee.{nan, binary64, mul}
 use Rattle.grid.proofs.Accepts.{fit-there, cells-of, own-sound, axes-told}
 use Rattle.grid.proofs.Finds.{axes-found}
-use Rattle.grid.specs.Sampled.{sampleIn}
+use Rattle.grid.specs.Absorbed.{offered}
 use borrow.Author.Needs.{needs}
 use Rattle.grid.proofs.acceptance.axes_accept.Statement.{statement}
 use Rattle.grid.proofs.acceptance.axes_accept.Tie as tie
@@ -32,8 +32,8 @@ axes-place-requires c κs = search needs
 axes-fit-requires : tie.Need-axes-fit-requires
 axes-fit-requires c κs =
     let o = c .before .before .before .before .before .before in
-    let s = sampleIn (o .args .path .now) (o .args .levels) (o .args .weights .now) (o .args .weighed) (o .args .coordinates .now) (o .args .many) in
-    (cells-of (o .args .table .now) (o .args .reals .now) (o .args .counts .now) (o .args .w) s (o .args .depth) (o .args .number) (o .pre .0) (o .pre .2) (c .before .axes-place .result) (c .before .axes-place .ensures), o .pre .3)
+    let s = offered (o .pre .2) in
+    (cells-of (o .args .table .now) (o .args .reals .now) (o .args .counts .now) (o .args .w) s (o .args .depth) (o .args .number) (o .pre .0) (o .pre .2 .takes) (c .before .axes-place .result) (c .before .axes-place .ensures), o .pre .3)
 
 -- src/acceptance.rt:42:19
 add-r : tie.Need-add-r
@@ -63,19 +63,19 @@ shared-slice-read-c c = search needs
 fits-with-requires : tie.Need-fits-with-requires
 fits-with-requires c κs =
     let o = c .before .before .before .before .before .before .before .before .before in
-    let s = sampleIn (o .args .path .now) (o .args .levels) (o .args .weights .now) (o .args .weighed) (o .args .coordinates .now) (o .args .many) in
-    (omega (arith, o .pre .0), omega (arith, o .pre .0), own-sound (o .args .table .now) (o .args .reals .now) (o .args .counts .now) (o .args .w) s (o .args .depth) (o .pre .2 .well), o .pre .2 .number)
+    let s = offered (o .pre .2) in
+    (omega (arith, o .pre .0), omega (arith, o .pre .0), own-sound (o .args .table .now) (o .args .reals .now) (o .args .counts .now) (o .args .w) s (o .args .depth) (o .pre .2 .takes .well), o .pre .2 .takes .number)
 
 -- src/acceptance.rt:19:1
 returns : tie.Need-returns
-returns c =
+returns c q =
     let o = c .before .before .before .before .before .before .before .before .before .before in
-    let s = sampleIn (o .args .path .now) (o .args .levels) (o .args .weights .now) (o .args .weighed) (o .args .coordinates .now) (o .args .many) in
+    let s = offered q in
     let place = c .before .before .before .before .before .axes-place in
     let fit = c .before .before .before .axes-fit in (
-      ap₂ _&&_ (c .fits-with .ensures) (fit .ensures .0 ∙ fit-there (o .args .table .now) (o .args .reals .now) (o .args .counts .now) (o .args .w) s (o .args .depth) (o .args .number) (o .pre .0) (o .pre .2) (place .result) (place .ensures) (mul binary64 (getD (o .args .weights .now) (o .args .depth) nan) (o .args .evaluation)))
-          ∙ axes-told (o .args .table .now) (o .args .reals .now) (o .args .counts .now) (o .args .w) s (o .args .depth) (o .args .number) (o .pre .0) (o .pre .2) (o .args .evaluation),
-      axes-found (o .args .table .now) (o .args .reals .now) (o .args .counts .now) (o .args .w) s (o .args .depth) (o .args .number) (o .pre .0) (o .pre .2) (place .result) (place .ensures) (fit .last .1 .1 .1 .1 .1 .1 .0) (fit .ensures .1),
+      ap₂ _&&_ (c .fits-with .ensures) (fit .ensures .0 ∙ fit-there (o .args .table .now) (o .args .reals .now) (o .args .counts .now) (o .args .w) s (o .args .depth) (o .args .number) (o .pre .0) (q .takes) (place .result) (place .ensures) (mul binary64 (getD (o .args .weights .now) (o .args .depth) nan) (o .args .evaluation)))
+          ∙ axes-told (o .args .table .now) (o .args .reals .now) (o .args .counts .now) (o .args .w) s (o .args .depth) (o .args .number) (o .pre .0) (q .takes) (o .args .evaluation),
+      axes-found (o .args .table .now) (o .args .reals .now) (o .args .counts .now) (o .args .w) s (o .args .depth) (o .args .number) (o .pre .0) (q .takes) (place .result) (place .ensures) (fit .last .1 .1 .1 .1 .1 .1 .0) (fit .ensures .1),
     )
 
 pub axes-accept-spec : {M : Type 1} → statement M

@@ -6,9 +6,10 @@ use lib.Ieee.{nan}
 use Rattle.real.specs.Total.{allFinite}
 use Rattle.real.proofs.Truth.{failed, passed}
 use Rattle.grid.specs.State.{rootOf}
-use Rattle.grid.specs.Sampled.{entries}
+use Rattle.grid.specs.Sampled.{entries, sampleIn}
+use Rattle.grid.specs.Absorbed.{Takes}
 use Rattle.grid.proofs.Objections.{five-weights, number-low, number-high, number-good, object-number, object-form, object-finite, object-kept, object-none}
-use Rattle.grid.specs.Sampled.{sampleIn}
+use Rattle.grid.proofs.Accepts.{offered-of}
 use borrow.Author.Needs.{needs}
 use Rattle.grid.proofs.acceptance.objection.Statement.{statement}
 use Rattle.grid.proofs.acceptance.objection.Tie as tie
@@ -48,15 +49,37 @@ returns-5 c = (object-finite (rootOf (c .before .before .before .before .before 
 
 -- src/acceptance.rt:223:9
 grid-accepts-requires : tie.Need-grid-accepts-requires
-grid-accepts-requires c κs = (c .before .before .before .before .before .before .before .before .before .before .before .pre .0, omega arith, record { well = c .before .before .before .before .before .before .before .before .before .before .before .pre .1; form = (sym (c .before .before .before .before .before .before .before .before .before .before .before .pre .2) ∙ c .before .before .before .before .before .if3 .left); number = (number-good (c .before .before .before .before .before .before .before .before .before .before .before .args .number) (c .before .before .before .before .before .before .before .if1 .left) (c .before .before .before .before .before .before .if2 .left)) }, c .before .before .before .before .before .before .before .before .before .before .before .pre .3)
+grid-accepts-requires c κs =
+    let o = c .before .before .before .before .before .before .before .before .before .before .before in
+    let s = sampleIn (o .args .path .now) (o .args .levels) (o .args .weights .now) (o .args .weighed) (o .args .coordinates .now) (o .args .many) in
+    let number = number-good (o .args .number) (c .before .before .before .before .before .before .before .if1 .left) (c .before .before .before .before .before .before .if2 .left) in
+    let form = sym (o .pre .2) ∙ c .before .before .before .before .before .if3 .left in
+    let takes : Takes (rootOf (o .args .table .now) (o .args .reals .now) (o .args .counts .now)) s 0 (o .args .number) = record { well = o .pre .1; form = form; number = number } in
+    (o .pre .0, omega arith, offered-of s takes, o .pre .3)
 
 -- src/acceptance.rt:224:9
 returns-6 : tie.Need-returns-6
-returns-6 c = (object-kept (rootOf (c .before .before .before .before .before .before .before .before .before .before .before .before .before .args .table .now) (c .before .before .before .before .before .before .before .before .before .before .before .before .before .args .reals .now) (c .before .before .before .before .before .before .before .before .before .before .before .before .before .args .counts .now)) (sampleIn (c .before .before .before .before .before .before .before .before .before .before .before .before .before .args .path .now) (c .before .before .before .before .before .before .before .before .before .before .before .before .before .args .levels) (c .before .before .before .before .before .before .before .before .before .before .before .before .before .args .weights .now) (c .before .before .before .before .before .before .before .before .before .before .before .before .before .args .weighed) (c .before .before .before .before .before .before .before .before .before .before .before .before .before .args .coordinates .now) (c .before .before .before .before .before .before .before .before .before .before .before .before .before .args .many)) (c .before .before .before .before .before .before .before .before .before .before .before .before .before .args .evaluation) (c .before .before .before .before .before .before .before .before .before .before .before .before .before .args .number) (number-good (c .before .before .before .before .before .before .before .before .before .before .before .before .before .args .number) (c .before .before .before .before .before .before .before .before .before .if1 .left) (c .before .before .before .before .before .before .before .before .if2 .left)) (sym (c .before .before .before .before .before .before .before .before .before .before .before .before .before .pre .2) ∙ c .before .before .before .before .before .before .before .if3 .left) (ap₂ _&&_ (passed (c .before .before .before .before .before .before .finite .ensures) (c .before .before .before .before .before .if4 .left)) (passed (c .before .before .before .before .are-finite .ensures) (c .before .before .before .if5 .left))) (failed (c .before .grid-accepts .ensures .0) (c .if6 .taken)), λ z. absurd (omega (arith, z)))
+returns-6 c =
+    let o = c .before .before .before .before .before .before .before .before .before .before .before .before .before in
+    let s = sampleIn (o .args .path .now) (o .args .levels) (o .args .weights .now) (o .args .weighed) (o .args .coordinates .now) (o .args .many) in
+    let number = number-good (o .args .number) (c .before .before .before .before .before .before .before .before .before .if1 .left) (c .before .before .before .before .before .before .before .before .if2 .left) in
+    let form = sym (o .pre .2) ∙ c .before .before .before .before .before .before .before .if3 .left in
+    let takes : Takes (rootOf (o .args .table .now) (o .args .reals .now) (o .args .counts .now)) s 0 (o .args .number) = record { well = o .pre .1; form = form; number = number } in
+    let finite = ap₂ _&&_ (passed (c .before .before .before .before .before .before .finite .ensures) (c .before .before .before .before .before .if4 .left)) (passed (c .before .before .before .before .are-finite .ensures) (c .before .before .before .if5 .left)) in
+    let kept = c .before .grid-accepts .ensures (offered-of s takes) in
+    (object-kept (rootOf (o .args .table .now) (o .args .reals .now) (o .args .counts .now)) s (o .args .evaluation) (o .args .number) number form finite (failed (kept .0) (c .if6 .taken)), λ z. absurd (omega (arith, z)))
 
 -- src/acceptance.rt:190:1
 returns-7 : tie.Need-returns-7
-returns-7 c = (object-none (rootOf (c .before .before .before .before .before .before .before .before .before .before .before .before .before .args .table .now) (c .before .before .before .before .before .before .before .before .before .before .before .before .before .args .reals .now) (c .before .before .before .before .before .before .before .before .before .before .before .before .before .args .counts .now)) (sampleIn (c .before .before .before .before .before .before .before .before .before .before .before .before .before .args .path .now) (c .before .before .before .before .before .before .before .before .before .before .before .before .before .args .levels) (c .before .before .before .before .before .before .before .before .before .before .before .before .before .args .weights .now) (c .before .before .before .before .before .before .before .before .before .before .before .before .before .args .weighed) (c .before .before .before .before .before .before .before .before .before .before .before .before .before .args .coordinates .now) (c .before .before .before .before .before .before .before .before .before .before .before .before .before .args .many)) (c .before .before .before .before .before .before .before .before .before .before .before .before .before .args .evaluation) (c .before .before .before .before .before .before .before .before .before .before .before .before .before .args .number) (number-good (c .before .before .before .before .before .before .before .before .before .before .before .before .before .args .number) (c .before .before .before .before .before .before .before .before .before .if1 .left) (c .before .before .before .before .before .before .before .before .if2 .left)) (sym (c .before .before .before .before .before .before .before .before .before .before .before .before .before .pre .2) ∙ c .before .before .before .before .before .before .before .if3 .left) (ap₂ _&&_ (passed (c .before .before .before .before .before .before .finite .ensures) (c .before .before .before .before .before .if4 .left)) (passed (c .before .before .before .before .are-finite .ensures) (c .before .before .before .if5 .left))) (passed (c .before .grid-accepts .ensures .0) (c .if6 .left)), λ z. c .before .grid-accepts .ensures .1)
+returns-7 c =
+    let o = c .before .before .before .before .before .before .before .before .before .before .before .before .before in
+    let s = sampleIn (o .args .path .now) (o .args .levels) (o .args .weights .now) (o .args .weighed) (o .args .coordinates .now) (o .args .many) in
+    let number = number-good (o .args .number) (c .before .before .before .before .before .before .before .before .before .if1 .left) (c .before .before .before .before .before .before .before .before .if2 .left) in
+    let form = sym (o .pre .2) ∙ c .before .before .before .before .before .before .before .if3 .left in
+    let takes : Takes (rootOf (o .args .table .now) (o .args .reals .now) (o .args .counts .now)) s 0 (o .args .number) = record { well = o .pre .1; form = form; number = number } in
+    let finite = ap₂ _&&_ (passed (c .before .before .before .before .before .before .finite .ensures) (c .before .before .before .before .before .if4 .left)) (passed (c .before .before .before .before .are-finite .ensures) (c .before .before .before .if5 .left)) in
+    let kept = c .before .grid-accepts .ensures (offered-of s takes) in
+    (object-none (rootOf (o .args .table .now) (o .args .reals .now) (o .args .counts .now)) s (o .args .evaluation) (o .args .number) number form finite (passed (kept .0) (c .if6 .left)), λ z. kept .1)
 
 pub objection-spec : {M : Type 1} → statement M
 objection-spec =
