@@ -4,13 +4,13 @@ ghost use Rattle.accumulator.specs.Record.{finiteSums, boundedCounts, we
 use crate::StatisticsAccumulator;
 
 // Whether the kept sums are finite. A number less itself is 0, or a NaN where it is not finite, so that one comparison
-// judges all four, which is cheaper than four tests on the way of every sample.
+// judges all four, which is cheaper than four tests on the way of every sample; and `<=` is one jump where `==` is two.
 pub fn has_finite_sums(a: StatisticsAccumulator) -> bool
     ensures { λ r. ⌜ r ≡ finiteSums a ⌝ }
 {
     ((a.sum - a.sum) + (a.sum_sq - a.sum_sq))
         + ((a.total_sum - a.total_sum) + (a.total_sum_sq - a.total_sum_sq))
-        == 0.0
+        <= 0.0
 }
 
 // Whether no count is above 2^53.

@@ -1,6 +1,7 @@
 // The Rust's steps on a record whose counts are within their bound. Nothing is judged here: the calls judge.
 ghost use mathlib.Core.Path.{_≡_};
-ghost use mathlib.Core.Bool.{true, cond};
+ghost use mathlib.Core.Bool.{true, not, _||_, cond};
+ghost use lib.Ieee.{lt};
 ghost use Rattle.accumulator.specs.Record.{boundedCounts, raised};
 ghost use Rattle.accumulator.specs.Steps.{zeroCount, replaced, addedOf, mergedOf, clearedOf, copiedOf};
 ghost use Rattle.accumulator.specs.Update.{varianceOf, weightOf, processedOf, updatedOf};
@@ -34,21 +35,32 @@ fn is_replaced(number: u64, beaten: bool) -> bool
     (number == 0) | beaten
 }
 
+// Whether neither extreme gives way. In this order each of the four tests is a jump of its own; by `is_replaced` for each
+// extreme, where the choices below ask for the same two answers, both would be worked out for every sample.
+fn is_within(a: StatisticsAccumulator, eval: f64) -> bool
+    ensures { λ r. ⌜ r
+        ≡ not (replaced (a .«max_eval_positive_number») (lt (a .«max_eval_positive») eval)
+        || replaced (a .«max_eval_negative_number») (lt eval (a .«max_eval_negative»))) ⌝ }
+{
+    !(((a.max_eval_positive_number == 0) | (a.max_eval_negative_number == 0))
+        | ((a.max_eval_positive < eval) | (eval < a.max_eval_negative)))
+}
+
 // The record with one evaluation more. Most replace no extreme, and a branch past both costs less than four choices.
 pub fn added(a: StatisticsAccumulator, eval: f64, number: u64) -> StatisticsAccumulator
     requires { ⌜ boundedCounts a ≡ true ⌝ }
     ensures { λ r. ⌜ r ≡ addedOf a eval number ⌝ }
 {
-    let high = is_replaced(a.max_eval_positive_number, a.max_eval_positive < eval);
-    let low = is_replaced(a.max_eval_negative_number, eval < a.max_eval_negative);
     let mut r = a;
     r.sum = a.sum + eval;
     r.sum_sq = a.sum_sq + eval * eval;
     r.new_samples = a.new_samples + 1;
     r.new_zero_evaluations = a.new_zero_evaluations + zero_count(eval);
-    if !(high | low) {
+    if is_within(a, eval) {
         return r;
     }
+    let high = is_replaced(a.max_eval_positive_number, a.max_eval_positive < eval);
+    let low = is_replaced(a.max_eval_negative_number, eval < a.max_eval_negative);
     r.max_eval_positive = either(high, eval, a.max_eval_positive);
     r.max_eval_positive_number = either_number(high, number, a.max_eval_positive_number);
     r.max_eval_negative = either(low, eval, a.max_eval_negative);

@@ -8,7 +8,7 @@ use native.Mathlib.Omega.{arith}
 use borrow.Author.Tests.{le-ltb}
 use lib.IntN.{pos}
 use lib.Dec.{T}
-use lib.Ieee.{Float, nan, inf, fin, binary64, up, down, round, sum, add, sub, eq, fits, ofBits}
+use lib.Ieee.{Float, nan, inf, fin, binary64, up, down, round, sum, add, sub, le, fits, ofBits}
 use lib.Ieee.Fits.{down-pos}
 use Rattle.real.specs.Numbers.{zero64}
 use Rattle.real.specs.Finite.{finiteOf}
@@ -54,18 +54,18 @@ less-itself (inf false) = refl
 less-itself (fin s m e) = cancelled s (m * up e * down e) (down e * down e) (mul-pos (down-pos e) (down-pos e))
 
 all-zero : (p q r s : Bool)
-    → eq (add binary64 (add binary64 (cond p zero64 nan) (cond q zero64 nan)) (add binary64 (cond r zero64 nan) (cond s zero64 nan))) zero64
+    → le (add binary64 (add binary64 (cond p zero64 nan) (cond q zero64 nan)) (add binary64 (cond r zero64 nan) (cond s zero64 nan))) zero64
     ≡ (((p && q) && r) && s)
-unfolding eq add ofBits
+unfolding le add ofBits
 all-zero false q r s = refl
 all-zero true false r s = refl
 all-zero true true false s = refl
 all-zero true true true false = refl
 all-zero true true true true = refl
 
--- four numbers, each less itself, add up to zero exactly where all four are finite
+-- four numbers, each less itself, add up to zero exactly where all four are finite, and else to a NaN, which is not at most zero
 pub all-finite : (a b c d : Float)
-    → eq (add binary64 (add binary64 (sub binary64 a a) (sub binary64 b b)) (add binary64 (sub binary64 c c) (sub binary64 d d))) zero64
+    → le (add binary64 (add binary64 (sub binary64 a a) (sub binary64 b b)) (add binary64 (sub binary64 c c) (sub binary64 d d))) zero64
     ≡ (((finiteOf a && finiteOf b) && finiteOf c) && finiteOf d)
 all-finite a b c d =
     rw (less-itself a, less-itself b, less-itself c, less-itself d) (all-zero (finiteOf a) (finiteOf b) (finiteOf c) (finiteOf d))

@@ -6,24 +6,25 @@ ghost use lib.Ieee.Positive.{positive};
 ghost use Rattle.real.specs.Digits.{Words, Radicand, NearRoot, Tells, Wrong, Closer};
 ghost use Rattle.real.specs.Root.{rootOf};
 
-// 1.0, or where odd is 1 the double whose bits lie `above` those of 1.0: a choice with no branch.
-fn one_or(odd: u64, above: u64) -> f64
-    requires { ⌜ (odd ≤ 1) × (above ≤ 2 ^ 52) ⌝ }
+// Fifty-three digits as a number from 1 to below 2, or where odd is 1 twice that.
+fn radicand(digits: u64, odd: u64) -> f64
+    requires { ⌜ (digits < 2 ^ 53) × (odd ≤ 1) ⌝ }
 {
-    f64::from_bits(0x3ff0_0000_0000_0000 + odd * above)
+    f64::from_bits(digits + odd * 0x10_0000_0000_0000 + 0x3fe0_0000_0000_0000)
 }
 
-// About the root of m * scale, for an m from 1 to 2 and lift the root of scale: a polynomial, one step of
-// Heron's rule, and the remainder of its leading half, whose square is a double. Nothing is promised of
-// it: the judge moves whatever it is given, and moves this one or two times in ten thousand, by one.
-fn guess(m: f64, scale: f64, lift: f64) -> f64 {
-    let x = m * scale;
-    let mm = m * m;
-    let near = (0.3264033 + 0.912781 * m) + mm * ((0.08530806 * m - 0.3142877) - 0.01019205 * mm);
-    let lifted = near * lift;
-    let close = 0.5 * (lifted + x / lifted);
-    let head = (close + 201326592.0) - 201326592.0;
-    head + (x - head * head) / (close + head)
+// About the root of x, for an x from 1 to below 4: a polynomial, its leading half h, whose square is a double, and the
+// rest from a fraction that equals the root of x less h up to the fifth power of x / h^2 - 1. One division, and no
+// step waits for another root's. Nothing is promised of it: the judge moves whatever it is given.
+fn guess(x: f64) -> f64 {
+    let xx = x * x;
+    let low = 0.380904834197897 + 0.7731457548006361 * x;
+    let high = (0.03321406649035243 * x - 0.18448252570553175) - 0.0025311316165162624 * xx;
+    let h = (low + xx * high + 201326592.0) - 201326592.0;
+    let hh = h * h;
+    let above = 4.0 * h * (x - hh) * (x + hh);
+    let below = hh * (5.0 * hh + 10.0 * x) + xx;
+    h + above / below
 }
 
 // The 53 digits of a double from 1 to below 2, and the nearest such number for any other.
@@ -44,10 +45,7 @@ fn first(digits: u64, odd: u64) -> u64
     requires { ⌜ (digits < 2 ^ 53) × (odd ≤ 1) ⌝ }
     ensures { λ r. ⌜ (2 ^ 52 ≤ r) × (r < 2 ^ 53) ⌝ }
 {
-    let m = crate::digits::mantissa(digits);
-    let scale = one_or(odd, 0x10_0000_0000_0000);
-    let lift = one_or(odd, 0x6_a09e_667f_3bcd);
-    leading(guess(m, scale, lift))
+    leading(guess(radicand(digits, odd)))
 }
 
 struct Wide {
