@@ -40,8 +40,10 @@ miscounted a h = rw h (fails (finiteSums a))
     fails true = refl
     fails false = refl
 
--- where neither of two holds
-pub neither : (p q : Bool) → not (p || q) ≡ true → (p ≡ false) × (q ≡ false)
-neither true q e = absurd (false≢true e)
-neither false true e = absurd (false≢true e)
-neither false false e = (refl, refl)
+-- where none of four holds: neither of the first of both pairs, nor of the second
+pub none : (p q r s : Bool) → not ((p || q) || (r || s)) ≡ true → ((p || r) ≡ false) × ((q || s) ≡ false)
+none true q r s e = absurd (false≢true e)
+none false true r s e = absurd (false≢true e)
+none false false true s e = absurd (false≢true e)
+none false false false true e = absurd (false≢true e)
+none false false false false e = (refl, refl)

@@ -1,7 +1,6 @@
 // The Rust's steps on a record whose counts are within their bound. Nothing is judged here: the calls judge.
 ghost use mathlib.Core.Path.{_≡_};
-ghost use mathlib.Core.Bool.{true, not, _||_, cond};
-ghost use lib.Ieee.{lt};
+ghost use mathlib.Core.Bool.{true, cond};
 ghost use Rattle.accumulator.specs.Record.{boundedCounts, raised};
 ghost use Rattle.accumulator.specs.Steps.{zeroCount, replaced, addedOf, mergedOf, clearedOf, copiedOf};
 ghost use Rattle.accumulator.specs.Update.{varianceOf, weightOf, processedOf, updatedOf};
@@ -35,18 +34,8 @@ fn is_replaced(number: u64, beaten: bool) -> bool
     (number == 0) | beaten
 }
 
-// Whether neither extreme gives way. In this order each of the four tests is a jump of its own; by `is_replaced` for each
-// extreme, where the choices below ask for the same two answers, both would be worked out for every sample.
-fn is_within(a: StatisticsAccumulator, eval: f64) -> bool
-    ensures { λ r. ⌜ r
-        ≡ not (replaced (a .«max_eval_positive_number») (lt (a .«max_eval_positive») eval)
-        || replaced (a .«max_eval_negative_number») (lt eval (a .«max_eval_negative»))) ⌝ }
-{
-    !(((a.max_eval_positive_number == 0) | (a.max_eval_negative_number == 0))
-        | ((a.max_eval_positive < eval) | (eval < a.max_eval_negative)))
-}
-
-// The record with one evaluation more. Most replace no extreme, and a branch past both costs less than four choices.
+// The record with one evaluation more. Most replace no extreme, and are done after four tests, each a jump of its own. The
+// tests are put together otherwise than by `is_replaced`, whose two answers would else be worked out for every sample.
 pub fn added(a: StatisticsAccumulator, eval: f64, number: u64) -> StatisticsAccumulator
     requires { ⌜ boundedCounts a ≡ true ⌝ }
     ensures { λ r. ⌜ r ≡ addedOf a eval number ⌝ }
@@ -56,7 +45,9 @@ pub fn added(a: StatisticsAccumulator, eval: f64, number: u64) -> StatisticsAccu
     r.sum_sq = a.sum_sq + eval * eval;
     r.new_samples = a.new_samples + 1;
     r.new_zero_evaluations = a.new_zero_evaluations + zero_count(eval);
-    if is_within(a, eval) {
+    let fresh = (a.max_eval_positive_number == 0) | (a.max_eval_negative_number == 0);
+    let beyond = (a.max_eval_positive < eval) | (eval < a.max_eval_negative);
+    if !(fresh | beyond) {
         return r;
     }
     let high = is_replaced(a.max_eval_positive_number, a.max_eval_positive < eval);

@@ -1,11 +1,11 @@
 -- The fields one by one; where no extreme is replaced, the choices are the record's own.
-use mathlib.Core.Path.{sym, _∙_}
 use native.Mathlib.Omega.{arith}
 use Rattle.accumulator.specs.Record.{withWaiting, withExtremes}
+use lib.Dec.{eqb}
 use lib.Ieee.{lt}
 use Rattle.accumulator.specs.Steps.{replaced, addedOf}
 use Rattle.accumulator.proofs.Counts.{within, zero-small}
-use Rattle.accumulator.proofs.Accepted.{neither}
+use Rattle.accumulator.proofs.Accepted.{none}
 use borrow.Author.Needs.{needs}
 use Rattle.accumulator.proofs.steps.added.Statement.{statement}
 use Rattle.accumulator.proofs.steps.added.Tie as tie
@@ -19,18 +19,13 @@ zero-count-requires c κs = search needs
 add-r-2 : tie.Need-add-r-2
 add-r-2 c = let w = within _ (c .before .before .before .before .before .pre) in omega (arith, c .before .zero-count .ensures, zero-small (c .before .before .before .before .before .args .eval))
 
-is-within-requires : tie.Need-is-within-requires
-is-within-requires c κs = search needs
-
 returns : tie.Need-returns
-unfolding addedOf withExtremes withWaiting
+unfolding addedOf withExtremes withWaiting replaced
 returns c =
-    let a = c .before .before .before .before .before .before .before .args .a in
-    let e = c .before .before .before .before .before .before .before .args .eval in
-    let high = replaced (a .«max_eval_positive_number») (lt (a .«max_eval_positive») e) in
-    let low = replaced (a .«max_eval_negative_number») (lt e (a .«max_eval_negative»)) in
-    let stay = neither high low (sym (c .before .is-within .ensures) ∙ c .if1 .taken) in
-    rw (stay .0, stay .1, c .before .before .before .zero-count .ensures)
+    let a = c .before .before .before .before .before .before .before .before .before .before .args .a in
+    let e = c .before .before .before .before .before .before .before .before .before .before .args .eval in
+    let stay = none (eqb (a .«max_eval_positive_number») 0) (eqb (a .«max_eval_negative_number») 0) (lt (a .«max_eval_positive») e) (lt e (a .«max_eval_negative»)) (c .if1 .taken) in
+    rw (stay .0, stay .1, c .before .before .before .before .before .before .zero-count .ensures)
 
 is-replaced-requires : tie.Need-is-replaced-requires
 is-replaced-requires c κs = search needs
@@ -53,7 +48,7 @@ either-number-requires-2 c κs = search needs
 returns-2 : tie.Need-returns-2
 unfolding addedOf withExtremes withWaiting
 returns-2 c =
-    rw (c .either-number2 .ensures, c .before .either2 .ensures, c .before .before .either-number .ensures, c .before .before .before .either .ensures, c .before .before .before .before .is-replaced2 .ensures, c .before .before .before .before .before .before .is-replaced .ensures, c .before .before .before .before .before .before .before .before .before .before .before .zero-count .ensures)
+    rw (c .either-number2 .ensures, c .before .either2 .ensures, c .before .before .either-number .ensures, c .before .before .before .either .ensures, c .before .before .before .before .is-replaced2 .ensures, c .before .before .before .before .before .before .is-replaced .ensures, c .before .before .before .before .before .before .before .before .before .before .before .before .before .before .zero-count .ensures)
 
 pub added-spec : {M : Type 1} → statement M
 added-spec =
@@ -62,7 +57,6 @@ added-spec =
     add-r
     zero-count-requires
     add-r-2
-    is-within-requires
     returns
     is-replaced-requires
     is-replaced-requires-2
