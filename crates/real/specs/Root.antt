@@ -4,6 +4,7 @@ use mathlib.Core.Bool.{true, false, cond}
 use lib.Dec.{leb}
 use lib.Ieee.{Float, nan, inf, fin, binary64, up, down, round}
 use lib.Ieee.Positive.{num, den}
+use Rattle.real.specs.declared.RootPair.{RootPair}
 
 -- The whole part of the root of n, for an n below 4 ^ k: the root of n / 4 has one binary digit less.
 unfoldable pub isqrt : ℕ → ℕ → ℕ
@@ -39,3 +40,7 @@ MiddleAbove r y x =
     let two = num r * den y + num y * den r in
     let d = den r * den y in
     4 * num x * (d * d) < two * two * den x
+
+-- two at once
+unfoldable pub rootsOf : Float → Float → RootPair
+rootsOf x y = record { first = rootOf x; second = rootOf y }

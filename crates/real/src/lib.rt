@@ -11,7 +11,7 @@ ghost use Rattle.real.specs.Norm.{normOf};
 ghost use Rattle.real.specs.Inverse.{invOf};
 ghost use Rattle.real.specs.Whole.{wholeOf};
 ghost use Rattle.real.specs.Count.{countOf};
-ghost use Rattle.real.specs.Root.{rootOf};
+ghost use Rattle.real.specs.Root.{rootOf, rootsOf};
 ghost use Rattle.real.specs.Ln.{lnOf};
 ghost use Rattle.real.specs.Power.{powerOf};
 ghost use lib.Ieee.Positive.{positive};
@@ -84,6 +84,25 @@ pub fn sqrt(x: f64) -> f64
         return x;
     }
     0.0 / 0.0
+}
+
+// Two roots.
+pub struct RootPair {
+    pub first: f64,
+    pub second: f64,
+}
+
+// The roots of x and y, each as `sqrt` says, in less time than one after the other.
+pub fn sqrts(x: f64, y: f64) -> RootPair
+    ensures { λ r. ⌜ r ≡ rootsOf x y ⌝ }
+{
+    if above_zero(x) & above_zero(y) {
+        return root::positive_roots(x, y);
+    }
+    RootPair {
+        first: sqrt(x),
+        second: sqrt(y),
+    }
 }
 
 // The logarithm of x, every step one rounded operation; NaN for anything not finite and above 0.

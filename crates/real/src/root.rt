@@ -3,8 +3,10 @@ ghost use mathlib.Core.Path.{_≡_};
 ghost use Prim.Native.Nat.{_+_, _*_, _^_, _≤_, _<_};
 ghost use lib.Dec.{T};
 ghost use lib.Ieee.Positive.{positive};
-ghost use Rattle.real.specs.Digits.{Words, Radicand, NearRoot, Tells, Wrong, Closer};
-ghost use Rattle.real.specs.Root.{rootOf};
+ghost use Rattle.real.specs.Digits.{Split, Words, Radicand, NearRoot, Tells, Wrong, Closer};
+ghost use Rattle.real.specs.Root.{rootOf, rootsOf};
+use crate::RootPair;
+use crate::digits::Parts;
 
 // Fifty-three digits as a number from 1 to below 2, or where odd is 1 twice that.
 fn radicand(digits: u64, odd: u64) -> f64
@@ -105,13 +107,35 @@ fn nearest(guess: u64, d: u64) -> u64
     q
 }
 
+// The root of x, which is finite and above 0, from its digits and any guess of the root's.
+fn judged(x: f64, p: Parts, guess: u64) -> f64
+    requires { ⌜ T (positive x) × Split x (p .digits) (p .shift) × (1 ≤ guess) × (guess < 2 ^ 53) ⌝ }
+    ensures { λ r. ⌜ r ≡ rootOf x ⌝ }
+{
+    let q = nearest(guess, p.digits * (1 + p.shift % 2));
+    f64::from_bits((p.shift / 2 + 485) * 0x10_0000_0000_0000 + q)
+}
+
 // The root of x, which is finite and above 0.
 pub fn positive_root(x: f64) -> f64
     requires { ⌜ T (positive x) ⌝ }
     ensures { λ r. ⌜ r ≡ rootOf x ⌝ }
 {
     let p = crate::digits::split(x);
-    let odd = p.shift % 2;
-    let q = nearest(first(p.digits, odd), p.digits * (1 + odd));
-    f64::from_bits((p.shift / 2 + 485) * 0x10_0000_0000_0000 + q)
+    judged(x, p, first(p.digits, p.shift % 2))
+}
+
+// The roots of x and y, which are finite and above 0: both are guessed before either is judged, so that neither waits.
+pub fn positive_roots(x: f64, y: f64) -> RootPair
+    requires { ⌜ T (positive x) × T (positive y) ⌝ }
+    ensures { λ r. ⌜ r ≡ rootsOf x y ⌝ }
+{
+    let p = crate::digits::split(x);
+    let s = crate::digits::split(y);
+    let guess = first(p.digits, p.shift % 2);
+    let other = first(s.digits, s.shift % 2);
+    RootPair {
+        first: judged(x, p, guess),
+        second: judged(y, s, other),
+    }
 }
