@@ -8,16 +8,88 @@ use Rattle.real.specs.Inverse.{invOf}
 use Rattle.real.specs.Count.{countOf}
 use Rattle.real.specs.Root.{rootOf}
 use Rattle.accumulator.specs.declared.StatisticsAccumulator.{StatisticsAccumulator}
+use Rattle.accumulator.specs.declared.steps.Figures.{Figures}
 use Rattle.accumulator.specs.Record.{raised}
 
--- the variance of a mean, from it, the mean of the squares and the number of samples; rounding may take it below zero
+-- the variance of a mean, from it, the root of the mean of the squares and the number of samples; rounding may take it below zero
+unfoldable pub varianceFrom : Float → Float → Float → Float
+varianceFrom mean root n = div binary64 (mul binary64 (add binary64 root mean) (sub binary64 root mean)) (sub binary64 n one64)
+
+-- the same from the mean of the squares
 unfoldable pub varianceOf : Float → Float → Float → Float
-varianceOf mean squares n =
-    div binary64 (mul binary64 (add binary64 (rootOf squares) mean) (sub binary64 (rootOf squares) mean)) (sub binary64 n one64)
+varianceOf mean squares n = varianceFrom mean (rootOf squares) n
 
 -- an iteration's weight: 2^64 for a variance of zero, else its inverse
 unfoldable pub weightOf : Float → Float
 weightOf variance = cond (eq variance zero64) (ofBits binary64 0x43f0_0000_0000_0000) (invOf variance)
+
+-- the figures of an iteration's n samples and of all samples, from the sums of both and of their squares
+unfoldable pub figuresOf : Float → Float → Float → Float → Float → Float → Figures
+figuresOf sum sumSq n total totalSq all =
+    let mean = div binary64 sum n in
+    let avg = div binary64 total all in
+    record {
+      mean = mean;
+      weight = weightOf (varianceOf mean (div binary64 sumSq n) n);
+      avg = avg;
+      spread = varianceOf avg (div binary64 totalSq all) all;
+    }
+
+-- the waiting samples among the processed ones, one iteration on; the estimates stay
+unfoldable pub gatheredOf : StatisticsAccumulator → StatisticsAccumulator
+gatheredOf a =
+    record {
+      sum = zero64;
+      «new_samples» = 0;
+      «sum_sq» = zero64;
+      «new_zero_evaluations» = 0;
+      «total_sum» = add binary64 (a .«total_sum») (a .sum);
+      «processed_samples» = a .«processed_samples» + a .«new_samples»;
+      «total_sum_sq» = add binary64 (a .«total_sum_sq») (a .«sum_sq»);
+      «num_zero_evaluations» = a .«num_zero_evaluations» + a .«new_zero_evaluations»;
+      «weight_sum» = a .«weight_sum»;
+      «cur_iter» = a .«cur_iter» + 1;
+      «avg_sum» = a .«avg_sum»;
+      «max_eval_positive_number» = a .«max_eval_positive_number»;
+      «chi_sum» = a .«chi_sum»;
+      «max_eval_negative_number» = a .«max_eval_negative_number»;
+      «chi_sq_sum» = a .«chi_sq_sum»;
+      avg = a .avg;
+      guess = a .guess;
+      err = a .err;
+      «chi_sq» = a .«chi_sq»;
+      «max_eval_positive» = a .«max_eval_positive»;
+      «max_eval_negative» = a .«max_eval_negative»;
+    }
+
+-- an iteration's figures among the weighted sums; the first iteration's mean is the guess
+unfoldable pub settledOf : StatisticsAccumulator → Figures → Bool → StatisticsAccumulator
+settledOf a f first =
+    let guess = cond first (f .mean) (a .guess) in
+    let off = mul binary64 (f .weight) (sub binary64 (f .mean) guess) in
+    record {
+      sum = a .sum;
+      «new_samples» = a .«new_samples»;
+      «sum_sq» = a .«sum_sq»;
+      «new_zero_evaluations» = a .«new_zero_evaluations»;
+      «total_sum» = a .«total_sum»;
+      «processed_samples» = a .«processed_samples»;
+      «total_sum_sq» = a .«total_sum_sq»;
+      «num_zero_evaluations» = a .«num_zero_evaluations»;
+      «weight_sum» = add binary64 (a .«weight_sum») (f .weight);
+      «cur_iter» = a .«cur_iter»;
+      «avg_sum» = add binary64 (a .«avg_sum») (mul binary64 (f .weight) (f .mean));
+      «max_eval_positive_number» = a .«max_eval_positive_number»;
+      «chi_sum» = add binary64 (a .«chi_sum») off;
+      «max_eval_negative_number» = a .«max_eval_negative_number»;
+      «chi_sq_sum» = add binary64 (a .«chi_sq_sum») (mul binary64 off (f .mean));
+      avg = a .avg;
+      guess = guess;
+      err = a .err;
+      «chi_sq» = a .«chi_sq»;
+      «max_eval_positive» = a .«max_eval_positive»;
+      «max_eval_negative» = a .«max_eval_negative»;
+    }
 
 -- the waiting samples of at least two, processed
 unfoldable pub processedOf : Bool → StatisticsAccumulator → StatisticsAccumulator

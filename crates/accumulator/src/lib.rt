@@ -6,7 +6,7 @@ mod judge;
 mod steps;
 
 ghost use mathlib.Core.Path.{_≡_};
-ghost use mathlib.Core.Bool.{false, _&&_};
+ghost use mathlib.Core.Bool.{false, cond, _&&_};
 ghost use Rattle.real.specs.Paper.{refuses};
 ghost use Rattle.accumulator.specs.Record.{fresh, wellFormed};
 ghost use Rattle.accumulator.specs.Steps.{addedOf};
@@ -14,29 +14,30 @@ ghost use Rattle.accumulator.specs.Calls.{paperChanged, paperMerged, pap
 use judge::has_bounded_counts;
 use judge::is_well_formed;
 
-// The record, in the order of the Rust's declaration. A sample of an extreme is its number, 0 for none.
+// The record. A sample of an extreme is its number, 0 for none. Doubles and counts take turns: of two doubles side by side
+// the compiler would move both at once, and the processor would wait until each of them, stored alone, is written.
 pub struct StatisticsAccumulator {
     pub sum: f64,
-    pub sum_sq: f64,
-    pub total_sum: f64,
-    pub total_sum_sq: f64,
-    pub weight_sum: f64,
-    pub avg_sum: f64,
-    pub avg: f64,
-    pub err: f64,
-    pub guess: f64,
-    pub chi_sq: f64,
-    pub chi_sum: f64,
-    pub chi_sq_sum: f64,
     pub new_samples: u64,
+    pub sum_sq: f64,
     pub new_zero_evaluations: u64,
-    pub cur_iter: u64,
+    pub total_sum: f64,
     pub processed_samples: u64,
-    pub max_eval_positive: f64,
-    pub max_eval_positive_number: u64,
-    pub max_eval_negative: f64,
-    pub max_eval_negative_number: u64,
+    pub total_sum_sq: f64,
     pub num_zero_evaluations: u64,
+    pub weight_sum: f64,
+    pub cur_iter: u64,
+    pub avg_sum: f64,
+    pub max_eval_positive_number: u64,
+    pub chi_sum: f64,
+    pub max_eval_negative_number: u64,
+    pub chi_sq_sum: f64,
+    pub avg: f64,
+    pub guess: f64,
+    pub err: f64,
+    pub chi_sq: f64,
+    pub max_eval_positive: f64,
+    pub max_eval_negative: f64,
 }
 
 // The record after a call, or a refusal's number.
@@ -91,26 +92,26 @@ impl StatisticsAccumulator {
     {
         StatisticsAccumulator {
             sum: 0.0,
-            sum_sq: 0.0,
-            total_sum: 0.0,
-            total_sum_sq: 0.0,
-            weight_sum: 0.0,
-            avg_sum: 0.0,
-            avg: 0.0,
-            err: 0.0,
-            guess: 0.0,
-            chi_sq: 0.0,
-            chi_sum: 0.0,
-            chi_sq_sum: 0.0,
             new_samples: 0,
+            sum_sq: 0.0,
             new_zero_evaluations: 0,
-            cur_iter: 0,
+            total_sum: 0.0,
             processed_samples: 0,
-            max_eval_positive: 0.0,
-            max_eval_positive_number: 0,
-            max_eval_negative: 0.0,
-            max_eval_negative_number: 0,
+            total_sum_sq: 0.0,
             num_zero_evaluations: 0,
+            weight_sum: 0.0,
+            cur_iter: 0,
+            avg_sum: 0.0,
+            max_eval_positive_number: 0,
+            chi_sum: 0.0,
+            max_eval_negative_number: 0,
+            chi_sq_sum: 0.0,
+            avg: 0.0,
+            guess: 0.0,
+            err: 0.0,
+            chi_sq: 0.0,
+            max_eval_positive: 0.0,
+            max_eval_negative: 0.0,
         }
     }
 
@@ -181,15 +182,16 @@ impl StatisticsAccumulator {
     }
 
     // The record with its waiting samples processed, where there are at least two, and whether they were. Refused: 12, 8.
+    // Sums that are finite afterwards were so before: an update that is accepted is judged once, on the record after it.
     pub fn update_iter(self, weighted_average: bool) -> Updated
         ensures { λ r. ⌜ paperUpdated r ≡ updateOf «weighted_average» self ⌝ }
     {
-        if !is_well_formed(self) {
+        if !has_bounded_counts(self) {
             return Updated::Refused(12);
         }
         let after = steps::updated(weighted_average, self);
         if !is_well_formed(after) {
-            return Updated::Refused(8);
+            return Updated::Refused(update_refusal(self));
         }
         Updated::Record(2 <= self.new_samples, after)
     }
@@ -201,15 +203,10 @@ impl StatisticsAccumulator {
         if !is_well_formed(self) {
             return Estimated::Refused(12);
         }
-        let after = steps::updated(false, self);
-        if !is_well_formed(after) {
+        if !is_well_formed(steps::moved(self)) {
             return Estimated::Refused(8);
         }
-        Estimated::Estimate(Estimate {
-            avg: after.avg,
-            err: after.err,
-            chi_sq: after.chi_sq,
-        })
+        Estimated::Estimate(steps::live(self))
     }
 
     // Iterations, samples, average, error, chi-squared, and flat, exactly where the error is zero. Refused: 12.
@@ -260,6 +257,16 @@ fn sample_refusal(a: StatisticsAccumulator, eval: f64, number: u64) -> u64
     }
     if !real::finite(eval) {
         return 7;
+    }
+    8
+}
+
+// Why an update is refused whose record afterwards is not well formed.
+fn update_refusal(a: StatisticsAccumulator) -> u64
+    ensures { λ r. ⌜ r ≡ cond (wellFormed a) 8 12 ⌝ }
+{
+    if !is_well_formed(a) {
+        return 12;
     }
     8
 }

@@ -1,9 +1,11 @@
 // The Rust's steps on a record whose counts are within their bound. Nothing is judged here: the calls judge.
 ghost use mathlib.Core.Path.{_≡_};
-ghost use mathlib.Core.Bool.{true, cond};
-ghost use Rattle.accumulator.specs.Record.{boundedCounts, raised};
+ghost use mathlib.Core.Bool.{true, false, cond};
+ghost use Rattle.accumulator.specs.Record.{boundedCounts, wellFormed};
 ghost use Rattle.accumulator.specs.Steps.{zeroCount, replaced, addedOf, mergedOf, clearedOf, copiedOf};
-ghost use Rattle.accumulator.specs.Update.{varianceOf, weightOf, processedOf, updatedOf};
+ghost use Rattle.accumulator.specs.Update.{varianceFrom, weightOf, figuresOf, gatheredOf, settledOf, processedOf, updatedOf};
+ghost use Rattle.accumulator.specs.Calls.{estimatesOf};
+use crate::Estimate;
 use crate::StatisticsAccumulator;
 
 // One of two doubles.
@@ -108,12 +110,19 @@ pub fn copied(a: StatisticsAccumulator) -> StatisticsAccumulator
     r
 }
 
-// The variance of a mean, with no clamp: rounding may take it below zero.
-fn variance(mean: f64, squares: f64, n: f64) -> f64
-    ensures { λ r. ⌜ r ≡ varianceOf mean squares n ⌝ }
+// What an iteration's samples say, its mean and its weight; and the plain mean of all samples with its variance.
+struct Figures {
+    mean: f64,
+    weight: f64,
+    avg: f64,
+    spread: f64,
+}
+
+// The variance of a mean, from the root of the mean square, with no clamp: rounding may take it below zero.
+fn variance(mean: f64, root: f64, n: f64) -> f64
+    ensures { λ r. ⌜ r ≡ varianceFrom mean root n ⌝ }
 {
-    let w = real::sqrt(squares);
-    ((w + mean) * (w - mean)) / (n - 1.0)
+    ((root + mean) * (root - mean)) / (n - 1.0)
 }
 
 // An iteration's weight; where all samples are the same, a large number.
@@ -126,33 +135,64 @@ fn weight(variance: f64) -> f64
     real::inv(variance)
 }
 
-// The estimates after an iteration whose mean, weight and totals are known.
-fn processed(weighted: bool, a: StatisticsAccumulator) -> StatisticsAccumulator
-    requires { ⌜ boundedCounts a ≡ true ⌝ }
-    ensures { λ r. ⌜ r ≡ processedOf weighted a ⌝ }
+// The figures of an iteration's n samples and of all samples. The two roots are taken together; and since two functions
+// call this one, it stays a call, and the functions around it are inlined.
+fn figures_of(sum: f64, sum_sq: f64, n: f64, total: f64, total_sq: f64, all: f64) -> Figures
+    ensures { λ r. ⌜ r ≡ figuresOf sum «sum_sq» n total «total_sq» all ⌝ }
 {
-    let n = real::count(a.new_samples);
-    let mean = a.sum / n;
-    let w = weight(variance(mean, a.sum_sq / n, n));
+    let mean = sum / n;
+    let avg = total / all;
+    let roots = real::sqrts(sum_sq / n, total_sq / all);
+    Figures {
+        mean: mean,
+        weight: weight(variance(mean, roots.first, n)),
+        avg: avg,
+        spread: variance(avg, roots.second, all),
+    }
+}
+
+// The record with its waiting samples among the processed ones, and one iteration on; its estimates stay.
+pub fn gathered(a: StatisticsAccumulator) -> StatisticsAccumulator
+    requires { ⌜ boundedCounts a ≡ true ⌝ }
+    ensures { λ r. ⌜ r ≡ gatheredOf a ⌝ }
+{
     let mut r = cleared(a);
     r.processed_samples = a.processed_samples + a.new_samples;
     r.num_zero_evaluations = a.num_zero_evaluations + a.new_zero_evaluations;
     r.cur_iter = a.cur_iter + 1;
     r.total_sum = a.total_sum + a.sum;
     r.total_sum_sq = a.total_sum_sq + a.sum_sq;
-    r.weight_sum = a.weight_sum + w;
-    r.avg_sum = a.avg_sum + w * mean;
+    r
+}
+
+// The record with an iteration's figures among its weighted sums; the first iteration's mean is the guess.
+fn settled(a: StatisticsAccumulator, f: Figures, first: bool) -> StatisticsAccumulator
+    ensures { λ r. ⌜ r ≡ settledOf a f first ⌝ }
+{
+    let mut r = a;
+    r.weight_sum = a.weight_sum + f.weight;
+    r.avg_sum = a.avg_sum + f.weight * f.mean;
+    r.guess = either(first, f.mean, a.guess);
+    let off = f.weight * (f.mean - r.guess);
+    r.chi_sum = a.chi_sum + off;
+    r.chi_sq_sum = a.chi_sq_sum + off * f.mean;
+    r
+}
+
+// The record with its waiting samples processed, and the estimates after them.
+fn processed(weighted: bool, a: StatisticsAccumulator) -> StatisticsAccumulator
+    requires { ⌜ boundedCounts a ≡ true ⌝ }
+    ensures { λ r. ⌜ r ≡ processedOf weighted a ⌝ }
+{
+    let g = gathered(a);
+    let n = real::count(a.new_samples);
+    let all = real::count(g.processed_samples);
+    let f = figures_of(a.sum, a.sum_sq, n, g.total_sum, g.total_sum_sq, all);
+    let mut r = settled(g, f, a.cur_iter == 0);
     let sigma = real::inv(r.weight_sum);
     let weighted_avg = sigma * r.avg_sum;
-    let all = real::count(r.processed_samples);
-    let avg = r.total_sum / all;
-    let spread = variance(avg, r.total_sum_sq / all, all);
-    r.avg = either(weighted, weighted_avg, avg);
-    r.err = real::sqrt(either(weighted, sigma, spread));
-    r.guess = either(a.cur_iter == 0, mean, a.guess);
-    let off = w * (mean - r.guess);
-    r.chi_sum = a.chi_sum + off;
-    r.chi_sq_sum = a.chi_sq_sum + off * mean;
+    r.avg = either(weighted, weighted_avg, f.avg);
+    r.err = real::sqrt(either(weighted, sigma, f.spread));
     r.chi_sq = r.chi_sq_sum - weighted_avg * r.chi_sum;
     r
 }
@@ -168,4 +208,43 @@ pub fn updated(weighted: bool, a: StatisticsAccumulator) -> StatisticsAccumulato
         return r;
     }
     processed(weighted, a)
+}
+
+// The record after an iteration but for its estimates, which no judge looks at.
+pub fn moved(a: StatisticsAccumulator) -> StatisticsAccumulator
+    requires { ⌜ boundedCounts a ≡ true ⌝ }
+    ensures { λ r. ⌜ wellFormed r ≡ wellFormed (updatedOf false a) ⌝ }
+{
+    if a.new_samples < 2 {
+        let mut r = a;
+        r.cur_iter = a.cur_iter + 1;
+        return r;
+    }
+    gathered(a)
+}
+
+// The estimates after an iteration with the plain average, without the record that it would leave.
+pub fn live(a: StatisticsAccumulator) -> Estimate
+    requires { ⌜ boundedCounts a ≡ true ⌝ }
+    ensures { λ r. ⌜ r ≡ estimatesOf (updatedOf false a) ⌝ }
+{
+    if a.new_samples < 2 {
+        return Estimate {
+            avg: a.avg,
+            err: a.err,
+            chi_sq: a.chi_sq,
+        };
+    }
+    let n = real::count(a.new_samples);
+    let all = real::count(a.processed_samples + a.new_samples);
+    let total = a.total_sum + a.sum;
+    let total_sq = a.total_sum_sq + a.sum_sq;
+    let f = figures_of(a.sum, a.sum_sq, n, total, total_sq, all);
+    let r = settled(a, f, a.cur_iter == 0);
+    let weighted_avg = real::inv(r.weight_sum) * r.avg_sum;
+    Estimate {
+        avg: f.avg,
+        err: real::sqrt(f.spread),
+        chi_sq: r.chi_sq_sum - weighted_avg * r.chi_sum,
+    }
 }

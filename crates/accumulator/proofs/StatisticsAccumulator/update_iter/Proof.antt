@@ -1,53 +1,51 @@
-use Rattle.accumulator.specs.Update.{enough}
+-- What is accepted was judged on the record after it, and what is refused has its reason looked up.
+use mathlib.Core.Path.{sym}
 use Rattle.real.proofs.Truth.{failed, passed}
-use Rattle.accumulator.proofs.Counts.{counts-of}
-use mathlib.Core.Path.{_≡_, sym}
-use mathlib.Core.Bool.{true, false, not}
-use lib.Dec.{ltb}
-use Rattle.accumulator.specs.Update.{enough, updatedOf}
+use Rattle.accumulator.specs.Update.{enough}
 use Rattle.accumulator.specs.Calls.{paperUpdated, updateOf}
+use Rattle.accumulator.proofs.Accepted.{miscounted}
+use Rattle.accumulator.proofs.Iterated.{accepted, refused}
 use borrow.Author.Needs.{needs}
 use Rattle.accumulator.proofs.StatisticsAccumulator.update_iter.Statement.{statement}
 use Rattle.accumulator.proofs.StatisticsAccumulator.update_iter.Tie as tie
-use Rattle.accumulator.proofs.StatisticsAccumulator.update_iter.Reads as reads
-use Rattle.accumulator.proofs.StatisticsAccumulator.update_iter.Lts as lts
-use Rattle.accumulator.proofs.judge.is_well_formed.Reads as is-well-formed-reads
-use Rattle.accumulator.proofs.steps.updated.Reads as updated-reads
 
--- src/lib.rt:177:13
+has-bounded-counts-requires : tie.Need-has-bounded-counts-requires
+has-bounded-counts-requires c κs = search needs
+
+returns : tie.Need-returns
+unfolding paperUpdated updateOf
+returns c = rw (miscounted _ (failed (c .before .has-bounded-counts .ensures) (c .if1 .taken)))
+
+updated-requires : tie.Need-updated-requires
+updated-requires c κs = passed (c .before .has-bounded-counts .ensures) (c .if1 .left)
+
 is-well-formed-requires : tie.Need-is-well-formed-requires
 is-well-formed-requires c κs = search needs
 
--- src/lib.rt:178:13
-returns : tie.Need-returns
-unfolding paperUpdated updateOf
-returns c = rw (failed (c .before .is-well-formed .ensures) (c .if1 .taken))
+update-refusal-requires : tie.Need-update-refusal-requires
+update-refusal-requires c κs = search needs
 
--- src/lib.rt:180:13
-updated-requires : tie.Need-updated-requires
-updated-requires c κs = counts-of _ (passed (c .before .is-well-formed .ensures) (c .if1 .left))
-
--- src/lib.rt:181:13
-is-well-formed-requires-2 : tie.Need-is-well-formed-requires-2
-is-well-formed-requires-2 c κs = search needs
-
--- src/lib.rt:182:13
 returns-2 : tie.Need-returns-2
-unfolding paperUpdated updateOf
-returns-2 c = rw (passed (c .before .before .before .before .is-well-formed .ensures) (c .before .before .before .if1 .left), sym (c .before .before .updated .ensures), failed (c .before .is-well-formed2 .ensures) (c .if2 .taken))
+unfolding paperUpdated
+returns-2 c =
+    let judged = rw (c .before .before .before .updated .ensures) at (failed (c .before .before .is-well-formed .ensures) (c .before .if2 .taken)) in
+    rw (c .update-refusal .ensures) (refused _ _ judged)
 
--- src/lib.rt:174:5
 returns-3 : tie.Need-returns-3
-unfolding paperUpdated updateOf enough
-returns-3 c = rw (passed (c .before .before .before .before .before .is-well-formed .ensures) (c .before .before .before .before .if1 .left), sym (c .before .before .before .updated .ensures), passed (c .before .before .is-well-formed2 .ensures) (c .before .if2 .left))
+unfolding paperUpdated enough
+returns-3 c =
+    let after = c .before .before .before .updated .ensures in
+    let judged = rw after at (passed (c .before .before .is-well-formed .ensures) (c .before .if2 .left)) in
+    rw after (sym (accepted _ _ (passed (c .before .before .before .before .before .has-bounded-counts .ensures) (c .before .before .before .before .if1 .left)) judged))
 
 pub update-iter-spec : {M : Type 1} → statement M
 update-iter-spec =
     tie.close
     (tie.spec
-    is-well-formed-requires
+    has-bounded-counts-requires
     returns
     updated-requires
-    is-well-formed-requires-2
+    is-well-formed-requires
+    update-refusal-requires
     returns-2
     returns-3)

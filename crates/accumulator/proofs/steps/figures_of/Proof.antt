@@ -1,0 +1,27 @@
+-- The calls, put together, are the definition.
+use Rattle.real.specs.Root.{rootsOf}
+use Rattle.accumulator.specs.Update.{varianceOf, figuresOf}
+use borrow.Author.Needs.{needs}
+use Rattle.accumulator.proofs.steps.figures_of.Statement.{statement}
+use Rattle.accumulator.proofs.steps.figures_of.Tie as tie
+
+sqrts-requires : tie.Need-sqrts-requires
+sqrts-requires c κs = search needs
+
+variance-requires : tie.Need-variance-requires
+variance-requires c κs = search needs
+
+weight-requires : tie.Need-weight-requires
+weight-requires c κs = search needs
+
+variance-requires-2 : tie.Need-variance-requires-2
+variance-requires-2 c κs = search needs
+
+returns : tie.Need-returns
+unfolding figuresOf varianceOf rootsOf
+returns c = rw (c .variance2 .ensures, c .before .weight .ensures, c .before .before .variance .ensures, c .before .before .before .sqrts .ensures)
+
+pub figures-of-spec : {M : Type 1} → statement M
+figures-of-spec =
+    tie.close
+    (tie.spec sqrts-requires variance-requires weight-requires variance-requires-2 returns)

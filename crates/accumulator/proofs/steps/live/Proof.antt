@@ -1,0 +1,62 @@
+-- The record's own estimates, or those of the calls put together.
+use native.Mathlib.Omega.{arith}
+use borrow.Author.Tests.{lt-leb, le-leb}
+use Rattle.accumulator.proofs.Counts.{within}
+use Rattle.accumulator.proofs.Processed.{estimates-are}
+use Rattle.accumulator.specs.Record.{raised}
+use Rattle.accumulator.specs.Update.{enough, updatedOf}
+use Rattle.accumulator.specs.Calls.{estimatesOf}
+use borrow.Author.Needs.{needs}
+use Rattle.accumulator.proofs.steps.live.Statement.{statement}
+use Rattle.accumulator.proofs.steps.live.Tie as tie
+
+returns : tie.Need-returns
+unfolding estimatesOf updatedOf enough raised
+returns c = rw (lt-leb _ _ (c .if1 .taken))
+
+count-requires : tie.Need-count-requires
+count-requires c κs = search needs
+
+add-count : tie.Need-add-count
+add-count c = let w = within _ (c .before .before .before .before .pre) in omega arith
+
+count-requires-2 : tie.Need-count-requires-2
+count-requires-2 c κs = search needs
+
+figures-of-requires : tie.Need-figures-of-requires
+figures-of-requires c κs = search needs
+
+settled-requires : tie.Need-settled-requires
+settled-requires c κs = search needs
+
+inv-requires : tie.Need-inv-requires
+inv-requires c κs = search needs
+
+sqrt-requires : tie.Need-sqrt-requires
+sqrt-requires c κs = search needs
+
+returns-2 : tie.Need-returns-2
+unfolding updatedOf enough
+returns-2 c =
+    rw (le-leb _ _ (c .before .before .before .before .before .before .before .before .before .before .before .before .before .if1 .left))
+    (estimates-are _ _ _ _ _ _ _
+    (c .before .before .before .before .before .before .before .before .before .before .before .before .count .ensures)
+    (c .before .before .before .before .before .before .before .before .before .before .count2 .ensures)
+    (c .before .before .before .before .before .before .before .figures-of .ensures)
+    (c .before .before .before .before .before .settled .ensures)
+    (c .before .before .before .before .inv .ensures)
+    (c .before .before .sqrt .ensures))
+
+pub live-spec : {M : Type 1} → statement M
+live-spec =
+    tie.close
+    (tie.spec
+    returns
+    count-requires
+    add-count
+    count-requires-2
+    figures-of-requires
+    settled-requires
+    inv-requires
+    sqrt-requires
+    returns-2)
