@@ -1,4 +1,5 @@
-//! `bench_update N` times N iterations of two samples of an accumulator and prints the xor of its words.
+//! `bench_update N` times N iterations of two samples of an accumulator and prints the xor of its words. What the record holds
+//! at an iteration's end is hidden from the compiler, which could else work the number of samples, two, into the update.
 
 use std::hint::black_box;
 use std::time::Instant;
@@ -21,7 +22,7 @@ fn main() {
     for i in 0..count {
         accumulator.add_sample(evaluation(i), i % 1024);
         accumulator.add_sample(evaluation(i ^ 341), i % 1024);
-        accumulator.update_iter(false);
+        black_box(&mut accumulator).update_iter(false);
     }
     let words = black_box(accumulator).record().words();
     let nanoseconds = start.elapsed().as_nanos() as f64 / count as f64;
