@@ -25,3 +25,4 @@ pub mod Sterbenz
 pub mod Error
 pub mod Draws
 pub mod Between
+pub mod Closeness
