@@ -5,11 +5,11 @@ use native.Mathlib.Nat.{zero-lt-suc, mul-pos}
 use native.Mathlib.Omega.{arith}
 use mathlib.Core.Bool.{true, false, false≢true}
 use lib.IntN.{ℤ}
-use lib.Ieee.{Float, nan, inf, fin, binary64, up, down, ofBits, lt, div}
+use lib.Ieee.{Float, nan, inf, fin, up, down, ofBits, lt}
 use lib.Ieee.Fits.{up-pos}
 use lib.Ieee.Positive.{positive, first-pos}
 use borrow.Author.Tests.{ltb-true, ltb-false, lt-ltb, le-ltb}
-use Rattle.real.specs.Numbers.{zero64, one64}
+use Rattle.real.specs.Numbers.{zero64}
 use Rattle.real.specs.Finite.{finiteOf}
 
 -- 0 < m / 1, as `lt` compares it
@@ -22,15 +22,7 @@ none (suc m) e h =
     let p : 0 < suc m * up e = mul-pos (zero-lt-suc m) (up-pos e) in
     absurd (omega arith)
 
--- where `0.0 < x` holds, `x < 1.0 / 0.0` decides, and so does finiteness
-pub above-is : (x : Float) → lt zero64 x ≡ true → lt x (div binary64 one64 zero64) ≡ positive x
-unfolding lt ofBits div
-above-is nan h = refl
-above-is (inf true) h = absurd (false≢true h)
-above-is (inf false) h = refl
-above-is (fin true m e) h = absurd (false≢true h)
-above-is (fin false m e) h = sym (lt-ltb 0 m (some m e (ltb-true (0 * down e) (m * up e * 1) h)))
-
+-- where `0.0 < x` holds, finiteness decides
 pub above-finite : (x : Float) → lt zero64 x ≡ true → finiteOf x ≡ positive x
 unfolding lt ofBits finiteOf
 above-finite nan h = refl

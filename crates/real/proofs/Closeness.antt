@@ -10,14 +10,11 @@ use lib.Pow.{pow-add, pow-pos, pow-mono}
 use lib.Ieee.{Float, binary64, fits, round, add, sub, mul, le, ofBits}
 use lib.Ieee.Fits.{round-fits}
 use lib.Ieee.Exact.{HasValue}
+use Rattle.real.specs.Digits.{eps}
 use Rattle.real.proofs.Order.{le-trans-float}
 use Rattle.real.proofs.Exact.{rescale, dyadic}
 use Rattle.real.proofs.Fractions.{le-values}
 use Rattle.real.proofs.Rounding.{add-at, sub-at, mul-at, round-below, round-above}
-
--- 2^-46
-abbrev pub eps : Float
-eps = ofBits binary64 0x3d10_0000_0000_0000
 
 eps-value : HasValue eps false 1 (2 ^ 46)
 unfolding ofBits

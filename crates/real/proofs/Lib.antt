@@ -26,3 +26,4 @@ pub mod Error
 pub mod Draws
 pub mod Between
 pub mod Closeness
+pub mod Settled

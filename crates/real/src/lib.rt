@@ -67,7 +67,7 @@ fn above_zero(x: f64) -> bool
     ensures { λ r. ⌜ r ≡ positive x ⌝ }
 {
     if 0.0 < x {
-        return x < 1.0 / 0.0;
+        return x - x <= 0.0;
     }
     false
 }

@@ -1,39 +1,42 @@
--- `positive_roots`: each is judged by itself. Assumes nothing.
+-- `positive_roots`: neither is a NaN, so the bits of both can be read. Assumes nothing.
 use borrow.Author.Needs.{needs}
-use Rattle.real.specs.Root.{rootsOf}
+use Rattle.real.proofs.Bits.{no-nan}
 use Rattle.real.proofs.root.positive_roots.Statement.{statement}
 use Rattle.real.proofs.root.positive_roots.Tie as tie
 
-split-requires : tie.Need-split-requires
-split-requires c κs = search needs
+float-to-bits-a : tie.Need-float-to-bits-a
+float-to-bits-a c = no-nan (c .args .x) (c .pre .0)
 
-split-requires-2 : tie.Need-split-requires-2
-split-requires-2 c κs = search needs
+float-to-bits-b : tie.Need-float-to-bits-b
+float-to-bits-b c = no-nan (c .args .y) (c .pre .1)
 
-first-requires : tie.Need-first-requires
-first-requires c κs = search needs
+unit-requires : tie.Need-unit-requires
+unit-requires c κs = search needs
 
-first-requires-2 : tie.Need-first-requires-2
-first-requires-2 c κs = search needs
+guess-requires : tie.Need-guess-requires
+guess-requires c κs = search needs
 
-judged-requires : tie.Need-judged-requires
-judged-requires c κs = search needs
+unit-requires-2 : tie.Need-unit-requires-2
+unit-requires-2 c κs = search needs
 
-judged-requires-2 : tie.Need-judged-requires-2
-judged-requires-2 c κs = search needs
+guess-requires-2 : tie.Need-guess-requires-2
+guess-requires-2 c κs = search needs
+
+both-settled-requires : tie.Need-both-settled-requires
+both-settled-requires c κs = search needs
 
 returns : tie.Need-returns
-unfolding rootsOf
-returns c = rw (c .judged2 .ensures, c .before .judged .ensures)
+returns c = search needs
 
 pub positive-roots-spec : {M : Type 1} → statement M
 positive-roots-spec =
     tie.close
     (tie.spec
-    split-requires
-    split-requires-2
-    first-requires
-    first-requires-2
-    judged-requires
-    judged-requires-2
+    float-to-bits-a
+    float-to-bits-b
+    unit-requires
+    guess-requires
+    unit-requires-2
+    guess-requires-2
+    both-settled-requires
     returns)
