@@ -12,7 +12,7 @@ use Rattle.accumulator.specs.declared.steps.Figures.{Figures}
 use Rattle.accumulator.specs.Record.{raised}
 
 -- the variance of a mean, from it, the root of the mean of the squares and the number of samples; rounding may take it below zero
-unfoldable pub varianceFrom : Float → Float → Float → Float
+abbrev pub varianceFrom : Float → Float → Float → Float
 varianceFrom mean root n = div binary64 (mul binary64 (add binary64 root mean) (sub binary64 root mean)) (sub binary64 n one64)
 
 -- the same from the mean of the squares

@@ -1,11 +1,9 @@
 -- The expression is the definition.
 use mathlib.Core.Path.{refl}
-use Rattle.accumulator.specs.Update.{varianceFrom}
 use Rattle.accumulator.proofs.steps.variance.Statement.{statement}
 use Rattle.accumulator.proofs.steps.variance.Tie as tie
 
 returns : tie.Need-returns
-unfolding varianceFrom
 returns c = refl
 
 pub variance-spec : {M : Type 1} → statement M
