@@ -19,8 +19,9 @@ fn guess(x: f64) -> f64 {
     let high = (0.1878871331688795 * x - 0.5217953797472239) - 0.02863648528183046 * xx;
     let h = (low + xx * high + 100663296.0) - 100663296.0;
     let hh = h * h;
-    let above = 4.0 * h * (x - hh) * (x + hh);
-    let below = hh * (5.0 * hh + 10.0 * x) + xx;
+    let sum = x + hh;
+    let above = 0.8 * h * (x - hh) * sum;
+    let below = sum * sum - 0.8 * xx;
     h + above / below
 }
 
