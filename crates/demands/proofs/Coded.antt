@@ -14,35 +14,35 @@ use Rattle.axis.specs.declared.Probed.{Probed}
 use Rattle.axis.specs.Calls.{paperProbed}
 use Rattle.plan.specs.declared.Read.{Read}
 use Rattle.plan.specs.Paper.{paperRead}
-use Rattle.grid.specs.declared.Batched.{Batched}
-use Rattle.grid.specs.declared.Drawn.{Drawn}
-use Rattle.grid.specs.Memory.{memory}
-use Rattle.grid.specs.Calls.{drawnAs, drawOf, summaryOf, liveOf, liveOfBin, freshEnd, freshOf, cloneEnd, cloneOf, probeOf, stateEnd, trainCallOf, updateOf, mergeableOf, mergeIntoOf}
-use Rattle.grid.specs.Batched.{batchEnd, batchOf}
-use Rattle.grid.proofs.clone_without_samples.Kinds as clone-without-samples-kinds
-use Rattle.grid.proofs.clone_without_samples.Reads as clone-without-samples-reads
-use Rattle.grid.proofs.draw.Kinds as draw-kinds
-use Rattle.grid.proofs.draw.Reads as draw-reads
-use Rattle.grid.proofs.draw_and_train.Kinds as draw-and-train-kinds
-use Rattle.grid.proofs.draw_and_train.Reads as draw-and-train-reads
-use Rattle.grid.proofs.fresh.Kinds as fresh-kinds
-use Rattle.grid.proofs.fresh.Reads as fresh-reads
-use Rattle.grid.proofs.is_mergeable.Kinds as is-mergeable-kinds
-use Rattle.grid.proofs.is_mergeable.Reads as is-mergeable-reads
-use Rattle.grid.proofs.live_estimate.Kinds as live-estimate-kinds
-use Rattle.grid.proofs.live_estimate.Reads as live-estimate-reads
-use Rattle.grid.proofs.live_estimate_of_bin.Kinds as live-estimate-of-bin-kinds
-use Rattle.grid.proofs.live_estimate_of_bin.Reads as live-estimate-of-bin-reads
-use Rattle.grid.proofs.merge.Kinds as merge-kinds
-use Rattle.grid.proofs.merge.Reads as merge-reads
-use Rattle.grid.proofs.probe.Kinds as probe-kinds
-use Rattle.grid.proofs.probe.Reads as probe-reads
-use Rattle.grid.proofs.summary.Kinds as summary-kinds
-use Rattle.grid.proofs.summary.Reads as summary-reads
-use Rattle.grid.proofs.train.Kinds as train-kinds
-use Rattle.grid.proofs.train.Reads as train-reads
-use Rattle.grid.proofs.update.Kinds as update-kinds
-use Rattle.grid.proofs.update.Reads as update-reads
+use Rattle.lent.specs.declared.Batched.{Batched}
+use Rattle.lent.specs.declared.Drawn.{Drawn}
+use Rattle.lent.specs.Memory.{memory}
+use Rattle.lent.specs.Calls.{drawnAs, drawOf, summaryOf, liveOf, liveOfBin, freshEnd, freshOf, cloneEnd, cloneOf, probeOf, stateEnd, trainCallOf, updateOf, mergeableOf, mergeIntoOf}
+use Rattle.lent.specs.Batched.{batchEnd, batchOf}
+use Rattle.copies.proofs.clone_without_samples.Kinds as clone-without-samples-kinds
+use Rattle.copies.proofs.clone_without_samples.Reads as clone-without-samples-reads
+use Rattle.samples.proofs.draw.Kinds as draw-kinds
+use Rattle.samples.proofs.draw.Reads as draw-reads
+use Rattle.samples.proofs.draw_and_train.Kinds as draw-and-train-kinds
+use Rattle.samples.proofs.draw_and_train.Reads as draw-and-train-reads
+use Rattle.copies.proofs.fresh.Kinds as fresh-kinds
+use Rattle.copies.proofs.fresh.Reads as fresh-reads
+use Rattle.merges.proofs.is_mergeable.Kinds as is-mergeable-kinds
+use Rattle.merges.proofs.is_mergeable.Reads as is-mergeable-reads
+use Rattle.probes.proofs.live_estimate.Kinds as live-estimate-kinds
+use Rattle.probes.proofs.live_estimate.Reads as live-estimate-reads
+use Rattle.probes.proofs.live_estimate_of_bin.Kinds as live-estimate-of-bin-kinds
+use Rattle.probes.proofs.live_estimate_of_bin.Reads as live-estimate-of-bin-reads
+use Rattle.merges.proofs.merge.Kinds as merge-kinds
+use Rattle.merges.proofs.merge.Reads as merge-reads
+use Rattle.probes.proofs.probe.Kinds as probe-kinds
+use Rattle.probes.proofs.probe.Reads as probe-reads
+use Rattle.probes.proofs.summary.Kinds as summary-kinds
+use Rattle.probes.proofs.summary.Reads as summary-reads
+use Rattle.samples.proofs.train.Kinds as train-kinds
+use Rattle.samples.proofs.train.Reads as train-reads
+use Rattle.updates.proofs.update.Kinds as update-kinds
+use Rattle.updates.proofs.update.Reads as update-reads
 
 pub draw-is : (κs : Lfts 3) (a : Dens κs draw-kinds.ps) (r : Drawn) (s : AtExit (endedOf 3 draw-kinds.ps draw-kinds.r) κs) → draw-reads.Post κs a r s
     → r ≡ drawnAs (a .1 .1 .1 .0) (drawOf (now (a .0)) (now (a .1 .0)) (now (a .1 .1 .0)) (a .1 .1 .1 .0))

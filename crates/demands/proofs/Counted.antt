@@ -37,8 +37,8 @@ use Rattle.model.specs.Merge.{mergeAxis, sameLengths, sameShape, sameBins, same
 use Rattle.model.specs.Update.{trained, gatheredAxis, lastOr, binsAfter, recutTo, adaptedAxis, updateAxis, outcomeOf, updateGrid}
 use Rattle.model.proofs.Edges.{Updated, gathers, resets, recuts, update-is}
 use Rattle.model.proofs.Counts.{waitingIn, countsOf, trained-counts, merged-counts, copied-counts, empty-counts, gathered-counts}
-use Rattle.grid.proofs.States.{passes}
-use Rattle.grid.proofs.Reformed.{all-two}
+use Rattle.lent.proofs.States.{passes}
+use Rattle.lent.proofs.Reformed.{all-two}
 use Rattle.demands.specs.Address.{Spot, spot, nth, axisAt, axisIn, axisUnder}
 use Rattle.demands.specs.Fresh.{binsFit}
 use Rattle.demands.specs.History.{Call, draws, probes, sums, estimates, estimatesBin, trains, updates, matches, merges, copies, lacks, Told, told, onward, after, run, given, log, Count, count, is, same, waiting, waits, binCounts, totalOf, counted, tally}

@@ -31,25 +31,25 @@ use Rattle.model.specs.Probe.{probeGrid}
 use Rattle.model.specs.Train.{trainOf}
 use Rattle.model.specs.Merge.{mergeFault, mergeOf}
 use Rattle.model.specs.Update as update
-use Rattle.grid.specs.declared.Sample.{Sample}
-use Rattle.grid.specs.declared.Region.{Region}
-use Rattle.grid.specs.declared.Drawing as grid
-use Rattle.grid.specs.Memory.{Memory}
-use Rattle.grid.specs.Sampled.{entries, sampleOf, laidDrawing}
-use Rattle.grid.specs.Probed.{coordinatesOf, pathFrom}
-use Rattle.grid.specs.Bins.{estimateBy, binAlong, estimateAlong}
-use Rattle.grid.specs.Absorbed.{absorbed, objectionOf}
-use Rattle.grid.specs.United.{unitedGrid}
-use Rattle.grid.specs.Cleared.{clearedRoot}
-use Rattle.grid.specs.State.{rootOf, ownOf, judgedBy, judgedTo, faultBy, stateFault, bothJudged, secondBy, firstBy, pairFault}
-use Rattle.grid.specs.Calls.{onState, StateEnd, stateEnd, drawnAs, drawOf, summaryOf, liveOf, liveOfBin, FreshEnd, freshEnd, foundedOf, freshBy, freshOf, cloneEnd, copiedTo, clonedBy, cloneBy, cloneOf, probeOf, trainedBy, trainCallOf, updatedBy, updateBy, updateOf, mergeableOf, unitedBy, mergeIntoOf}
-use Rattle.grid.specs.Batched.{StepEnd, BatchEnd, batchEnd, batched, unlessRefused, stepsOf, batchOf}
-use Rattle.grid.proofs.States.{passes, stopped, went-on}
-use Rattle.grid.proofs.AbsorbedTree.{train-stays}
-use Rattle.grid.proofs.UpdatedState.{Called}
-use Rattle.grid.proofs.Objections.{train-done}
-use Rattle.grid.proofs.Batches.{step-objected, step-done}
-use Rattle.grid.proofs.Formed.{own-kept}
+use Rattle.lent.specs.declared.Sample.{Sample}
+use Rattle.lent.specs.declared.Region.{Region}
+use Rattle.lent.specs.declared.Drawing as grid
+use Rattle.lent.specs.Memory.{Memory}
+use Rattle.lent.specs.Sampled.{entries, sampleOf, laidDrawing}
+use Rattle.lent.specs.Probed.{coordinatesOf, pathFrom}
+use Rattle.lent.specs.Bins.{estimateBy, binAlong, estimateAlong}
+use Rattle.lent.specs.Absorbed.{absorbed, objectionOf}
+use Rattle.lent.specs.United.{unitedGrid}
+use Rattle.lent.specs.Cleared.{clearedRoot}
+use Rattle.lent.specs.State.{rootOf, ownOf, judgedBy, judgedTo, faultBy, stateFault, bothJudged, secondBy, firstBy, pairFault}
+use Rattle.lent.specs.Calls.{onState, StateEnd, stateEnd, drawnAs, drawOf, summaryOf, liveOf, liveOfBin, FreshEnd, freshEnd, foundedOf, freshBy, freshOf, cloneEnd, copiedTo, clonedBy, cloneBy, cloneOf, probeOf, trainedBy, trainCallOf, updatedBy, updateBy, updateOf, mergeableOf, unitedBy, mergeIntoOf}
+use Rattle.lent.specs.Batched.{StepEnd, BatchEnd, batchEnd, batched, unlessRefused, stepsOf, batchOf}
+use Rattle.lent.proofs.States.{passes, stopped, went-on}
+use Rattle.lent.proofs.AbsorbedTree.{train-stays}
+use Rattle.lent.proofs.UpdatedState.{Called}
+use Rattle.lent.proofs.Objections.{train-done}
+use Rattle.lent.proofs.Batches.{step-objected, step-done}
+use Rattle.lent.proofs.Formed.{own-kept}
 use Rattle.demands.specs.History as model
 use Rattle.demands.specs.History.{Word, numbered}
 use Rattle.demands.specs.Lent.{roomBy, roomFault}

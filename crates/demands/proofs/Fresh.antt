@@ -18,8 +18,8 @@ use Rattle.model.specs.Axes.{Axis, AxesPlan, freshAxis, freshAxes}
 use Rattle.model.specs.Grid.{freshBin, freshBins, freshHead, freshGrid}
 use Rattle.model.specs.Sound.{sound, formedGrid, formedBins, formedChild, keptGrid, keptBins, keptChild}
 use Rattle.model.proofs.Counts.{waitingIn, countsOf, empty-counts}
-use Rattle.grid.proofs.Reformed.{all-two}
-use Rattle.grid.proofs.FreshState.{axes-fresh}
+use Rattle.lent.proofs.Reformed.{all-two}
+use Rattle.lent.proofs.FreshState.{axes-fresh}
 use Rattle.demands.specs.Address.{Spot, spot, nth, axisAt, axisIn, axisUnder}
 use Rattle.demands.specs.Fresh.{Plan, Plans, flat, tree, stop, bare, under, many, binsFit, sized, sizedAll, fresh, children}
 use Rattle.demands.proofs.Places.{never, same-spot}

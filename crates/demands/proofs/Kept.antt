@@ -27,9 +27,9 @@ use Rattle.model.specs.Train as train
 use Rattle.model.specs.Train.{faultOf, trainGrid, trainOf}
 use Rattle.model.specs.Merge.{sameShape, mergeGrid, mergeOf}
 use Rattle.model.specs.Update.{updateGrid, rateFits, updateOf}
-use Rattle.grid.proofs.Reformed.{all-two, cleared-sound, all-cleared, sound-updated}
-use Rattle.grid.proofs.Formed.{sound-trained, sound-merged}
-use Rattle.grid.proofs.UnitedTree.{given-merge}
+use Rattle.lent.proofs.Reformed.{all-two, cleared-sound, all-cleared, sound-updated}
+use Rattle.lent.proofs.Formed.{sound-trained, sound-merged}
+use Rattle.lent.proofs.UnitedTree.{given-merge}
 use Rattle.demands.specs.Address.{Spot, nth, axisAt, axisIn, axisUnder, chanceAt, chanceOf, chanceIn, chanceUnder}
 use Rattle.demands.specs.History.{Call, draws, probes, sums, estimates, estimatesBin, trains, updates, matches, merges, copies, lacks, Word, Told, telling, reading, leaving, numbered, matched, told, onward, after, run}
 use Rattle.demands.proofs.Places.{never, same-spot}

@@ -27,7 +27,7 @@ use Rattle.model.specs.Probe.{Coordinate, open′, given, probeAll, through, pr
 use Rattle.model.specs.Train.{faultOfAll, faultOfAxes, faultOf, faultOfBin, faultOfChild, trainGrid, numbered, trainOf}
 use Rattle.model.specs.Merge.{sameShape, equalGrid, mergeGrid, mergeFault, mergeOf}
 use Rattle.model.specs.Update.{rateFits, updateGrid, updateOf}
-use Rattle.grid.specs.Bins.{binAlong, binNamed, binOver, estimateBy}
+use Rattle.lent.specs.Bins.{binAlong, binNamed, binOver, estimateBy}
 use Rattle.demands.specs.Order.{Test, test, Ordered, liveTests, alongTests, alongBin, alongChild, givenTests, probeTests, probeBinTests, probeChildTests, unitTests, axesTests, formTests, formBinTests, formChildTests, trainTests, updateTests, matchTests, mergeTests}
 use Rattle.demands.proofs.Orders.{given-last, held, passed, step, unless, firstOf, Above, by-number, changed, above-append, turned}
 

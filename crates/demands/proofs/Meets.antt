@@ -15,9 +15,9 @@ use Rattle.model.specs.Probe.{probeGrid}
 use Rattle.model.specs.Train.{trainOf}
 use Rattle.model.specs.Merge.{mergeFault, mergeOf}
 use Rattle.model.specs.Update.{updateOf}
-use Rattle.grid.specs.State.{ownOf}
-use Rattle.grid.specs.Bins.{estimateBy, binAlong, estimateAlong}
-use Rattle.grid.proofs.Formed.{own-kept}
+use Rattle.lent.specs.State.{ownOf}
+use Rattle.lent.specs.Bins.{estimateBy, binAlong, estimateAlong}
+use Rattle.lent.proofs.Formed.{own-kept}
 use Rattle.demands.specs.Fresh.{fresh}
 use Rattle.demands.specs.History.{Call, draws, probes, sums, estimates, estimatesBin, trains, updates, matches, merges, copies, lacks, Word, done, drawing, weight, summary, estimate, Told, telling, reading, leaving, numbered, matched, told, onward, after, run, Entry, entry, log}
 use Rattle.demands.specs.Lent.{worded, words}

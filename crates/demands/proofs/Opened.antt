@@ -15,17 +15,17 @@ use Rattle.plan.proofs.Tables.{Words}
 use Rattle.model.specs.Grid.{Grid}
 use Rattle.model.specs.Draw.{drawGrid}
 use Rattle.model.specs.Train.{trainOf}
-use Rattle.grid.specs.declared.Drawing.{Drawing}
-use Rattle.grid.specs.Memory.{Memory}
-use Rattle.grid.specs.Sampled.{sampleOf, laidDrawing}
-use Rattle.grid.specs.Absorbed.{absorbed, objectionOf}
-use Rattle.grid.specs.State.{rootOf, stateFault}
-use Rattle.grid.specs.Calls.{StateEnd, freshEnd, freshOf, trainCallOf}
-use Rattle.grid.specs.Batched.{StepEnd, BatchEnd, batchEnd, batched, unlessRefused, stepsOf, batchOf}
-use Rattle.grid.proofs.States.{stopped, went-on}
-use Rattle.grid.proofs.Objections.{grants, train-objection, train-done}
-use Rattle.grid.proofs.Batches.{step-objected, step-done, trained-onward}
-use Rattle.grid.proofs.FreshState.{fresh-founds}
+use Rattle.lent.specs.declared.Drawing.{Drawing}
+use Rattle.lent.specs.Memory.{Memory}
+use Rattle.lent.specs.Sampled.{sampleOf, laidDrawing}
+use Rattle.lent.specs.Absorbed.{absorbed, objectionOf}
+use Rattle.lent.specs.State.{rootOf, stateFault}
+use Rattle.lent.specs.Calls.{StateEnd, freshEnd, freshOf, trainCallOf}
+use Rattle.lent.specs.Batched.{StepEnd, BatchEnd, batchEnd, batched, unlessRefused, stepsOf, batchOf}
+use Rattle.lent.proofs.States.{stopped, went-on}
+use Rattle.lent.proofs.Objections.{grants, train-objection, train-done}
+use Rattle.lent.proofs.Batches.{step-objected, step-done, trained-onward}
+use Rattle.lent.proofs.FreshState.{fresh-founds}
 use Rattle.demands.specs.Lent.{Deed, stateOf, ending, lentLog}
 use Rattle.demands.specs.Batch.{batchDeeds, Act, one, batch, actState, acted, actDeeds, opened}
 use Rattle.demands.specs.Demand3.{Demand3}

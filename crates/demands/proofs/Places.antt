@@ -20,8 +20,8 @@ use Rattle.model.specs.Draw.{weightAt}
 use Rattle.model.specs.Train.{faultOfAll, faultOfAxes, faultOf, faultOfBin, faultOfChild, trainAxis, trainAll, trainAxes, trainGrid, trainBin, trainChild}
 use Rattle.model.specs.Merge.{mergeAxis, mergeAll, mergeGrid, mergeBins, mergeChild}
 use Rattle.model.specs.Update.{Outcome, updateAxis, outcomeOf, updateAll, updateAxes, allIdle, raws, withProbabilities, adaptedBins, updateGrid, updateBins, updateChild}
-use Rattle.grid.proofs.States.{passes}
-use Rattle.grid.proofs.Turns.{no-either}
+use Rattle.lent.proofs.States.{passes}
+use Rattle.lent.proofs.Turns.{no-either}
 use Rattle.demands.specs.Address.{Spot, spot, nth, axisAt, axisIn, axisUnder}
 use Rattle.demands.specs.History.{is, same}
 

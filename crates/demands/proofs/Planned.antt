@@ -12,11 +12,11 @@ use lib.Ieee.{Float, binary64, ofBits}
 use Rattle.plan.specs.Numbers.{wordsAt}
 use Rattle.model.specs.Axes.{freshAxes}
 use Rattle.model.specs.Grid.{Grid, Child, axes, nothing, grid, freshGrid}
-use Rattle.grid.specs.Tree.{axesPlanAt, childIn, AxesLaid, Laid}
-use Rattle.grid.specs.Judged.{AllUpto}
-use Rattle.grid.specs.Founded.{freshChildren, freshNode, freshAt}
-use Rattle.grid.proofs.Sounds.{numbers-upto}
-use Rattle.grid.proofs.Reformed.{all-two}
+use Rattle.lent.specs.Tree.{axesPlanAt, childIn, AxesLaid, Laid}
+use Rattle.lent.specs.Judged.{AllUpto}
+use Rattle.lent.specs.Founded.{freshChildren, freshNode, freshAt}
+use Rattle.lent.proofs.Sounds.{numbers-upto}
+use Rattle.lent.proofs.Reformed.{all-two}
 use Rattle.demands.specs.Fresh.{Plan, Plans, tree, bare, under, many, binsFit, sized, sizedAll, fresh, children}
 use Rattle.demands.specs.Lent.{hung, plansAt, flatAt, planAt}
 

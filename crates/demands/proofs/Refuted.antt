@@ -31,7 +31,7 @@ use Rattle.model.specs.Sound.{sound, allSound, keptAxis, keptAxisList, keptGrid
 use Rattle.model.specs.Merge.{sameLengths, sameShape, equalAll, equalEdges, equalGrid, mergeBinRecords, mergeAxis, mergeAll, mergeGrid, mergeOf}
 use Rattle.model.specs.Draw.{Sample, weightAt}
 use Rattle.model.specs.Train.{faultOfAll, faultOfAxes, faultOf, trainAxis, trainAll, trainAxes, trainGrid, numbered, trainOf}
-use Rattle.grid.specs.State.{ownOf}
+use Rattle.lent.specs.State.{ownOf}
 use Rattle.demands.specs.Address.{Spot, spot, nth, axisAt}
 use Rattle.demands.specs.Fresh.{Plan, flat, binsFit, sized, fresh}
 use Rattle.demands.specs.History.{Call, trains, merges, sums, estimates, copies, Word, done, drawing, weight, summary, estimate, reading, waiting, waits, told, leaving, after, onward, run, Entry, entry, same, binCounts, totalOf, counted, tally, sinceReset}

@@ -11,10 +11,10 @@ use Rattle.plan.specs.Paper as plan
 use Rattle.plan.specs.Paper.{PlanRead}
 use Rattle.plan.proofs.Tables.{Words}
 use Rattle.model.specs.Grid.{Grid}
-use Rattle.grid.specs.Memory.{Memory}
-use Rattle.grid.specs.State.{rootOf, stateFault}
-use Rattle.grid.specs.Calls.{freshEnd, freshOf}
-use Rattle.grid.proofs.FreshState.{fresh-founds}
+use Rattle.lent.specs.Memory.{Memory}
+use Rattle.lent.specs.State.{rootOf, stateFault}
+use Rattle.lent.specs.Calls.{freshEnd, freshOf}
+use Rattle.lent.proofs.FreshState.{fresh-founds}
 use Rattle.demands.specs.Fresh.{fresh}
 use Rattle.demands.specs.History.{Call, Word, Told, told, after, run, Entry, entry, given, log, lacks}
 use Rattle.demands.specs.Lent.{Deed, replyOf, stateOf, replies, ending, lent, plainly, besides, seen, granted, lentLog, worded, words, planOf}

@@ -13,18 +13,18 @@ use Rattle.plan.proofs.Tables.{Words}
 use Rattle.model.specs.Grid.{Grid}
 use Rattle.model.specs.Draw.{Sample, drawGrid}
 use Rattle.model.specs.Train.{trainOf}
-use Rattle.grid.specs.declared.Drawing.{Drawing}
-use Rattle.grid.specs.Memory.{Memory}
-use Rattle.grid.specs.Sampled.{sampleOf, laidDrawing}
-use Rattle.grid.specs.Absorbed.{objectionOf}
-use Rattle.grid.specs.State.{rootOf, stateFault}
-use Rattle.grid.specs.Calls.{StateEnd, freshEnd, freshOf, trainCallOf}
-use Rattle.grid.specs.Batched.{BatchEnd, batchEnd, batched, stepsOf, batchOf}
-use Rattle.grid.proofs.States.{went-on}
-use Rattle.grid.proofs.Objections.{grants, train-objection}
-use Rattle.grid.proofs.Batches.{trained-onward}
-use Rattle.grid.proofs.AbsorbedTree.{train-trains}
-use Rattle.grid.proofs.FreshState.{fresh-founds}
+use Rattle.lent.specs.declared.Drawing.{Drawing}
+use Rattle.lent.specs.Memory.{Memory}
+use Rattle.lent.specs.Sampled.{sampleOf, laidDrawing}
+use Rattle.lent.specs.Absorbed.{objectionOf}
+use Rattle.lent.specs.State.{rootOf, stateFault}
+use Rattle.lent.specs.Calls.{StateEnd, freshEnd, freshOf, trainCallOf}
+use Rattle.lent.specs.Batched.{BatchEnd, batchEnd, batched, stepsOf, batchOf}
+use Rattle.lent.proofs.States.{went-on}
+use Rattle.lent.proofs.Objections.{grants, train-objection}
+use Rattle.lent.proofs.Batches.{trained-onward}
+use Rattle.lent.proofs.AbsorbedTree.{train-trains}
+use Rattle.lent.proofs.FreshState.{fresh-founds}
 use Rattle.demands.specs.Fresh.{fresh}
 use Rattle.demands.specs.Lent.{planOf}
 use Rattle.demands.specs.Batch.{Act, one, batch, actState, acted, Reply, counted, said, actReply, actReplies, Ended, batchBy, modelBatch, modelReply, modelState, modelReplies, modelRun}

@@ -11,11 +11,11 @@ use Rattle.plan.specs.Paper as plan
 use Rattle.plan.specs.Paper.{PlanRead}
 use Rattle.plan.proofs.Tables.{Words}
 use Rattle.model.specs.Grid.{Grid}
-use Rattle.grid.specs.Memory.{Memory}
-use Rattle.grid.specs.State.{rootOf}
-use Rattle.grid.specs.Calls.{freshEnd, freshOf}
-use Rattle.grid.proofs.States.{clear}
-use Rattle.grid.proofs.FreshState.{fresh-founds}
+use Rattle.lent.specs.Memory.{Memory}
+use Rattle.lent.specs.State.{rootOf}
+use Rattle.lent.specs.Calls.{freshEnd, freshOf}
+use Rattle.lent.proofs.States.{clear}
+use Rattle.lent.proofs.FreshState.{fresh-founds}
 use Rattle.demands.specs.Fresh.{fresh}
 use Rattle.demands.specs.History.{Entry, run, log}
 use Rattle.demands.specs.Lent.{Deed, ending, seen, lentLog, planOf}

@@ -24,30 +24,30 @@ use Rattle.model.specs.Train.{trainOf}
 use Rattle.model.specs.Merge.{sameShape, equalGrid, mergeGrid, mergeFault, mergeOf}
 use Rattle.model.specs.Update as update
 use Rattle.accumulator.specs.Calls.{summarizeOf, liveEstimateOf}
-use Rattle.grid.specs.declared.Sample.{Sample}
-use Rattle.grid.specs.declared.Region.{Region}
-use Rattle.grid.specs.Memory.{Memory, memory}
-use Rattle.grid.specs.Sampled.{entries, sampleOf}
-use Rattle.grid.specs.Probed.{coordinatesOf, pathFrom}
-use Rattle.grid.specs.Bins.{estimateAlong}
-use Rattle.grid.specs.Absorbed.{objectionOf}
-use Rattle.grid.specs.State.{rootOf, ownOf, judgedBy, judgedTo, faultBy, stateFault, bothJudged, secondBy, firstBy, pairFault}
-use Rattle.grid.specs.Tree.{axesPlace, Laid}
-use Rattle.grid.specs.Cleared.{clearedMemory, clearedAt, clearedAxes, clearedOwn, clearedRoot}
-use Rattle.grid.specs.United.{unitedGrid}
-use Rattle.grid.specs.Calls.{StateEnd, stateEnd, drawOf, summaryOf, liveOf, liveOfBin, probeOf, trainCallOf, updatedBy, updateOf, mergeableOf, unitedBy, mergeIntoOf, CloneEnd, cloneEnd, copiedTo, clonedBy, cloneBy, cloneOf}
-use Rattle.grid.proofs.States.{Clear, clear, answered-last, stopped, went-on}
-use Rattle.grid.proofs.Batches.{clear-again}
-use Rattle.grid.proofs.Laid.{root-laid, laid-axes, laid-bins}
-use Rattle.grid.proofs.Sounds.{node-axes}
-use Rattle.grid.proofs.Samples.{sound-stands}
-use Rattle.grid.proofs.Copies.{cleared-below}
-use Rattle.grid.proofs.Clones.{ready, root-axes, root-bins, front-length, copy-sound}
-use Rattle.grid.proofs.Cloned.{own-within, clone-copies}
-use Rattle.grid.proofs.Objections.{grants, train-objection}
-use Rattle.grid.proofs.AbsorbedTree.{train-trains}
-use Rattle.grid.proofs.UpdatedState.{Called, update-updates}
-use Rattle.grid.proofs.UnitedTree.{merge-read}
+use Rattle.lent.specs.declared.Sample.{Sample}
+use Rattle.lent.specs.declared.Region.{Region}
+use Rattle.lent.specs.Memory.{Memory, memory}
+use Rattle.lent.specs.Sampled.{entries, sampleOf}
+use Rattle.lent.specs.Probed.{coordinatesOf, pathFrom}
+use Rattle.lent.specs.Bins.{estimateAlong}
+use Rattle.lent.specs.Absorbed.{objectionOf}
+use Rattle.lent.specs.State.{rootOf, ownOf, judgedBy, judgedTo, faultBy, stateFault, bothJudged, secondBy, firstBy, pairFault}
+use Rattle.lent.specs.Tree.{axesPlace, Laid}
+use Rattle.lent.specs.Cleared.{clearedMemory, clearedAt, clearedAxes, clearedOwn, clearedRoot}
+use Rattle.lent.specs.United.{unitedGrid}
+use Rattle.lent.specs.Calls.{StateEnd, stateEnd, drawOf, summaryOf, liveOf, liveOfBin, probeOf, trainCallOf, updatedBy, updateOf, mergeableOf, unitedBy, mergeIntoOf, CloneEnd, cloneEnd, copiedTo, clonedBy, cloneBy, cloneOf}
+use Rattle.lent.proofs.States.{Clear, clear, answered-last, stopped, went-on}
+use Rattle.lent.proofs.Batches.{clear-again}
+use Rattle.lent.proofs.Laid.{root-laid, laid-axes, laid-bins}
+use Rattle.lent.proofs.Sounds.{node-axes}
+use Rattle.lent.proofs.Samples.{sound-stands}
+use Rattle.lent.proofs.Copies.{cleared-below}
+use Rattle.lent.proofs.Clones.{ready, root-axes, root-bins, front-length, copy-sound}
+use Rattle.lent.proofs.Cloned.{own-within, clone-copies}
+use Rattle.lent.proofs.Objections.{grants, train-objection}
+use Rattle.lent.proofs.AbsorbedTree.{train-trains}
+use Rattle.lent.proofs.UpdatedState.{Called, update-updates}
+use Rattle.lent.proofs.UnitedTree.{merge-read}
 use Rattle.demands.specs.History as model
 use Rattle.demands.specs.History.{Call, Word, drawing, weight, summary, estimate, reading, leaving, numbered, matched, told, onward, after}
 use Rattle.demands.specs.Lent.{Deed, draws, probes, sums, estimates, estimatesBin, trains, updates, matches, merges, copies, mapped, replyOf, copyOr, stateOf, roomBy, roomFault, lent, plainly, besides, seen, worded}

@@ -13,15 +13,15 @@ use Rattle.plan.proofs.Tables.{Words}
 use Rattle.model.specs.Grid.{Grid, axes, bins}
 use Rattle.model.proofs.Drawn.{placed-size}
 use Rattle.model.specs.Draw.{placedOf, drawAxes, drawNothing, drawGrid, drawBin, drawChild}
-use Rattle.grid.specs.Memory.{Memory}
-use Rattle.grid.specs.Sampled.{sampleOf, laidDrawing, Short}
-use Rattle.grid.specs.Tree.{axesPlace, axesGridAt, headAt, childIn, binsIn, gridAt, AxesLaid, Laid}
-use Rattle.grid.specs.State.{rootOf, stateFault}
-use Rattle.grid.proofs.Reading.{length-axes}
-use Rattle.grid.proofs.Sounds.{node-axes, node-bins}
-use Rattle.grid.proofs.Samples.{shorter}
-use Rattle.grid.proofs.States.{clear}
-use Rattle.grid.proofs.Drawable.{sample-back}
+use Rattle.lent.specs.Memory.{Memory}
+use Rattle.lent.specs.Sampled.{sampleOf, laidDrawing, Short}
+use Rattle.lent.specs.Tree.{axesPlace, axesGridAt, headAt, childIn, binsIn, gridAt, AxesLaid, Laid}
+use Rattle.lent.specs.State.{rootOf, stateFault}
+use Rattle.lent.proofs.Reading.{length-axes}
+use Rattle.lent.proofs.Sounds.{node-axes, node-bins}
+use Rattle.lent.proofs.Samples.{shorter}
+use Rattle.lent.proofs.States.{clear}
+use Rattle.lent.proofs.Drawable.{sample-back}
 
 -- ---- as many coordinates as axes
 

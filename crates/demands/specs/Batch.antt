@@ -9,12 +9,12 @@ use Rattle.stream.specs.declared.MonteCarloRng.{MonteCarloRng}
 use Rattle.model.specs.Grid.{Grid}
 use Rattle.model.specs.Draw.{drawGrid}
 use Rattle.model.specs.Train.{trainOf}
-use Rattle.grid.specs.declared.Batched.{Batched}
-use Rattle.grid.specs.Memory.{Memory}
-use Rattle.grid.specs.Sampled.{laidDrawing}
-use Rattle.grid.specs.State.{rootOf}
-use Rattle.grid.specs.Calls.{trainCallOf}
-use Rattle.grid.specs.Batched.{batched, batchOf}
+use Rattle.lent.specs.declared.Batched.{Batched}
+use Rattle.lent.specs.Memory.{Memory}
+use Rattle.lent.specs.Sampled.{laidDrawing}
+use Rattle.lent.specs.State.{rootOf}
+use Rattle.lent.specs.Calls.{trainCallOf}
+use Rattle.lent.specs.Batched.{batched, batchOf}
 use Rattle.demands.specs.History.{Word, told, after}
 use Rattle.demands.specs.Lent.{Deed, draws, trains, replyOf, stateOf, seen, worded}
 

@@ -9,14 +9,14 @@ use Rattle.real.specs.Paper.{Paper, gives, refuses}
 use Rattle.stream.specs.declared.MonteCarloRng.{MonteCarloRng}
 use Rattle.plan.specs.Paper as plan
 use Rattle.model.specs.Draw.{drawGrid}
-use Rattle.grid.specs.declared.Sample.{Sample}
-use Rattle.grid.specs.declared.Region.{Region}
-use Rattle.grid.specs.Memory.{Memory}
-use Rattle.grid.specs.Sampled.{entries, sampleOf, laidDrawing}
-use Rattle.grid.specs.Probed.{coordinatesOf, pathFrom}
-use Rattle.grid.specs.State.{rootOf, ownOf}
-use Rattle.grid.specs.Calls.{drawnAs, drawOf, summaryOf, liveOf, liveOfBin, freshOf, cloneOf, probeOf, trainCallOf, updateOf, mergeableOf, mergeIntoOf}
-use Rattle.grid.specs.Batched.{batchEnd, batched, stepsOf, batchOf}
+use Rattle.lent.specs.declared.Sample.{Sample}
+use Rattle.lent.specs.declared.Region.{Region}
+use Rattle.lent.specs.Memory.{Memory}
+use Rattle.lent.specs.Sampled.{entries, sampleOf, laidDrawing}
+use Rattle.lent.specs.Probed.{coordinatesOf, pathFrom}
+use Rattle.lent.specs.State.{rootOf, ownOf}
+use Rattle.lent.specs.Calls.{drawnAs, drawOf, summaryOf, liveOf, liveOfBin, freshOf, cloneOf, probeOf, trainCallOf, updateOf, mergeableOf, mergeIntoOf}
+use Rattle.lent.specs.Batched.{batchEnd, batched, stepsOf, batchOf}
 use Rattle.demands.specs.History.{numbered}
 use Rattle.demands.specs.Fields.{freshTests}
 use Rattle.demands.specs.Order.{First, NoneHolds, Ordered, stateTests, roomTests, pairTests, liveTests, alongTests, probeTests, trainTests, updateTests, matchTests, mergeTests}

@@ -20,7 +20,7 @@ use Rattle.plan.specs.Fields.{formed, valuesIn, axesAt, binsAt, fieldOf}
 use Rattle.plan.specs.Needs.{needsOf}
 use Rattle.plan.specs.Reading.{Out, treeOf, fromBytes}
 use Rattle.plan.specs.Calls.{begin}
-use Rattle.grid.specs.Memory.{Memory}
+use Rattle.lent.specs.Memory.{Memory}
 use Rattle.demands.specs.Order.{Test, test}
 
 -- ---- a field

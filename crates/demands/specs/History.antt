@@ -22,8 +22,8 @@ use Rattle.model.specs.Probe.{Coordinate, probeGrid}
 use Rattle.model.specs.Train.{trainOf}
 use Rattle.model.specs.Merge.{mergeFault, mergeOf}
 use Rattle.model.specs.Update.{updateOf}
-use Rattle.grid.specs.State.{ownOf}
-use Rattle.grid.specs.Bins.{estimateAlong}
+use Rattle.lent.specs.State.{ownOf}
+use Rattle.lent.specs.Bins.{estimateAlong}
 use Rattle.demands.specs.Address.{Spot, axisAt}
 
 pub data Call : Type 0 where

@@ -11,14 +11,14 @@ use Rattle.plan.specs.declared.Needs.{Needs}
 use Rattle.plan.specs.Paper as plan
 use Rattle.plan.specs.Calls.{sizesOf}
 use Rattle.model.specs.Grid.{Grid}
-use Rattle.grid.specs.declared.Sample.{Sample}
-use Rattle.grid.specs.declared.Region.{Region}
-use Rattle.grid.specs.Memory.{Memory}
-use Rattle.grid.specs.Sampled.{entries, sampleOf}
-use Rattle.grid.specs.Probed.{coordinatesOf, pathFrom}
-use Rattle.grid.specs.Tree.{axesPlanAt}
-use Rattle.grid.specs.State.{rootOf, stateFault}
-use Rattle.grid.specs.Calls.{CloneEnd, drawOf, summaryOf, liveOf, liveOfBin, probeOf, trainCallOf, updateOf, mergeableOf, mergeIntoOf, cloneOf}
+use Rattle.lent.specs.declared.Sample.{Sample}
+use Rattle.lent.specs.declared.Region.{Region}
+use Rattle.lent.specs.Memory.{Memory}
+use Rattle.lent.specs.Sampled.{entries, sampleOf}
+use Rattle.lent.specs.Probed.{coordinatesOf, pathFrom}
+use Rattle.lent.specs.Tree.{axesPlanAt}
+use Rattle.lent.specs.State.{rootOf, stateFault}
+use Rattle.lent.specs.Calls.{CloneEnd, drawOf, summaryOf, liveOf, liveOfBin, probeOf, trainCallOf, updateOf, mergeableOf, mergeIntoOf, cloneOf}
 use Rattle.demands.specs.Fresh.{Plan, Plans, flat, tree, stop, bare, under}
 use Rattle.demands.specs.History as model
 use Rattle.demands.specs.History.{Call, Word, Told, drawing, weight, summary, estimate, numbered, told, after, Entry, entry}

@@ -26,8 +26,8 @@ use Rattle.model.specs.Probe.{Coordinate, open′, given}
 use Rattle.model.specs.Train.{trainGrid, numbered}
 use Rattle.model.specs.Merge.{sameShape, equalGrid, mergeGrid}
 use Rattle.model.specs.Update.{rateFits, updateGrid}
-use Rattle.grid.specs.Memory.{Memory}
-use Rattle.grid.specs.State.{rootOf}
+use Rattle.lent.specs.Memory.{Memory}
+use Rattle.lent.specs.State.{rootOf}
 
 pub record Test : Type 0 where
   pub holds : Bool

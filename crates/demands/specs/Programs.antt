@@ -21,7 +21,7 @@ use Rattle.model.specs.Grid.{Grid, axes, bins}
 use Rattle.model.specs.Sound.{sound}
 use Rattle.model.specs.Draw.{Sample, weightAt}
 use Rattle.model.specs.Train.{trainAxis}
-use Rattle.grid.specs.State.{ownOf}
+use Rattle.lent.specs.State.{ownOf}
 use Rattle.demands.specs.Fresh.{Plan, sized, fresh}
 use Rattle.demands.specs.History.{Call, draws, probes, sums, estimates, estimatesBin, trains, updates, matches, merges, copies, lacks, Word, summary, estimate, told, after, run, Entry, entry}
 use Rattle.demands.specs.Lent.{granted, worded, words}

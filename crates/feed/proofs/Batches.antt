@@ -10,9 +10,9 @@ use lib.ListN.{length}
 use lib.Ieee.{Float}
 use Rattle.plan.proofs.Here.{pick}
 use Rattle.stream.specs.declared.MonteCarloRng.{MonteCarloRng}
-use Rattle.grid.specs.Memory.{Memory}
-use Rattle.grid.specs.State.{stateFault}
-use Rattle.grid.specs.Batched.{BatchEnd, batchEnd, batched, stepOf, unlessRefused, stepsOf, batchOf}
+use Rattle.lent.specs.Memory.{Memory}
+use Rattle.lent.specs.State.{stateFault}
+use Rattle.lent.specs.Batched.{BatchEnd, batchEnd, batched, stepOf, unlessRefused, stepsOf, batchOf}
 
 steps-done : (table : List ℕ) (es : List Float) (m : Memory) (s : MonteCarloRng) (k d : ℕ) → stepsOf table es m s k d .answer .done ≤ d + length es
 unfolding stepsOf unlessRefused

@@ -10,7 +10,7 @@ use lib.Dec.{eqb}
 use lib.ListN.{length, getD, length-append, List·getD-append}
 use lib.Ieee.{Float}
 use Rattle.plan.proofs.Tables.{Words}
-use Rattle.grid.specs.Memory.{Memory}
+use Rattle.lent.specs.Memory.{Memory}
 use Rattle.feed.specs.declared.Phase.{Phase}
 use Rattle.feed.specs.declared.Phase.the-variants as phase
 use Rattle.feed.specs.declared.Run.{Run}

@@ -14,7 +14,7 @@ use Rattle.plan.specs.Bounds.{Bytes}
 use Rattle.plan.proofs.Flags.{never}
 use Rattle.plan.proofs.Here.{pick}
 use Rattle.plan.specs.Paper.{Paper, gives, refuses, refusesAt}
-use Rattle.grid.specs.Memory.{Memory}
+use Rattle.lent.specs.Memory.{Memory}
 use Rattle.feed.specs.declared.Phase.{Phase}
 use Rattle.feed.specs.declared.Phase.the-variants as phase
 use Rattle.feed.specs.declared.Run.{Run}

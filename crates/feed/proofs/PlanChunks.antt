@@ -17,7 +17,7 @@ use Rattle.plan.specs.Paper as plan
 use Rattle.plan.specs.Calls.{begin, gridOf, prefixMeasured, measurePrefixOf}
 use Rattle.plan.proofs.Accepts.{sound, sound-inside}
 use Rattle.plan.proofs.Calls.{begin-inside, grid-read}
-use Rattle.grid.specs.Memory.{Memory}
+use Rattle.lent.specs.Memory.{Memory}
 use Rattle.feed.specs.declared.Phase.{Phase}
 use Rattle.feed.specs.declared.Phase.the-variants as phase
 use Rattle.feed.specs.declared.Run.{Run}

@@ -17,13 +17,13 @@ use Rattle.plan.proofs.Here.{pick}
 use Rattle.plan.proofs.Tables.{Words}
 use Rattle.stream.specs.declared.MonteCarloRng.{MonteCarloRng}
 use Rattle.accumulator.specs.declared.Summary.{Summary}
-use Rattle.grid.specs.declared.Batched.{Batched}
-use Rattle.grid.specs.declared.Drawn.{Drawn}
-use Rattle.grid.specs.Memory.{Memory}
-use Rattle.grid.specs.State.{stateFault}
-use Rattle.grid.specs.Calls.{FreshEnd, foundedOf, freshBy, freshOf, StateEnd, drawnAs, drawOf, trainCallOf, updateOf, summaryOf}
-use Rattle.grid.specs.Batched.{StepEnd, trainedFrom, stepBy, stepOf, BatchEnd, batchEnd, batched, unlessRefused, stepsOf, batchOf}
-use Rattle.grid.proofs.AbsorbedTree.{train-stays}
+use Rattle.lent.specs.declared.Batched.{Batched}
+use Rattle.lent.specs.declared.Drawn.{Drawn}
+use Rattle.lent.specs.Memory.{Memory}
+use Rattle.lent.specs.State.{stateFault}
+use Rattle.lent.specs.Calls.{FreshEnd, foundedOf, freshBy, freshOf, StateEnd, drawnAs, drawOf, trainCallOf, updateOf, summaryOf}
+use Rattle.lent.specs.Batched.{StepEnd, trainedFrom, stepBy, stepOf, BatchEnd, batchEnd, batched, unlessRefused, stepsOf, batchOf}
+use Rattle.lent.proofs.AbsorbedTree.{train-stays}
 use Rattle.feed.specs.declared.Phase.{Phase}
 use Rattle.feed.specs.declared.Phase.the-variants as phase
 use Rattle.feed.specs.declared.Run.{Run}

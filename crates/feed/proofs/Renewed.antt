@@ -18,14 +18,14 @@ use Rattle.accumulator.specs.Calls as account
 use Rattle.model.specs.Grid.{Grid, axes, bins}
 use Rattle.model.specs.Sound.{sound}
 use Rattle.model.specs.Update as model
-use Rattle.grid.specs.Memory.{Memory, memory}
-use Rattle.grid.specs.State.{rootOf, ownOf, judgedBy, judgedTo, faultBy, stateFault}
-use Rattle.grid.specs.Calls.{StateEnd, updatedBy, updateOf, summaryOf}
-use Rattle.grid.proofs.States.{clear}
-use Rattle.grid.proofs.Clones.{ready}
-use Rattle.grid.proofs.Batches.{clear-again}
-use Rattle.grid.proofs.UpdatedState.{Called, update-updates}
-use Rattle.grid.proofs.Formed.{own-kept}
+use Rattle.lent.specs.Memory.{Memory, memory}
+use Rattle.lent.specs.State.{rootOf, ownOf, judgedBy, judgedTo, faultBy, stateFault}
+use Rattle.lent.specs.Calls.{StateEnd, updatedBy, updateOf, summaryOf}
+use Rattle.lent.proofs.States.{clear}
+use Rattle.lent.proofs.Clones.{ready}
+use Rattle.lent.proofs.Batches.{clear-again}
+use Rattle.lent.proofs.UpdatedState.{Called, update-updates}
+use Rattle.lent.proofs.Formed.{own-kept}
 
 pub record Renewed (table : List ℕ) (m : Memory) (e : StateEnd) : Type 0 where
   pub stays : (e .answer ≡ 0 → ⊥) → e .state ≡ m

@@ -26,9 +26,9 @@ use Rattle.plan.proofs.Ranges.{most-least}
 use Rattle.plan.proofs.Faults.{axes-free, bins-free}
 use Rattle.plan.proofs.Trees.{AxesValid, axes-valid, bins-valid, more-valid, start-roomy, roomy-after}
 use Rattle.plan.proofs.Plans.{Plan, accepted-is-encoded, encoded-is-accepted}
-use Rattle.grid.specs.Memory.{Memory}
-use Rattle.grid.specs.Founded.{laidGrid}
-use Rattle.grid.specs.Calls.{freshEnd, foundedOf, freshOf}
+use Rattle.lent.specs.Memory.{Memory}
+use Rattle.lent.specs.Founded.{laidGrid}
+use Rattle.lent.specs.Calls.{freshEnd, foundedOf, freshOf}
 use Rattle.feed.specs.declared.Phase.{Phase}
 use Rattle.feed.specs.declared.Phase.the-variants as phase
 use Rattle.feed.specs.declared.Run.{Run}

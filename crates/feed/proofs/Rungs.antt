@@ -22,10 +22,10 @@ use Rattle.accumulator.specs.declared.Summary.{Summary}
 use Rattle.accumulator.specs.declared.Summed.{Summed}
 use Rattle.accumulator.specs.declared.Summed.the-variants as summed
 use Rattle.accumulator.specs.Calls.{paperSummed}
-use Rattle.grid.specs.declared.Batched.{Batched}
-use Rattle.grid.specs.Memory.{Memory}
-use Rattle.grid.specs.Calls.{FreshEnd, freshOf, StateEnd, updateOf, summaryOf}
-use Rattle.grid.specs.Batched.{BatchEnd, batchOf}
+use Rattle.lent.specs.declared.Batched.{Batched}
+use Rattle.lent.specs.Memory.{Memory}
+use Rattle.lent.specs.Calls.{FreshEnd, freshOf, StateEnd, updateOf, summaryOf}
+use Rattle.lent.specs.Batched.{BatchEnd, batchOf}
 use Rattle.feed.specs.declared.Phase.{Phase}
 use Rattle.feed.specs.declared.Phase.the-variants as phase
 use Rattle.feed.specs.declared.Run.{Run}

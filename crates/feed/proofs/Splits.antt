@@ -12,11 +12,11 @@ use lib.Ieee.{Float}
 use Rattle.plan.proofs.Tables.{Words}
 use Rattle.stream.specs.declared.MonteCarloRng.{MonteCarloRng}
 use Rattle.stream.specs.Words.{plus}
-use Rattle.grid.specs.declared.Batched.{Batched}
-use Rattle.grid.specs.Memory.{Memory}
-use Rattle.grid.specs.State.{stateFault}
-use Rattle.grid.specs.Batched.{BatchEnd, batchEnd, batched, stepOf, unlessRefused, stepsOf, batchOf}
-use Rattle.grid.proofs.Batches.{step-onward}
+use Rattle.lent.specs.declared.Batched.{Batched}
+use Rattle.lent.specs.Memory.{Memory}
+use Rattle.lent.specs.State.{stateFault}
+use Rattle.lent.specs.Batched.{BatchEnd, batchEnd, batched, stepOf, unlessRefused, stepsOf, batchOf}
+use Rattle.lent.proofs.Batches.{step-onward}
 use Rattle.feed.specs.declared.Phase.{Phase}
 use Rattle.feed.specs.declared.Phase.the-variants as phase
 use Rattle.feed.specs.declared.Run.{Run}

@@ -16,9 +16,9 @@ use Rattle.plan.proofs.Flags.{never}
 use Rattle.plan.proofs.Here.{pick}
 use Rattle.plan.proofs.Tables.{Words}
 use Rattle.stream.specs.Words.{plus}
-use Rattle.grid.specs.declared.Batched.{Batched}
-use Rattle.grid.specs.Memory.{Memory}
-use Rattle.grid.specs.Batched.{batchOf}
+use Rattle.lent.specs.declared.Batched.{Batched}
+use Rattle.lent.specs.Memory.{Memory}
+use Rattle.lent.specs.Batched.{batchOf}
 use Rattle.feed.specs.declared.Phase.{Phase}
 use Rattle.feed.specs.declared.Phase.the-variants as phase
 use Rattle.feed.specs.declared.Run.{Run}

@@ -12,10 +12,10 @@ use Rattle.plan.specs.Calls.{measurePrefixOf}
 use Rattle.stream.specs.declared.MonteCarloRng.{MonteCarloRng}
 use Rattle.stream.specs.Calls.{newOf}
 use Rattle.accumulator.specs.declared.Summary.{Summary}
-use Rattle.grid.specs.declared.Batched.{Batched}
-use Rattle.grid.specs.Memory.{Memory}
-use Rattle.grid.specs.Calls.{FreshEnd, freshOf, StateEnd, updateOf, summaryOf}
-use Rattle.grid.specs.Batched.{BatchEnd, batchOf}
+use Rattle.lent.specs.declared.Batched.{Batched}
+use Rattle.lent.specs.Memory.{Memory}
+use Rattle.lent.specs.Calls.{FreshEnd, freshOf, StateEnd, updateOf, summaryOf}
+use Rattle.lent.specs.Batched.{BatchEnd, batchOf}
 use Rattle.feed.specs.declared.Phase.{Phase}
 use Rattle.feed.specs.declared.Phase.the-variants as phase
 use Rattle.feed.specs.declared.Run.{Run}

@@ -13,7 +13,7 @@ mod updating;
 ghost use mathlib.Core.Path.{_≡_};
 ghost use Prim.Native.Nat.{_≤_};
 ghost use lib.ListN.{length};
-ghost use Rattle.grid.specs.Memory.{memory};
+ghost use Rattle.lent.specs.Memory.{memory};
 ghost use Rattle.feed.specs.Said.{said, beginningOf, isOverOf};
 ghost use Rattle.feed.specs.Turns.{turnEnd, turnOf};
 

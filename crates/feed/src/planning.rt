@@ -3,7 +3,7 @@ ghost use mathlib.Core.Path.{_≡_};
 ghost use Prim.Native.Nat.{_≤_};
 ghost use lib.ListN.{length};
 ghost use Rattle.plan.specs.Paper.{planRead};
-ghost use Rattle.grid.specs.Memory.{memory};
+ghost use Rattle.lent.specs.Memory.{memory};
 ghost use Rattle.feed.specs.Said.{said};
 ghost use Rattle.feed.specs.Turns.{turnEnd, allIn, unreadOf, foundOf, planTurn};
 use crate::Phase;

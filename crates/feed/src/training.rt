@@ -2,7 +2,7 @@
 ghost use mathlib.Core.Path.{_≡_};
 ghost use Prim.Native.Nat.{_≤_};
 ghost use lib.ListN.{length};
-ghost use Rattle.grid.specs.Memory.{memory};
+ghost use Rattle.lent.specs.Memory.{memory};
 ghost use Rattle.feed.specs.Said.{said};
 ghost use Rattle.feed.specs.Fields.{rowFrom};
 ghost use Rattle.feed.specs.Turns.{turnEnd, trainedOf, trainOf, rowTurn};

@@ -6,7 +6,7 @@ ghost use lib.Dec.{eqb};
 ghost use lib.ListN.{length, getD};
 ghost use Rattle.stream.specs.Calls.{newOf};
 ghost use Rattle.plan.specs.Numbers.{numberAt};
-ghost use Rattle.grid.specs.Memory.{memory};
+ghost use Rattle.lent.specs.Memory.{memory};
 ghost use Rattle.feed.specs.Said.{said};
 ghost use Rattle.feed.specs.Turns.{turnEnd, madeOf, streamTurn, samplesTurn};
 use crate::Phase;

@@ -2,8 +2,8 @@
 ghost use mathlib.Core.Path.{_≡_};
 ghost use Prim.Native.Nat.{_≤_};
 ghost use lib.ListN.{length};
-ghost use Rattle.grid.specs.Memory.{memory};
-ghost use Rattle.grid.specs.Calls.{summaryOf};
+ghost use Rattle.lent.specs.Memory.{memory};
+ghost use Rattle.lent.specs.Calls.{summaryOf};
 ghost use Rattle.feed.specs.Said.{said};
 ghost use Rattle.feed.specs.Turns.{turnEnd, reportOf, renewOf, updateTurn};
 use crate::Phase;

@@ -6,7 +6,7 @@ use mathlib.Core.List.{List}
 use native.Mathlib.Omega.{arith}
 use lib.ListN.{length, take, drop, length-drop}
 use lib.Seq.{take-all}
-use Rattle.grid.specs.Memory.{Memory}
+use Rattle.lent.specs.Memory.{Memory}
 use Rattle.feed.specs.declared.Run.{Run}
 use Rattle.feed.specs.Said.{Said}
 use Rattle.feed.specs.Turns.{TurnEnd, turnEnd, turnOf}

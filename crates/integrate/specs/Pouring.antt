@@ -5,7 +5,7 @@ use mathlib.Core.Bool.{Bool, true, false, not, _&&_}
 use mathlib.Core.List.{List}
 use lib.Dec.{eqb}
 use lib.ListN.{length, take, drop}
-use Rattle.grid.specs.Memory.{Memory}
+use Rattle.lent.specs.Memory.{Memory}
 use Rattle.feed.specs.declared.Run.{Run}
 use Rattle.feed.specs.Said.{isOverOf}
 use Rattle.feed.specs.Turns.{TurnEnd, turnOf}

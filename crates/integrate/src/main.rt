@@ -8,7 +8,7 @@ ghost use mathlib.Core.Bool.{true, false, _&&_};
 ghost use Prim.Native.Nat.{_+_, _-_, _≤_, _<_};
 ghost use lib.Dec.{eqb};
 ghost use lib.ListN.{length, take, drop};
-ghost use Rattle.grid.specs.Memory.{memory};
+ghost use Rattle.lent.specs.Memory.{memory};
 ghost use Rattle.feed.specs.Said.{isOverOf};
 ghost use Rattle.integrate.specs.Pouring.{place, goesOn, Turns, Stepped, TakenIn};
 use feed::Run;

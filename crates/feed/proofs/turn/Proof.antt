@@ -2,7 +2,7 @@
 use mathlib.Core.Path.{ap}
 use native.Mathlib.Omega.{arith}
 use Rattle.feed.specs.Said.{Said}
-use Rattle.grid.specs.Memory.{memory}
+use Rattle.lent.specs.Memory.{memory}
 use Rattle.feed.specs.Turns.{turnEnd, turnBy}
 use Rattle.feed.proofs.Rungs.{turn-due}
 use Rattle.feed.proofs.Within.{turned-within}

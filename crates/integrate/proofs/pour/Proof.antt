@@ -5,7 +5,7 @@ use native.Mathlib.Omega.{arith}
 use borrow.Author.Needs.{needs}
 use borrow.Author.Tests.{not-true, not-false}
 use lib.ListN.{length}
-use Rattle.grid.specs.Memory.{memory}
+use Rattle.lent.specs.Memory.{memory}
 use Rattle.integrate.specs.Pouring.{Place, place, Turns}
 use Rattle.integrate.proofs.Full.{turns-short}
 use Rattle.integrate.proofs.Turning.{ends, onward}

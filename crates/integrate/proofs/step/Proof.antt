@@ -1,7 +1,7 @@
 -- `step`: the place behind the turn lies within the bytes, and where it goes on the turn took some.
 use native.Mathlib.Omega.{arith}
 use lib.ListN.{length, length-drop, length-take}
-use Rattle.grid.specs.Memory.{memory}
+use Rattle.lent.specs.Memory.{memory}
 use Rattle.feed.specs.Said.{said}
 use Rattle.integrate.specs.Pouring.{place}
 use Rattle.integrate.proofs.Turning.{stepped}

@@ -3,8 +3,8 @@ use mathlib.Core.Path.{sym, ap, _∙_}
 use lib.Seq.{length-take-le}
 use Rattle.feed.specs.Said.{Said, refusingAt}
 use Rattle.plan.specs.Paper.{paperRead}
-use Rattle.grid.specs.Calls.{freshEnd}
-use Rattle.grid.specs.Memory.{memory}
+use Rattle.lent.specs.Calls.{freshEnd}
+use Rattle.lent.specs.Memory.{memory}
 use Rattle.feed.proofs.Rungs.{found-waits, found-large, found-fresh, fresh-refuses, fresh-goes}
 use borrow.Author.Needs.{needs}
 use Rattle.feed.proofs.planning.found.Statement.{statement}

@@ -2,7 +2,7 @@
 use mathlib.Core.Path.{sym, ap, _∙_}
 use Rattle.feed.specs.Said.{Said}
 use Rattle.feed.proofs.Rungs.{refused-here}
-use Rattle.grid.specs.Memory.{memory}
+use Rattle.lent.specs.Memory.{memory}
 use Rattle.feed.specs.Turns.{turnEnd, rowBy, rowTurn}
 use borrow.Author.Needs.{needs}
 use Rattle.feed.proofs.training.read_row.Statement.{statement}

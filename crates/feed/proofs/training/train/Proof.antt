@@ -1,8 +1,8 @@
 -- The batch decides, and trains no more than its evaluations.
 use mathlib.Core.Path.{ap}
 use native.Mathlib.Omega.{arith}
-use Rattle.grid.specs.Batched.{BatchEnd, batchEnd}
-use Rattle.grid.specs.Memory.{memory}
+use Rattle.lent.specs.Batched.{BatchEnd, batchEnd}
+use Rattle.lent.specs.Memory.{memory}
 use Rattle.feed.proofs.Batches.{batch-done}
 use Rattle.feed.proofs.Rungs.{train-ends}
 use borrow.Author.Needs.{needs}

@@ -4,7 +4,7 @@ use mathlib.Core.List.{List}
 use native.Mathlib.Omega.{arith}
 use lib.Seq.{length-take-le}
 use lib.Ieee.{Float}
-use Rattle.grid.specs.Memory.{memory}
+use Rattle.lent.specs.Memory.{memory}
 use Rattle.feed.specs.Fields.{rowFrom}
 use Rattle.feed.specs.Turns.{trainOf}
 use borrow.Author.Needs.{needs}

@@ -3,7 +3,7 @@ use mathlib.Core.Path.{sym, ap, _∙_}
 use Rattle.feed.specs.Said.{Said}
 use Rattle.feed.proofs.Rungs.{refused-here}
 use Rattle.feed.proofs.Standings.{whole-there}
-use Rattle.grid.specs.Memory.{memory}
+use Rattle.lent.specs.Memory.{memory}
 use Rattle.feed.specs.Turns.{turnEnd, updateBy, updateTurn}
 use borrow.Author.Needs.{needs}
 use Rattle.feed.proofs.updating.read_update.Statement.{statement}

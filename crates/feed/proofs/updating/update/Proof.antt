@@ -1,6 +1,6 @@
 -- A refusal, or the report, of what `update` left.
-use Rattle.grid.specs.Calls.{stateEnd}
-use Rattle.grid.specs.Memory.{memory}
+use Rattle.lent.specs.Calls.{stateEnd}
+use Rattle.lent.specs.Memory.{memory}
 use Rattle.feed.proofs.Rungs.{refused-here, renew-refused, renew-reports}
 use borrow.Author.Needs.{needs}
 use Rattle.feed.proofs.updating.update.Statement.{statement}

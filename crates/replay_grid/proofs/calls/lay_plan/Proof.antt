@@ -7,7 +7,7 @@ use Rattle.replay_grid.proofs.calls.lay_plan.Statement.{statement}
 use Rattle.replay_grid.proofs.calls.lay_plan.Tie as tie
 use Rattle.replay_grid.proofs.calls.lay_plan.Reads as reads
 use Rattle.replay_grid.proofs.calls.lay_plan.Lts as lts
-use Rattle.grid.proofs.fresh.Reads as fresh-reads
+use Rattle.copies.proofs.fresh.Reads as fresh-reads
 use Rattle.replay_grid.proofs.calls.is_laid.Reads as is-laid-reads
 use Rattle.replay_grid.proofs.list.below.Reads as below-reads
 use Rattle.replay_grid.proofs.list.load.Reads as load-reads

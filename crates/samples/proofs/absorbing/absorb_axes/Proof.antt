@@ -1,0 +1,111 @@
+-- What the record gains is found before the axes are written; a well-formed grid and the sample's form give what the axes ask.
+use native.Mathlib.Omega.{arith}
+use Rattle.lent.specs.Memory.{memory}
+use Rattle.lent.proofs.Accepts.{own-sound}
+use Rattle.lent.proofs.Finds.{found-there, found-asked}
+use Rattle.lent.proofs.Absorbs.{axes-absorbed}
+use Rattle.lent.specs.Sampled.{entries}
+use Rattle.lent.specs.Found.{held}
+use borrow.Author.Needs.{needs}
+use Rattle.samples.proofs.absorbing.absorb_axes.Statement.{statement}
+use Rattle.samples.proofs.absorbing.absorb_axes.Tie as tie
+use Rattle.samples.proofs.absorbing.absorb_axes.Reads as reads
+use Rattle.samples.proofs.absorbing.absorb_axes.Lts as lts
+use Rattle.samples.proofs.adding.put.Reads as put-reads
+use Rattle.samples.proofs.adding.gain_at.Reads as gain-at-reads
+use Rattle.ground.proofs.layout.axes_place.Reads as axes-place-reads
+use Rattle.samples.proofs.training.train_axes.Reads as train-axes-reads
+
+-- src/absorbing.rt:35:18
+mul-weight : tie.Need-mul-weight
+mul-weight c = search needs
+
+-- src/absorbing.rt:35:18
+element-copy-out-weight : tie.Need-element-copy-out-weight
+element-copy-out-weight c = search needs
+
+-- src/absorbing.rt:36:9
+axes-place-requires : tie.Need-axes-place-requires
+axes-place-requires c κs = search needs
+
+-- src/absorbing.rt:37:19
+add-r : tie.Need-add-r
+add-r c = search needs
+
+-- src/absorbing.rt:37:13
+mul-r : tie.Need-mul-r
+mul-r c = search needs
+
+-- src/absorbing.rt:37:13
+shared-slice-read-r : tie.Need-shared-slice-read-r
+shared-slice-read-r c = search needs
+
+-- src/absorbing.rt:38:19
+add-c : tie.Need-add-c
+add-c c = search needs
+
+-- src/absorbing.rt:38:13
+mul-c : tie.Need-mul-c
+mul-c c = search needs
+
+-- src/absorbing.rt:38:13
+shared-slice-read-c : tie.Need-shared-slice-read-c
+shared-slice-read-c c = search needs
+
+-- src/absorbing.rt:40:9
+gain-at-requires : tie.Need-gain-at-requires
+gain-at-requires c κs =
+    let o = c .before .before .before .before .before .before .before .before .before in
+    let s = held (o .pre .2) in
+    (omega (arith, o .pre .0), omega (arith, o .pre .0), own-sound (o .args .table .now) (o .args .reals .now) (o .args .counts .now) (o .args .w) s (o .args .depth) (o .pre .2 .offer .takes .well))
+
+-- src/absorbing.rt:41:5
+train-axes-requires : tie.Need-train-axes-requires
+train-axes-requires c κs =
+    let o = c .before .before .before .before .before .before .before .before .before .before .before .before in
+    let s = held (o .pre .2) in
+    found-asked (o .args .table .now) (o .args .reals .now) (o .args .counts .now) (o .args .w) s (o .args .depth) (o .args .number) (o .pre .0) (o .pre .2 .offer .takes) (c .before .before .before .before .before .before .before .axes-place .result) (c .before .before .before .before .before .before .before .axes-place .ensures) (o .args .spots .now) (o .pre .2 .found)
+
+-- src/absorbing.rt:42:5
+put-requires : tie.Need-put-requires
+put-requires c κs = let o = c .before .before .before .before .before .before .before .before .before .before .before .before .before .before .before .before .before .before .before in (omega (arith, o .pre .0, c .before .before .before .before .before .before .train-axes .kept .0), omega (arith, o .pre .0, c .before .before .before .before .before .before .train-axes .kept .1 .0))
+
+-- src/absorbing.rt:16:1
+same-length : tie.Need-same-length
+same-length c = search needs
+
+-- src/absorbing.rt:16:1
+same-length-2 : tie.Need-same-length-2
+same-length-2 c = search needs
+
+-- src/absorbing.rt:16:1
+returns : tie.Need-returns
+returns c h =
+    let o = c .before .before .before .before .before .before .before .before .before .before .before .before .before .before .before .before .before .before .before .before .before .before .before .before in
+    let s = held h in
+    let g = c .before .before .before .before .before .before .before .before .before .before .before .before .before .before .before .before .before .before .before .axes-place .result in
+    let m = memory (o .args .reals .now) (o .args .counts .now) in
+    axes-absorbed (o .args .table .now) s (o .args .evaluation) (o .args .number) (o .args .w) (o .args .depth) m
+    (memory (c .before .before .before .before .before .before .before .before .before .before .before .train-axes .last .0) (c .before .before .before .before .before .before .before .before .before .before .before .train-axes .last .1 .0)) (memory (c .before .before .before .before .put .last .0) (c .before .before .before .before .put .last .1 .0))
+    g (entries 0 (o .args .spots .now) 0 (g .axes)) (c .before .before .before .before .before .before .before .before .before .before .before .before .before .before .gain-at .result)
+    (c .before .before .before .before .before .before .before .before .before .before .before .before .before .before .before .before .before .before .before .axes-place .ensures) (found-there (o .args .table .now) (o .args .reals .now) (o .args .counts .now) (o .args .w) s (o .args .depth) (o .args .number) (o .pre .0) (h .offer .takes) g (c .before .before .before .before .before .before .before .before .before .before .before .before .before .before .before .before .before .before .before .axes-place .ensures) (o .args .spots .now) (h .found)) (c .before .before .before .before .before .before .before .before .before .before .before .before .before .before .gain-at .ensures) (c .before .before .before .before .before .before .before .before .before .before .before .train-axes .ensures) (c .before .before .before .before .put .ensures)
+
+pub absorb-axes-spec : {M : Type 1} → statement M
+absorb-axes-spec =
+    tie.close
+    (tie.spec
+    mul-weight
+    element-copy-out-weight
+    axes-place-requires
+    add-r
+    mul-r
+    shared-slice-read-r
+    add-c
+    mul-c
+    shared-slice-read-c
+    gain-at-requires
+    train-axes-requires
+    put-requires
+    same-length
+    same-length-2
+    returns)

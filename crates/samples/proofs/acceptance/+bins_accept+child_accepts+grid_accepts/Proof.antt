@@ -1,0 +1,522 @@
+-- Of a well-formed grid only what the sample touches may fail: along the path an accumulator, the bin's, and what hangs there.
+use mathlib.Core.Path.{sym, ap, ap₂, _∙_, subst}
+use mathlib.Core.Bool.{_&&_}
+use native.Mathlib.Omega.{arith}
+use Prim.Native.Nat.{_+_, _-_, _*_}
+use lib.ListN.{length, getD}
+use Rattle.model.specs.Grid.{Grid}
+use Rattle.model.specs.Sound.{keptGrid}
+use Rattle.model.specs.Train.{trainGrid}
+use Rattle.lent.specs.Tree.{headAt, binIn, gridAt}
+use Rattle.lent.specs.Sampled.{ChildLaid}
+use Rattle.lent.specs.Absorbed.{pathLeft, weightsLeft, placesIn, offered, offeredChild}
+use Rattle.lent.specs.Found.{Found}
+use Rattle.lent.proofs.Laid.{laid-axes, laid-bins, laid-head}
+use Rattle.lent.proofs.Sounds.{node-axes, node-bins}
+use Rattle.lent.proofs.Accepts.{formed, head-sound, spot-sound, bins-told, none-told, grid-told, offered-as, offered-below, offered-grid}
+use Rattle.lent.proofs.Finds.{bins-found, none-found, grid-found}
+use Prim.Native.Nat.{ℕ, _<_}
+use borrow.Fn.Kinds.{In}
+use borrow.Fn.PlainCycle.{Measures, is, falls, and}
+use Rattle.samples.proofs.acceptance.bins_accept.Reads as bins-accept
+use Rattle.samples.proofs.acceptance.bins_accept.Kinds as bins-accept-kinds
+use Rattle.samples.proofs.acceptance.+bins_accept+child_accepts+grid_accepts.Lts-bins_accept as bins-accept-lts
+use Rattle.samples.proofs.acceptance.child_accepts.Reads as child-accepts
+use Rattle.samples.proofs.acceptance.child_accepts.Kinds as child-accepts-kinds
+use Rattle.samples.proofs.acceptance.+bins_accept+child_accepts+grid_accepts.Lts-child_accepts as child-accepts-lts
+use Rattle.samples.proofs.acceptance.grid_accepts.Reads as grid-accepts
+use Rattle.samples.proofs.acceptance.grid_accepts.Kinds as grid-accepts-kinds
+use Rattle.samples.proofs.acceptance.+bins_accept+child_accepts+grid_accepts.Lts-grid_accepts as grid-accepts-lts
+use Rattle.samples.proofs.acceptance.axes_accept.Reads as axes-accept-reads
+use Rattle.samples.proofs.adding.fits_with.Reads as fits-with-reads
+use Rattle.samples.proofs.acceptance.+bins_accept+child_accepts+grid_accepts.{statement}
+use Rattle.samples.proofs.acceptance.+bins_accept+child_accepts+grid_accepts.Tie.{close}
+
+abbrev μ-bins-accept : Measures 8 bins-accept-kinds.ps ℕ
+μ-bins-accept κs a = 3 * a .1 .1 .1 .0 + 2
+
+abbrev μ-child-accepts : Measures 8 child-accepts-kinds.ps ℕ
+μ-child-accepts κs a = 3 * a .1 .1 .1 .0 + 1
+
+abbrev μ-grid-accepts : Measures 8 grid-accepts-kinds.ps ℕ
+μ-grid-accepts κs a = 3 * a .1 .1 .1 .0
+
+abbrev bins-accept-at : ℕ → In 8 bins-accept-kinds.ps
+bins-accept-at t =
+    and 8 bins-accept-kinds.ps (is 8 bins-accept-kinds.ps μ-bins-accept t) bins-accept.Pre
+
+abbrev bins-accept-below : ℕ → In 8 bins-accept-kinds.ps
+bins-accept-below t =
+    and 8 bins-accept-kinds.ps (falls 8 bins-accept-kinds.ps _<_ μ-bins-accept t) bins-accept.Pre
+
+abbrev child-accepts-at : ℕ → In 8 child-accepts-kinds.ps
+child-accepts-at t =
+    and 8 child-accepts-kinds.ps (is 8 child-accepts-kinds.ps μ-child-accepts t) child-accepts.Pre
+
+abbrev child-accepts-below : ℕ → In 8 child-accepts-kinds.ps
+child-accepts-below t =
+    and
+    8
+    child-accepts-kinds.ps
+    (falls 8 child-accepts-kinds.ps _<_ μ-child-accepts t)
+    child-accepts.Pre
+
+abbrev grid-accepts-at : ℕ → In 8 grid-accepts-kinds.ps
+grid-accepts-at t =
+    and 8 grid-accepts-kinds.ps (is 8 grid-accepts-kinds.ps μ-grid-accepts t) grid-accepts.Pre
+
+abbrev grid-accepts-below : ℕ → In 8 grid-accepts-kinds.ps
+grid-accepts-below t =
+    and
+    8
+    grid-accepts-kinds.ps
+    (falls 8 grid-accepts-kinds.ps _<_ μ-grid-accepts t)
+    grid-accepts.Pre
+
+-- src/acceptance.rt:115:15
+bins-accept-mul-bin : (t : ℕ) → bins-accept-lts.Need-mul-bin (
+  fits-with-reads.Asked,
+  fits-with-reads.Learnt,
+  child-accepts-below t,
+  child-accepts.Post,
+) (bins-accept-at t) bins-accept.Post
+bins-accept-mul-bin t c = omega (arith, c .before .before .before .pre .1 .1)
+
+-- src/acceptance.rt:115:15
+bins-accept-element-copy-out-bin : (t : ℕ) → bins-accept-lts.Need-element-copy-out-bin (
+  fits-with-reads.Asked,
+  fits-with-reads.Learnt,
+  child-accepts-below t,
+  child-accepts.Post,
+) (bins-accept-at t) bins-accept.Post
+bins-accept-element-copy-out-bin t c = omega (arith, c .before .before .before .pre .1 .1)
+
+-- src/acceptance.rt:116:18
+bins-accept-mul-weight : (t : ℕ) → bins-accept-lts.Need-mul-weight (
+  fits-with-reads.Asked,
+  fits-with-reads.Learnt,
+  child-accepts-below t,
+  child-accepts.Post,
+) (bins-accept-at t) bins-accept.Post
+bins-accept-mul-weight t c = omega (arith, c .before .before .before .before .pre .1 .1)
+
+-- src/acceptance.rt:116:18
+bins-accept-element-copy-out-weight : (t : ℕ) → bins-accept-lts.Need-element-copy-out-weight (
+  fits-with-reads.Asked,
+  fits-with-reads.Learnt,
+  child-accepts-below t,
+  child-accepts.Post,
+) (bins-accept-at t) bins-accept.Post
+bins-accept-element-copy-out-weight t c = omega (arith, c .before .before .before .before .pre .1 .1)
+
+-- src/acceptance.rt:117:19
+bins-accept-add-n : (t : ℕ) → bins-accept-lts.Need-add-n (
+  fits-with-reads.Asked,
+  fits-with-reads.Learnt,
+  child-accepts-below t,
+  child-accepts.Post,
+) (bins-accept-at t) bins-accept.Post
+bins-accept-add-n t c = omega (arith, (c .before .before .before .before .before .pre .1 .0))
+
+-- src/acceptance.rt:117:13
+bins-accept-mul-n : (t : ℕ) → bins-accept-lts.Need-mul-n (
+  fits-with-reads.Asked,
+  fits-with-reads.Learnt,
+  child-accepts-below t,
+  child-accepts.Post,
+) (bins-accept-at t) bins-accept.Post
+bins-accept-mul-n t c = omega (arith, (c .before .before .before .before .before .pre .1 .0))
+
+-- src/acceptance.rt:117:13
+bins-accept-shared-slice-read-n : (t : ℕ) → bins-accept-lts.Need-shared-slice-read-n (
+  fits-with-reads.Asked,
+  fits-with-reads.Learnt,
+  child-accepts-below t,
+  child-accepts.Post,
+) (bins-accept-at t) bins-accept.Post
+bins-accept-shared-slice-read-n t c = omega (arith, (c .before .before .before .before .before .before .pre .1 .0))
+
+-- src/acceptance.rt:118:19
+bins-accept-add-r : (t : ℕ) → bins-accept-lts.Need-add-r (
+  fits-with-reads.Asked,
+  fits-with-reads.Learnt,
+  child-accepts-below t,
+  child-accepts.Post,
+) (bins-accept-at t) bins-accept.Post
+bins-accept-add-r t c = omega (arith, (c .before .before .before .before .before .before .pre .1 .0))
+
+-- src/acceptance.rt:118:13
+bins-accept-mul-r : (t : ℕ) → bins-accept-lts.Need-mul-r (
+  fits-with-reads.Asked,
+  fits-with-reads.Learnt,
+  child-accepts-below t,
+  child-accepts.Post,
+) (bins-accept-at t) bins-accept.Post
+bins-accept-mul-r t c = omega (arith, (c .before .before .before .before .before .before .pre .1 .0))
+
+-- src/acceptance.rt:118:13
+bins-accept-shared-slice-read-r : (t : ℕ) → bins-accept-lts.Need-shared-slice-read-r (
+  fits-with-reads.Asked,
+  fits-with-reads.Learnt,
+  child-accepts-below t,
+  child-accepts.Post,
+) (bins-accept-at t) bins-accept.Post
+bins-accept-shared-slice-read-r t c = omega (arith, (c .before .before .before .before .before .before .before .pre .1 .0))
+
+-- src/acceptance.rt:119:19
+bins-accept-add-c : (t : ℕ) → bins-accept-lts.Need-add-c (
+  fits-with-reads.Asked,
+  fits-with-reads.Learnt,
+  child-accepts-below t,
+  child-accepts.Post,
+) (bins-accept-at t) bins-accept.Post
+bins-accept-add-c t c = omega (arith, (c .before .before .before .before .before .before .before .pre .1 .0))
+
+-- src/acceptance.rt:119:13
+bins-accept-mul-c : (t : ℕ) → bins-accept-lts.Need-mul-c (
+  fits-with-reads.Asked,
+  fits-with-reads.Learnt,
+  child-accepts-below t,
+  child-accepts.Post,
+) (bins-accept-at t) bins-accept.Post
+bins-accept-mul-c t c = omega (arith, (c .before .before .before .before .before .before .before .pre .1 .0))
+
+-- src/acceptance.rt:119:13
+bins-accept-shared-slice-read-c : (t : ℕ) → bins-accept-lts.Need-shared-slice-read-c (
+  fits-with-reads.Asked,
+  fits-with-reads.Learnt,
+  child-accepts-below t,
+  child-accepts.Post,
+) (bins-accept-at t) bins-accept.Post
+bins-accept-shared-slice-read-c t c = omega (arith, (c .before .before .before .before .before .before .before .before .pre .1 .0))
+
+-- src/acceptance.rt:120:33
+bins-accept-add-value : (t : ℕ) → bins-accept-lts.Need-add-value (
+  fits-with-reads.Asked,
+  fits-with-reads.Learnt,
+  child-accepts-below t,
+  child-accepts.Post,
+) (bins-accept-at t) bins-accept.Post
+bins-accept-add-value t c = omega (arith, (c .before .before .before .before .before .before .before .before .pre .1 .0), (formed (gridAt (c .before .before .before .before .before .before .before .before .args .level) (c .before .before .before .before .before .before .before .before .args .table .now) (c .before .before .before .before .before .before .before .before .args .reals .now) (c .before .before .before .before .before .before .before .before .args .counts .now)) (c .before .before .before .before .before .before .before .before .args .table .now) (c .before .before .before .before .before .before .before .before .args .reals .now) (c .before .before .before .before .before .before .before .before .args .counts .now) (c .before .before .before .before .before .before .before .before .args .w) (getD (c .before .before .before .before .before .before .before .before .args .table .now) ((c .before .before .before .before .before .before .before .before .args .w) + 2) 0) (headAt (c .before .before .before .before .before .before .before .before .args .table .now) (c .before .before .before .before .before .before .before .before .args .reals .now) (c .before .before .before .before .before .before .before .before .args .counts .now) (c .before .before .before .before .before .before .before .before .args .w)) (offered (c .before .before .before .before .before .before .before .before .pre .1 .2)) (c .before .before .before .before .before .before .before .before .args .depth) (c .before .before .before .before .before .before .before .before .args .number) (c .before .before .before .before .before .before .before .before .pre .1 .2 .takes)) .bin)
+
+-- src/acceptance.rt:120:33
+bins-accept-add-value-2 : (t : ℕ) → bins-accept-lts.Need-add-value-2 (
+  fits-with-reads.Asked,
+  fits-with-reads.Learnt,
+  child-accepts-below t,
+  child-accepts.Post,
+) (bins-accept-at t) bins-accept.Post
+bins-accept-add-value-2 t c = omega (arith, (c .before .before .before .before .before .before .before .before .pre .1 .0), (formed (gridAt (c .before .before .before .before .before .before .before .before .args .level) (c .before .before .before .before .before .before .before .before .args .table .now) (c .before .before .before .before .before .before .before .before .args .reals .now) (c .before .before .before .before .before .before .before .before .args .counts .now)) (c .before .before .before .before .before .before .before .before .args .table .now) (c .before .before .before .before .before .before .before .before .args .reals .now) (c .before .before .before .before .before .before .before .before .args .counts .now) (c .before .before .before .before .before .before .before .before .args .w) (getD (c .before .before .before .before .before .before .before .before .args .table .now) ((c .before .before .before .before .before .before .before .before .args .w) + 2) 0) (headAt (c .before .before .before .before .before .before .before .before .args .table .now) (c .before .before .before .before .before .before .before .before .args .reals .now) (c .before .before .before .before .before .before .before .before .args .counts .now) (c .before .before .before .before .before .before .before .before .args .w)) (offered (c .before .before .before .before .before .before .before .before .pre .1 .2)) (c .before .before .before .before .before .before .before .before .args .depth) (c .before .before .before .before .before .before .before .before .args .number) (c .before .before .before .before .before .before .before .before .pre .1 .2 .takes)) .bin)
+
+-- src/acceptance.rt:120:27
+bins-accept-mul-value : (t : ℕ) → bins-accept-lts.Need-mul-value (
+  fits-with-reads.Asked,
+  fits-with-reads.Learnt,
+  child-accepts-below t,
+  child-accepts.Post,
+) (bins-accept-at t) bins-accept.Post
+bins-accept-mul-value t c = omega (arith, (c .before .before .before .before .before .before .before .before .pre .1 .0), (formed (gridAt (c .before .before .before .before .before .before .before .before .args .level) (c .before .before .before .before .before .before .before .before .args .table .now) (c .before .before .before .before .before .before .before .before .args .reals .now) (c .before .before .before .before .before .before .before .before .args .counts .now)) (c .before .before .before .before .before .before .before .before .args .table .now) (c .before .before .before .before .before .before .before .before .args .reals .now) (c .before .before .before .before .before .before .before .before .args .counts .now) (c .before .before .before .before .before .before .before .before .args .w) (getD (c .before .before .before .before .before .before .before .before .args .table .now) ((c .before .before .before .before .before .before .before .before .args .w) + 2) 0) (headAt (c .before .before .before .before .before .before .before .before .args .table .now) (c .before .before .before .before .before .before .before .before .args .reals .now) (c .before .before .before .before .before .before .before .before .args .counts .now) (c .before .before .before .before .before .before .before .before .args .w)) (offered (c .before .before .before .before .before .before .before .before .pre .1 .2)) (c .before .before .before .before .before .before .before .before .args .depth) (c .before .before .before .before .before .before .before .before .args .number) (c .before .before .before .before .before .before .before .before .pre .1 .2 .takes)) .bin)
+
+-- src/acceptance.rt:120:27
+bins-accept-shared-slice-read-value : (t : ℕ) → bins-accept-lts.Need-shared-slice-read-value (
+  fits-with-reads.Asked,
+  fits-with-reads.Learnt,
+  child-accepts-below t,
+  child-accepts.Post,
+) (bins-accept-at t) bins-accept.Post
+bins-accept-shared-slice-read-value t c = omega (arith, (c .before .before .before .before .before .before .before .before .before .pre .1 .0), (formed (gridAt (c .before .before .before .before .before .before .before .before .before .args .level) (c .before .before .before .before .before .before .before .before .before .args .table .now) (c .before .before .before .before .before .before .before .before .before .args .reals .now) (c .before .before .before .before .before .before .before .before .before .args .counts .now)) (c .before .before .before .before .before .before .before .before .before .args .table .now) (c .before .before .before .before .before .before .before .before .before .args .reals .now) (c .before .before .before .before .before .before .before .before .before .args .counts .now) (c .before .before .before .before .before .before .before .before .before .args .w) (getD (c .before .before .before .before .before .before .before .before .before .args .table .now) ((c .before .before .before .before .before .before .before .before .before .args .w) + 2) 0) (headAt (c .before .before .before .before .before .before .before .before .before .args .table .now) (c .before .before .before .before .before .before .before .before .before .args .reals .now) (c .before .before .before .before .before .before .before .before .before .args .counts .now) (c .before .before .before .before .before .before .before .before .before .args .w)) (offered (c .before .before .before .before .before .before .before .before .before .pre .1 .2)) (c .before .before .before .before .before .before .before .before .before .args .depth) (c .before .before .before .before .before .before .before .before .before .args .number) (c .before .before .before .before .before .before .before .before .before .pre .1 .2 .takes)) .bin)
+
+-- src/acceptance.rt:121:9
+bins-accept-fits-with-requires : (t : ℕ) → bins-accept-lts.Need-fits-with-requires (
+  fits-with-reads.Asked,
+  fits-with-reads.Learnt,
+  child-accepts-below t,
+  child-accepts.Post,
+) (bins-accept-at t) bins-accept.Post
+unfolding headAt
+bins-accept-fits-with-requires t c κs = (omega (arith, (c .before .before .before .before .before .before .before .before .before .pre .1 .0)), omega (arith, (c .before .before .before .before .before .before .before .before .before .pre .1 .0)), head-sound (gridAt (c .before .before .before .before .before .before .before .before .before .args .level) (c .before .before .before .before .before .before .before .before .before .args .table .now) (c .before .before .before .before .before .before .before .before .before .args .reals .now) (c .before .before .before .before .before .before .before .before .before .args .counts .now)) (c .before .before .before .before .before .before .before .before .before .args .table .now) (c .before .before .before .before .before .before .before .before .before .args .reals .now) (c .before .before .before .before .before .before .before .before .before .args .counts .now) (c .before .before .before .before .before .before .before .before .before .args .w) (getD (c .before .before .before .before .before .before .before .before .before .args .table .now) ((c .before .before .before .before .before .before .before .before .before .args .w) + 2) 0) (headAt (c .before .before .before .before .before .before .before .before .before .args .table .now) (c .before .before .before .before .before .before .before .before .before .args .reals .now) (c .before .before .before .before .before .before .before .before .before .args .counts .now) (c .before .before .before .before .before .before .before .before .before .args .w)) (offered (c .before .before .before .before .before .before .before .before .before .pre .1 .2)) (c .before .before .before .before .before .before .before .before .before .args .depth) (c .before .before .before .before .before .before .before .before .before .args .number) (c .before .before .before .before .before .before .before .before .before .pre .1 .2 .takes), (c .before .before .before .before .before .before .before .before .before .pre .1 .2 .takes) .number)
+
+-- src/acceptance.rt:122:19
+bins-accept-add-inner-r : (t : ℕ) → bins-accept-lts.Need-add-inner-r (
+  fits-with-reads.Asked,
+  fits-with-reads.Learnt,
+  child-accepts-below t,
+  child-accepts.Post,
+) (bins-accept-at t) bins-accept.Post
+bins-accept-add-inner-r t c = omega (arith, (c .before .before .before .before .before .before .before .before .before .before .pre .1 .0), (formed (gridAt (c .before .before .before .before .before .before .before .before .before .before .args .level) (c .before .before .before .before .before .before .before .before .before .before .args .table .now) (c .before .before .before .before .before .before .before .before .before .before .args .reals .now) (c .before .before .before .before .before .before .before .before .before .before .args .counts .now)) (c .before .before .before .before .before .before .before .before .before .before .args .table .now) (c .before .before .before .before .before .before .before .before .before .before .args .reals .now) (c .before .before .before .before .before .before .before .before .before .before .args .counts .now) (c .before .before .before .before .before .before .before .before .before .before .args .w) (getD (c .before .before .before .before .before .before .before .before .before .before .args .table .now) ((c .before .before .before .before .before .before .before .before .before .before .args .w) + 2) 0) (headAt (c .before .before .before .before .before .before .before .before .before .before .args .table .now) (c .before .before .before .before .before .before .before .before .before .before .args .reals .now) (c .before .before .before .before .before .before .before .before .before .before .args .counts .now) (c .before .before .before .before .before .before .before .before .before .before .args .w)) (offered (c .before .before .before .before .before .before .before .before .before .before .pre .1 .2)) (c .before .before .before .before .before .before .before .before .before .before .args .depth) (c .before .before .before .before .before .before .before .before .before .before .args .number) (c .before .before .before .before .before .before .before .before .before .before .pre .1 .2 .takes)) .bin)
+
+-- src/acceptance.rt:122:19
+bins-accept-add-inner-r-2 : (t : ℕ) → bins-accept-lts.Need-add-inner-r-2 (
+  fits-with-reads.Asked,
+  fits-with-reads.Learnt,
+  child-accepts-below t,
+  child-accepts.Post,
+) (bins-accept-at t) bins-accept.Post
+bins-accept-add-inner-r-2 t c = omega (arith, (c .before .before .before .before .before .before .before .before .before .before .pre .1 .0), (formed (gridAt (c .before .before .before .before .before .before .before .before .before .before .args .level) (c .before .before .before .before .before .before .before .before .before .before .args .table .now) (c .before .before .before .before .before .before .before .before .before .before .args .reals .now) (c .before .before .before .before .before .before .before .before .before .before .args .counts .now)) (c .before .before .before .before .before .before .before .before .before .before .args .table .now) (c .before .before .before .before .before .before .before .before .before .before .args .reals .now) (c .before .before .before .before .before .before .before .before .before .before .args .counts .now) (c .before .before .before .before .before .before .before .before .before .before .args .w) (getD (c .before .before .before .before .before .before .before .before .before .before .args .table .now) ((c .before .before .before .before .before .before .before .before .before .before .args .w) + 2) 0) (headAt (c .before .before .before .before .before .before .before .before .before .before .args .table .now) (c .before .before .before .before .before .before .before .before .before .before .args .reals .now) (c .before .before .before .before .before .before .before .before .before .before .args .counts .now) (c .before .before .before .before .before .before .before .before .before .before .args .w)) (offered (c .before .before .before .before .before .before .before .before .before .before .pre .1 .2)) (c .before .before .before .before .before .before .before .before .before .before .args .depth) (c .before .before .before .before .before .before .before .before .before .before .args .number) (c .before .before .before .before .before .before .before .before .before .before .pre .1 .2 .takes)) .bin)
+
+-- src/acceptance.rt:122:32
+bins-accept-mul-inner-r : (t : ℕ) → bins-accept-lts.Need-mul-inner-r (
+  fits-with-reads.Asked,
+  fits-with-reads.Learnt,
+  child-accepts-below t,
+  child-accepts.Post,
+) (bins-accept-at t) bins-accept.Post
+bins-accept-mul-inner-r t c = omega (arith, (c .before .before .before .before .before .before .before .before .before .before .pre .1 .0), (formed (gridAt (c .before .before .before .before .before .before .before .before .before .before .args .level) (c .before .before .before .before .before .before .before .before .before .before .args .table .now) (c .before .before .before .before .before .before .before .before .before .before .args .reals .now) (c .before .before .before .before .before .before .before .before .before .before .args .counts .now)) (c .before .before .before .before .before .before .before .before .before .before .args .table .now) (c .before .before .before .before .before .before .before .before .before .before .args .reals .now) (c .before .before .before .before .before .before .before .before .before .before .args .counts .now) (c .before .before .before .before .before .before .before .before .before .before .args .w) (getD (c .before .before .before .before .before .before .before .before .before .before .args .table .now) ((c .before .before .before .before .before .before .before .before .before .before .args .w) + 2) 0) (headAt (c .before .before .before .before .before .before .before .before .before .before .args .table .now) (c .before .before .before .before .before .before .before .before .before .before .args .reals .now) (c .before .before .before .before .before .before .before .before .before .before .args .counts .now) (c .before .before .before .before .before .before .before .before .before .before .args .w)) (offered (c .before .before .before .before .before .before .before .before .before .before .pre .1 .2)) (c .before .before .before .before .before .before .before .before .before .before .args .depth) (c .before .before .before .before .before .before .before .before .before .before .args .number) (c .before .before .before .before .before .before .before .before .before .before .pre .1 .2 .takes)) .bin)
+
+-- src/acceptance.rt:122:19
+bins-accept-add-inner-r-3 : (t : ℕ) → bins-accept-lts.Need-add-inner-r-3 (
+  fits-with-reads.Asked,
+  fits-with-reads.Learnt,
+  child-accepts-below t,
+  child-accepts.Post,
+) (bins-accept-at t) bins-accept.Post
+bins-accept-add-inner-r-3 t c = omega (arith, (c .before .before .before .before .before .before .before .before .before .before .pre .1 .0), (formed (gridAt (c .before .before .before .before .before .before .before .before .before .before .args .level) (c .before .before .before .before .before .before .before .before .before .before .args .table .now) (c .before .before .before .before .before .before .before .before .before .before .args .reals .now) (c .before .before .before .before .before .before .before .before .before .before .args .counts .now)) (c .before .before .before .before .before .before .before .before .before .before .args .table .now) (c .before .before .before .before .before .before .before .before .before .before .args .reals .now) (c .before .before .before .before .before .before .before .before .before .before .args .counts .now) (c .before .before .before .before .before .before .before .before .before .before .args .w) (getD (c .before .before .before .before .before .before .before .before .before .before .args .table .now) ((c .before .before .before .before .before .before .before .before .before .before .args .w) + 2) 0) (headAt (c .before .before .before .before .before .before .before .before .before .before .args .table .now) (c .before .before .before .before .before .before .before .before .before .before .args .reals .now) (c .before .before .before .before .before .before .before .before .before .before .args .counts .now) (c .before .before .before .before .before .before .before .before .before .before .args .w)) (offered (c .before .before .before .before .before .before .before .before .before .before .pre .1 .2)) (c .before .before .before .before .before .before .before .before .before .before .args .depth) (c .before .before .before .before .before .before .before .before .before .before .args .number) (c .before .before .before .before .before .before .before .before .before .before .pre .1 .2 .takes)) .bin)
+
+-- src/acceptance.rt:123:19
+bins-accept-add-inner-c : (t : ℕ) → bins-accept-lts.Need-add-inner-c (
+  fits-with-reads.Asked,
+  fits-with-reads.Learnt,
+  child-accepts-below t,
+  child-accepts.Post,
+) (bins-accept-at t) bins-accept.Post
+bins-accept-add-inner-c t c = omega (arith, (c .before .before .before .before .before .before .before .before .before .before .pre .1 .0), (formed (gridAt (c .before .before .before .before .before .before .before .before .before .before .args .level) (c .before .before .before .before .before .before .before .before .before .before .args .table .now) (c .before .before .before .before .before .before .before .before .before .before .args .reals .now) (c .before .before .before .before .before .before .before .before .before .before .args .counts .now)) (c .before .before .before .before .before .before .before .before .before .before .args .table .now) (c .before .before .before .before .before .before .before .before .before .before .args .reals .now) (c .before .before .before .before .before .before .before .before .before .before .args .counts .now) (c .before .before .before .before .before .before .before .before .before .before .args .w) (getD (c .before .before .before .before .before .before .before .before .before .before .args .table .now) ((c .before .before .before .before .before .before .before .before .before .before .args .w) + 2) 0) (headAt (c .before .before .before .before .before .before .before .before .before .before .args .table .now) (c .before .before .before .before .before .before .before .before .before .before .args .reals .now) (c .before .before .before .before .before .before .before .before .before .before .args .counts .now) (c .before .before .before .before .before .before .before .before .before .before .args .w)) (offered (c .before .before .before .before .before .before .before .before .before .before .pre .1 .2)) (c .before .before .before .before .before .before .before .before .before .before .args .depth) (c .before .before .before .before .before .before .before .before .before .before .args .number) (c .before .before .before .before .before .before .before .before .before .before .pre .1 .2 .takes)) .bin)
+
+-- src/acceptance.rt:123:27
+bins-accept-mul-inner-c : (t : ℕ) → bins-accept-lts.Need-mul-inner-c (
+  fits-with-reads.Asked,
+  fits-with-reads.Learnt,
+  child-accepts-below t,
+  child-accepts.Post,
+) (bins-accept-at t) bins-accept.Post
+bins-accept-mul-inner-c t c = omega (arith, (c .before .before .before .before .before .before .before .before .before .before .pre .1 .0), (formed (gridAt (c .before .before .before .before .before .before .before .before .before .before .args .level) (c .before .before .before .before .before .before .before .before .before .before .args .table .now) (c .before .before .before .before .before .before .before .before .before .before .args .reals .now) (c .before .before .before .before .before .before .before .before .before .before .args .counts .now)) (c .before .before .before .before .before .before .before .before .before .before .args .table .now) (c .before .before .before .before .before .before .before .before .before .before .args .reals .now) (c .before .before .before .before .before .before .before .before .before .before .args .counts .now) (c .before .before .before .before .before .before .before .before .before .before .args .w) (getD (c .before .before .before .before .before .before .before .before .before .before .args .table .now) ((c .before .before .before .before .before .before .before .before .before .before .args .w) + 2) 0) (headAt (c .before .before .before .before .before .before .before .before .before .before .args .table .now) (c .before .before .before .before .before .before .before .before .before .before .args .reals .now) (c .before .before .before .before .before .before .before .before .before .before .args .counts .now) (c .before .before .before .before .before .before .before .before .before .before .args .w)) (offered (c .before .before .before .before .before .before .before .before .before .before .pre .1 .2)) (c .before .before .before .before .before .before .before .before .before .before .args .depth) (c .before .before .before .before .before .before .before .before .before .before .args .number) (c .before .before .before .before .before .before .before .before .before .before .pre .1 .2 .takes)) .bin)
+
+-- src/acceptance.rt:123:19
+bins-accept-add-inner-c-2 : (t : ℕ) → bins-accept-lts.Need-add-inner-c-2 (
+  fits-with-reads.Asked,
+  fits-with-reads.Learnt,
+  child-accepts-below t,
+  child-accepts.Post,
+) (bins-accept-at t) bins-accept.Post
+bins-accept-add-inner-c-2 t c = omega (arith, (c .before .before .before .before .before .before .before .before .before .before .pre .1 .0), (formed (gridAt (c .before .before .before .before .before .before .before .before .before .before .args .level) (c .before .before .before .before .before .before .before .before .before .before .args .table .now) (c .before .before .before .before .before .before .before .before .before .before .args .reals .now) (c .before .before .before .before .before .before .before .before .before .before .args .counts .now)) (c .before .before .before .before .before .before .before .before .before .before .args .table .now) (c .before .before .before .before .before .before .before .before .before .before .args .reals .now) (c .before .before .before .before .before .before .before .before .before .before .args .counts .now) (c .before .before .before .before .before .before .before .before .before .before .args .w) (getD (c .before .before .before .before .before .before .before .before .before .before .args .table .now) ((c .before .before .before .before .before .before .before .before .before .before .args .w) + 2) 0) (headAt (c .before .before .before .before .before .before .before .before .before .before .args .table .now) (c .before .before .before .before .before .before .before .before .before .before .args .reals .now) (c .before .before .before .before .before .before .before .before .before .before .args .counts .now) (c .before .before .before .before .before .before .before .before .before .before .args .w)) (offered (c .before .before .before .before .before .before .before .before .before .before .pre .1 .2)) (c .before .before .before .before .before .before .before .before .before .before .args .depth) (c .before .before .before .before .before .before .before .before .before .before .args .number) (c .before .before .before .before .before .before .before .before .before .before .pre .1 .2 .takes)) .bin)
+
+-- src/acceptance.rt:124:9
+bins-accept-fits-with-requires-2 : (t : ℕ) → bins-accept-lts.Need-fits-with-requires-2 (
+  fits-with-reads.Asked,
+  fits-with-reads.Learnt,
+  child-accepts-below t,
+  child-accepts.Post,
+) (bins-accept-at t) bins-accept.Post
+unfolding binIn
+bins-accept-fits-with-requires-2 t c κs = (omega (arith, (c .before .before .before .before .before .before .before .before .before .before .pre .1 .0), (formed (gridAt (c .before .before .before .before .before .before .before .before .before .before .args .level) (c .before .before .before .before .before .before .before .before .before .before .args .table .now) (c .before .before .before .before .before .before .before .before .before .before .args .reals .now) (c .before .before .before .before .before .before .before .before .before .before .args .counts .now)) (c .before .before .before .before .before .before .before .before .before .before .args .table .now) (c .before .before .before .before .before .before .before .before .before .before .args .reals .now) (c .before .before .before .before .before .before .before .before .before .before .args .counts .now) (c .before .before .before .before .before .before .before .before .before .before .args .w) (getD (c .before .before .before .before .before .before .before .before .before .before .args .table .now) ((c .before .before .before .before .before .before .before .before .before .before .args .w) + 2) 0) (headAt (c .before .before .before .before .before .before .before .before .before .before .args .table .now) (c .before .before .before .before .before .before .before .before .before .before .args .reals .now) (c .before .before .before .before .before .before .before .before .before .before .args .counts .now) (c .before .before .before .before .before .before .before .before .before .before .args .w)) (offered (c .before .before .before .before .before .before .before .before .before .before .pre .1 .2)) (c .before .before .before .before .before .before .before .before .before .before .args .depth) (c .before .before .before .before .before .before .before .before .before .before .args .number) (c .before .before .before .before .before .before .before .before .before .before .pre .1 .2 .takes)) .bin), omega (arith, (c .before .before .before .before .before .before .before .before .before .before .pre .1 .0), (formed (gridAt (c .before .before .before .before .before .before .before .before .before .before .args .level) (c .before .before .before .before .before .before .before .before .before .before .args .table .now) (c .before .before .before .before .before .before .before .before .before .before .args .reals .now) (c .before .before .before .before .before .before .before .before .before .before .args .counts .now)) (c .before .before .before .before .before .before .before .before .before .before .args .table .now) (c .before .before .before .before .before .before .before .before .before .before .args .reals .now) (c .before .before .before .before .before .before .before .before .before .before .args .counts .now) (c .before .before .before .before .before .before .before .before .before .before .args .w) (getD (c .before .before .before .before .before .before .before .before .before .before .args .table .now) ((c .before .before .before .before .before .before .before .before .before .before .args .w) + 2) 0) (headAt (c .before .before .before .before .before .before .before .before .before .before .args .table .now) (c .before .before .before .before .before .before .before .before .before .before .args .reals .now) (c .before .before .before .before .before .before .before .before .before .before .args .counts .now) (c .before .before .before .before .before .before .before .before .before .before .args .w)) (offered (c .before .before .before .before .before .before .before .before .before .before .pre .1 .2)) (c .before .before .before .before .before .before .before .before .before .before .args .depth) (c .before .before .before .before .before .before .before .before .before .before .args .number) (c .before .before .before .before .before .before .before .before .before .before .pre .1 .2 .takes)) .bin), spot-sound (gridAt (c .before .before .before .before .before .before .before .before .before .before .args .level) (c .before .before .before .before .before .before .before .before .before .before .args .table .now) (c .before .before .before .before .before .before .before .before .before .before .args .reals .now) (c .before .before .before .before .before .before .before .before .before .before .args .counts .now)) (c .before .before .before .before .before .before .before .before .before .before .args .table .now) (c .before .before .before .before .before .before .before .before .before .before .args .reals .now) (c .before .before .before .before .before .before .before .before .before .before .args .counts .now) (c .before .before .before .before .before .before .before .before .before .before .args .w) (getD (c .before .before .before .before .before .before .before .before .before .before .args .table .now) ((c .before .before .before .before .before .before .before .before .before .before .args .w) + 2) 0) (headAt (c .before .before .before .before .before .before .before .before .before .before .args .table .now) (c .before .before .before .before .before .before .before .before .before .before .args .reals .now) (c .before .before .before .before .before .before .before .before .before .before .args .counts .now) (c .before .before .before .before .before .before .before .before .before .before .args .w)) (offered (c .before .before .before .before .before .before .before .before .before .before .pre .1 .2)) (c .before .before .before .before .before .before .before .before .before .before .args .depth) (c .before .before .before .before .before .before .before .before .before .before .args .number) (c .before .before .before .before .before .before .before .before .before .before .pre .1 .2 .takes), (c .before .before .before .before .before .before .before .before .before .before .pre .1 .2 .takes) .number)
+
+-- src/acceptance.rt:125:22
+bins-accept-add-link : (t : ℕ) → bins-accept-lts.Need-add-link (
+  fits-with-reads.Asked,
+  fits-with-reads.Learnt,
+  child-accepts-below t,
+  child-accepts.Post,
+) (bins-accept-at t) bins-accept.Post
+bins-accept-add-link t c = omega (arith, (c .before .before .before .before .before .before .before .before .before .before .before .pre .1 .0), (formed (gridAt (c .before .before .before .before .before .before .before .before .before .before .before .args .level) (c .before .before .before .before .before .before .before .before .before .before .before .args .table .now) (c .before .before .before .before .before .before .before .before .before .before .before .args .reals .now) (c .before .before .before .before .before .before .before .before .before .before .before .args .counts .now)) (c .before .before .before .before .before .before .before .before .before .before .before .args .table .now) (c .before .before .before .before .before .before .before .before .before .before .before .args .reals .now) (c .before .before .before .before .before .before .before .before .before .before .before .args .counts .now) (c .before .before .before .before .before .before .before .before .before .before .before .args .w) (getD (c .before .before .before .before .before .before .before .before .before .before .before .args .table .now) ((c .before .before .before .before .before .before .before .before .before .before .before .args .w) + 2) 0) (headAt (c .before .before .before .before .before .before .before .before .before .before .before .args .table .now) (c .before .before .before .before .before .before .before .before .before .before .before .args .reals .now) (c .before .before .before .before .before .before .before .before .before .before .before .args .counts .now) (c .before .before .before .before .before .before .before .before .before .before .before .args .w)) (offered (c .before .before .before .before .before .before .before .before .before .before .before .pre .1 .2)) (c .before .before .before .before .before .before .before .before .before .before .before .args .depth) (c .before .before .before .before .before .before .before .before .before .before .before .args .number) (c .before .before .before .before .before .before .before .before .before .before .before .pre .1 .2 .takes)) .bin)
+
+-- src/acceptance.rt:125:22
+bins-accept-add-link-2 : (t : ℕ) → bins-accept-lts.Need-add-link-2 (
+  fits-with-reads.Asked,
+  fits-with-reads.Learnt,
+  child-accepts-below t,
+  child-accepts.Post,
+) (bins-accept-at t) bins-accept.Post
+bins-accept-add-link-2 t c = omega (arith, (c .before .before .before .before .before .before .before .before .before .before .before .pre .1 .0), (formed (gridAt (c .before .before .before .before .before .before .before .before .before .before .before .args .level) (c .before .before .before .before .before .before .before .before .before .before .before .args .table .now) (c .before .before .before .before .before .before .before .before .before .before .before .args .reals .now) (c .before .before .before .before .before .before .before .before .before .before .before .args .counts .now)) (c .before .before .before .before .before .before .before .before .before .before .before .args .table .now) (c .before .before .before .before .before .before .before .before .before .before .before .args .reals .now) (c .before .before .before .before .before .before .before .before .before .before .before .args .counts .now) (c .before .before .before .before .before .before .before .before .before .before .before .args .w) (getD (c .before .before .before .before .before .before .before .before .before .before .before .args .table .now) ((c .before .before .before .before .before .before .before .before .before .before .before .args .w) + 2) 0) (headAt (c .before .before .before .before .before .before .before .before .before .before .before .args .table .now) (c .before .before .before .before .before .before .before .before .before .before .before .args .reals .now) (c .before .before .before .before .before .before .before .before .before .before .before .args .counts .now) (c .before .before .before .before .before .before .before .before .before .before .before .args .w)) (offered (c .before .before .before .before .before .before .before .before .before .before .before .pre .1 .2)) (c .before .before .before .before .before .before .before .before .before .before .before .args .depth) (c .before .before .before .before .before .before .before .before .before .before .before .args .number) (c .before .before .before .before .before .before .before .before .before .before .before .pre .1 .2 .takes)) .bin)
+
+-- src/acceptance.rt:125:16
+bins-accept-mul-link : (t : ℕ) → bins-accept-lts.Need-mul-link (
+  fits-with-reads.Asked,
+  fits-with-reads.Learnt,
+  child-accepts-below t,
+  child-accepts.Post,
+) (bins-accept-at t) bins-accept.Post
+bins-accept-mul-link t c = omega (arith, (c .before .before .before .before .before .before .before .before .before .before .before .pre .1 .0), (formed (gridAt (c .before .before .before .before .before .before .before .before .before .before .before .args .level) (c .before .before .before .before .before .before .before .before .before .before .before .args .table .now) (c .before .before .before .before .before .before .before .before .before .before .before .args .reals .now) (c .before .before .before .before .before .before .before .before .before .before .before .args .counts .now)) (c .before .before .before .before .before .before .before .before .before .before .before .args .table .now) (c .before .before .before .before .before .before .before .before .before .before .before .args .reals .now) (c .before .before .before .before .before .before .before .before .before .before .before .args .counts .now) (c .before .before .before .before .before .before .before .before .before .before .before .args .w) (getD (c .before .before .before .before .before .before .before .before .before .before .before .args .table .now) ((c .before .before .before .before .before .before .before .before .before .before .before .args .w) + 2) 0) (headAt (c .before .before .before .before .before .before .before .before .before .before .before .args .table .now) (c .before .before .before .before .before .before .before .before .before .before .before .args .reals .now) (c .before .before .before .before .before .before .before .before .before .before .before .args .counts .now) (c .before .before .before .before .before .before .before .before .before .before .before .args .w)) (offered (c .before .before .before .before .before .before .before .before .before .before .before .pre .1 .2)) (c .before .before .before .before .before .before .before .before .before .before .before .args .depth) (c .before .before .before .before .before .before .before .before .before .before .before .args .number) (c .before .before .before .before .before .before .before .before .before .before .before .pre .1 .2 .takes)) .bin)
+
+-- src/acceptance.rt:125:16
+bins-accept-shared-slice-read-link : (t : ℕ) → bins-accept-lts.Need-shared-slice-read-link (
+  fits-with-reads.Asked,
+  fits-with-reads.Learnt,
+  child-accepts-below t,
+  child-accepts.Post,
+) (bins-accept-at t) bins-accept.Post
+bins-accept-shared-slice-read-link t c = omega (arith, (c .before .before .before .before .before .before .before .before .before .before .before .before .pre .1 .0), (formed (gridAt (c .before .before .before .before .before .before .before .before .before .before .before .before .args .level) (c .before .before .before .before .before .before .before .before .before .before .before .before .args .table .now) (c .before .before .before .before .before .before .before .before .before .before .before .before .args .reals .now) (c .before .before .before .before .before .before .before .before .before .before .before .before .args .counts .now)) (c .before .before .before .before .before .before .before .before .before .before .before .before .args .table .now) (c .before .before .before .before .before .before .before .before .before .before .before .before .args .reals .now) (c .before .before .before .before .before .before .before .before .before .before .before .before .args .counts .now) (c .before .before .before .before .before .before .before .before .before .before .before .before .args .w) (getD (c .before .before .before .before .before .before .before .before .before .before .before .before .args .table .now) ((c .before .before .before .before .before .before .before .before .before .before .before .before .args .w) + 2) 0) (headAt (c .before .before .before .before .before .before .before .before .before .before .before .before .args .table .now) (c .before .before .before .before .before .before .before .before .before .before .before .before .args .reals .now) (c .before .before .before .before .before .before .before .before .before .before .before .before .args .counts .now) (c .before .before .before .before .before .before .before .before .before .before .before .before .args .w)) (offered (c .before .before .before .before .before .before .before .before .before .before .before .before .pre .1 .2)) (c .before .before .before .before .before .before .before .before .before .before .before .before .args .depth) (c .before .before .before .before .before .before .before .before .before .before .before .before .args .number) (c .before .before .before .before .before .before .before .before .before .before .before .before .pre .1 .2 .takes)) .bin)
+
+-- src/acceptance.rt:135:9
+bins-accept-add-child-accepts : (t : ℕ) → bins-accept-lts.Need-add-child-accepts (
+  fits-with-reads.Asked,
+  fits-with-reads.Learnt,
+  child-accepts-below t,
+  child-accepts.Post,
+) (bins-accept-at t) bins-accept.Post
+bins-accept-add-child-accepts t c = omega (arith, c .before .before .before .before .before .before .before .before .before .before .before .before .pre .1 .1)
+
+-- src/acceptance.rt:126:9
+bins-accept-child-accepts-requires : (t : ℕ) → bins-accept-lts.Need-child-accepts-requires (
+  fits-with-reads.Asked,
+  fits-with-reads.Learnt,
+  child-accepts-below t,
+  child-accepts.Post,
+) (bins-accept-at t) bins-accept.Post
+unfolding ChildLaid
+bins-accept-child-accepts-requires t c κs = (omega (arith, c .before .before .before .before .before .before .before .before .before .before .before .before .before .pre .0), (λ z. (c .before .before .before .before .before .before .before .before .before .before .before .before .before .pre .1 .0) .children (getD (c .before .before .before .before .before .before .before .before .before .before .before .before .before .args .path .now) (c .before .before .before .before .before .before .before .before .before .before .before .before .before .args .depth) 0) ((formed (gridAt (c .before .before .before .before .before .before .before .before .before .before .before .before .before .args .level) (c .before .before .before .before .before .before .before .before .before .before .before .before .before .args .table .now) (c .before .before .before .before .before .before .before .before .before .before .before .before .before .args .reals .now) (c .before .before .before .before .before .before .before .before .before .before .before .before .before .args .counts .now)) (c .before .before .before .before .before .before .before .before .before .before .before .before .before .args .table .now) (c .before .before .before .before .before .before .before .before .before .before .before .before .before .args .reals .now) (c .before .before .before .before .before .before .before .before .before .before .before .before .before .args .counts .now) (c .before .before .before .before .before .before .before .before .before .before .before .before .before .args .w) (getD (c .before .before .before .before .before .before .before .before .before .before .before .before .before .args .table .now) ((c .before .before .before .before .before .before .before .before .before .before .before .before .before .args .w) + 2) 0) (headAt (c .before .before .before .before .before .before .before .before .before .before .before .before .before .args .table .now) (c .before .before .before .before .before .before .before .before .before .before .before .before .before .args .reals .now) (c .before .before .before .before .before .before .before .before .before .before .before .before .before .args .counts .now) (c .before .before .before .before .before .before .before .before .before .before .before .before .before .args .w)) (offered (c .before .before .before .before .before .before .before .before .before .before .before .before .before .pre .1 .2)) (c .before .before .before .before .before .before .before .before .before .before .before .before .before .args .depth) (c .before .before .before .before .before .before .before .before .before .before .before .before .before .args .number) (c .before .before .before .before .before .before .before .before .before .before .before .before .before .pre .1 .2 .takes)) .bin) z, omega (arith, c .before .before .before .before .before .before .before .before .before .before .before .before .before .pre .1 .1), offered-below (gridAt (c .before .before .before .before .before .before .before .before .before .before .before .before .before .args .level) (c .before .before .before .before .before .before .before .before .before .before .before .before .before .args .table .now) (c .before .before .before .before .before .before .before .before .before .before .before .before .before .args .reals .now) (c .before .before .before .before .before .before .before .before .before .before .before .before .before .args .counts .now)) (c .before .before .before .before .before .before .before .before .before .before .before .before .before .args .table .now) (c .before .before .before .before .before .before .before .before .before .before .before .before .before .args .reals .now) (c .before .before .before .before .before .before .before .before .before .before .before .before .before .args .counts .now) (c .before .before .before .before .before .before .before .before .before .before .before .before .before .args .w) (getD (c .before .before .before .before .before .before .before .before .before .before .before .before .before .args .table .now) (c .before .before .before .before .before .before .before .before .before .before .before .before .before .args .w + 2) 0) (headAt (c .before .before .before .before .before .before .before .before .before .before .before .before .before .args .table .now) (c .before .before .before .before .before .before .before .before .before .before .before .before .before .args .reals .now) (c .before .before .before .before .before .before .before .before .before .before .before .before .before .args .counts .now) (c .before .before .before .before .before .before .before .before .before .before .before .before .before .args .w)) (c .before .before .before .before .before .before .before .before .before .before .before .before .before .pre .1 .2), c .before .before .before .before .before .before .before .before .before .before .before .before .before .pre .1 .3))
+
+-- src/acceptance.rt:92:1
+bins-accept-returns : (t : ℕ) → bins-accept-lts.Need-returns (
+  fits-with-reads.Asked,
+  fits-with-reads.Learnt,
+  child-accepts-below t,
+  child-accepts.Post,
+) (bins-accept-at t) bins-accept.Post
+unfolding binIn headAt
+bins-accept-returns t c s = (ap₂ _&&_ (c .before .before .before .before .fits-with .ensures) (ap₂ _&&_ (c .before .before .before .fits-with2 .ensures) (c .child-accepts .ensures (offered-below (gridAt (c .before .before .before .before .before .before .before .before .before .before .before .before .before .before .args .level) (c .before .before .before .before .before .before .before .before .before .before .before .before .before .before .args .table .now) (c .before .before .before .before .before .before .before .before .before .before .before .before .before .before .args .reals .now) (c .before .before .before .before .before .before .before .before .before .before .before .before .before .before .args .counts .now)) (c .before .before .before .before .before .before .before .before .before .before .before .before .before .before .args .table .now) (c .before .before .before .before .before .before .before .before .before .before .before .before .before .before .args .reals .now) (c .before .before .before .before .before .before .before .before .before .before .before .before .before .before .args .counts .now) (c .before .before .before .before .before .before .before .before .before .before .before .before .before .before .args .w) (getD (c .before .before .before .before .before .before .before .before .before .before .before .before .before .before .args .table .now) (c .before .before .before .before .before .before .before .before .before .before .before .before .before .before .args .w + 2) 0) (headAt (c .before .before .before .before .before .before .before .before .before .before .before .before .before .before .args .table .now) (c .before .before .before .before .before .before .before .before .before .before .before .before .before .before .args .reals .now) (c .before .before .before .before .before .before .before .before .before .before .before .before .before .before .args .counts .now) (c .before .before .before .before .before .before .before .before .before .before .before .before .before .before .args .w)) s) .0)) ∙ bins-told (gridAt (c .before .before .before .before .before .before .before .before .before .before .before .before .before .before .args .level) (c .before .before .before .before .before .before .before .before .before .before .before .before .before .before .args .table .now) (c .before .before .before .before .before .before .before .before .before .before .before .before .before .before .args .reals .now) (c .before .before .before .before .before .before .before .before .before .before .before .before .before .before .args .counts .now)) (c .before .before .before .before .before .before .before .before .before .before .before .before .before .before .args .table .now) (c .before .before .before .before .before .before .before .before .before .before .before .before .before .before .args .reals .now) (c .before .before .before .before .before .before .before .before .before .before .before .before .before .before .args .counts .now) (c .before .before .before .before .before .before .before .before .before .before .before .before .before .before .args .w) (getD (c .before .before .before .before .before .before .before .before .before .before .before .before .before .before .args .table .now) ((c .before .before .before .before .before .before .before .before .before .before .before .before .before .before .args .w) + 2) 0) (headAt (c .before .before .before .before .before .before .before .before .before .before .before .before .before .before .args .table .now) (c .before .before .before .before .before .before .before .before .before .before .before .before .before .before .args .reals .now) (c .before .before .before .before .before .before .before .before .before .before .before .before .before .before .args .counts .now) (c .before .before .before .before .before .before .before .before .before .before .before .before .before .before .args .w)) (offered s) (c .before .before .before .before .before .before .before .before .before .before .before .before .before .before .args .depth) (c .before .before .before .before .before .before .before .before .before .before .before .before .before .before .args .number) (s .takes) (c .before .before .before .before .before .before .before .before .before .before .before .before .before .before .args .evaluation), bins-found (gridAt (c .before .before .before .before .before .before .before .before .before .before .before .before .before .before .args .level) (c .before .before .before .before .before .before .before .before .before .before .before .before .before .before .args .table .now) (c .before .before .before .before .before .before .before .before .before .before .before .before .before .before .args .reals .now) (c .before .before .before .before .before .before .before .before .before .before .before .before .before .before .args .counts .now)) (c .before .before .before .before .before .before .before .before .before .before .before .before .before .before .args .table .now) (c .before .before .before .before .before .before .before .before .before .before .before .before .before .before .args .reals .now) (c .before .before .before .before .before .before .before .before .before .before .before .before .before .before .args .counts .now) (c .before .before .before .before .before .before .before .before .before .before .before .before .before .before .args .w) (getD (c .before .before .before .before .before .before .before .before .before .before .before .before .before .before .args .table .now) ((c .before .before .before .before .before .before .before .before .before .before .before .before .before .before .args .w) + 2) 0) (headAt (c .before .before .before .before .before .before .before .before .before .before .before .before .before .before .args .table .now) (c .before .before .before .before .before .before .before .before .before .before .before .before .before .before .args .reals .now) (c .before .before .before .before .before .before .before .before .before .before .before .before .before .before .args .counts .now) (c .before .before .before .before .before .before .before .before .before .before .before .before .before .before .args .w)) (offered s) (c .before .before .before .before .before .before .before .before .before .before .before .before .before .before .args .depth) (c .before .before .before .before .before .before .before .before .before .before .before .before .before .before .args .number) (s .takes) (c .child-accepts .last .1 .1 .1 .1 .1 .1 .1 .1 .1 .1 .1 .1 .0) (c .child-accepts .ensures (offered-below (gridAt (c .before .before .before .before .before .before .before .before .before .before .before .before .before .before .args .level) (c .before .before .before .before .before .before .before .before .before .before .before .before .before .before .args .table .now) (c .before .before .before .before .before .before .before .before .before .before .before .before .before .before .args .reals .now) (c .before .before .before .before .before .before .before .before .before .before .before .before .before .before .args .counts .now)) (c .before .before .before .before .before .before .before .before .before .before .before .before .before .before .args .table .now) (c .before .before .before .before .before .before .before .before .before .before .before .before .before .before .args .reals .now) (c .before .before .before .before .before .before .before .before .before .before .before .before .before .before .args .counts .now) (c .before .before .before .before .before .before .before .before .before .before .before .before .before .before .args .w) (getD (c .before .before .before .before .before .before .before .before .before .before .before .before .before .before .args .table .now) (c .before .before .before .before .before .before .before .before .before .before .before .before .before .before .args .w + 2) 0) (headAt (c .before .before .before .before .before .before .before .before .before .before .before .before .before .before .args .table .now) (c .before .before .before .before .before .before .before .before .before .before .before .before .before .before .args .reals .now) (c .before .before .before .before .before .before .before .before .before .before .before .before .before .before .args .counts .now) (c .before .before .before .before .before .before .before .before .before .before .before .before .before .before .args .w)) s) .1))
+
+-- src/acceptance.rt:70:9
+child-accepts-returns : (t : ℕ) → child-accepts-lts.Need-returns (
+  grid-accepts-below t,
+  grid-accepts.Post,
+) (child-accepts-at t) child-accepts.Post
+child-accepts-returns t c s = (none-told (gridAt (c .before .before .before .before .args .level) (c .before .before .before .before .args .table .now) (c .before .before .before .before .args .reals .now) (c .before .before .before .before .args .counts .now)) (c .before .before .before .before .args .link) (pathLeft (offeredChild s) (c .before .before .before .before .args .depth)) (weightsLeft (offeredChild s) (c .before .before .before .before .args .depth)) (placesIn (offeredChild s)) (c .before .before .before .before .args .evaluation) (c .before .before .before .before .args .number) (c .if1 .taken), none-found (gridAt (c .before .before .before .before .args .level) (c .before .before .before .before .args .table .now) (c .before .before .before .before .args .reals .now) (c .before .before .before .before .args .counts .now)) (c .before .before .before .before .args .link) (offeredChild s) (c .before .before .before .before .args .depth) (c .before .before .before .before .args .spots .now) (c .if1 .taken))
+
+-- src/acceptance.rt:72:5
+child-accepts-grid-accepts-requires : (t : ℕ) → child-accepts-lts.Need-grid-accepts-requires (
+  grid-accepts-below t,
+  grid-accepts.Post,
+) (child-accepts-at t) child-accepts.Post
+unfolding ChildLaid
+child-accepts-grid-accepts-requires t c κs = (omega (arith, c .before .before .before .before .before .pre .0), (c .before .before .before .before .before .pre .1 .0 (c .before .if1 .left), c .before .before .before .before .before .pre .1 .1, offered-grid (gridAt (c .before .before .before .before .before .args .level) (c .before .before .before .before .before .args .table .now) (c .before .before .before .before .before .args .reals .now) (c .before .before .before .before .before .args .counts .now)) (c .before .before .before .before .before .args .link) (c .before .if1 .left) (c .before .before .before .before .before .pre .1 .2), c .before .before .before .before .before .pre .1 .3))
+
+-- src/acceptance.rt:49:1
+child-accepts-returns-2 : (t : ℕ) → child-accepts-lts.Need-returns-2 (
+  grid-accepts-below t,
+  grid-accepts.Post,
+) (child-accepts-at t) child-accepts.Post
+child-accepts-returns-2 t c s = (c .grid-accepts .ensures (offered-grid (gridAt (c .before .before .before .before .before .before .args .level) (c .before .before .before .before .before .before .args .table .now) (c .before .before .before .before .before .before .args .reals .now) (c .before .before .before .before .before .before .args .counts .now)) (c .before .before .before .before .before .before .args .link) (c .before .before .if1 .left) s) .0 ∙ grid-told (gridAt (c .before .before .before .before .before .before .args .level) (c .before .before .before .before .before .before .args .table .now) (c .before .before .before .before .before .before .args .reals .now) (c .before .before .before .before .before .before .args .counts .now)) (c .before .before .before .before .before .before .args .link) (pathLeft (offeredChild s) (c .before .before .before .before .before .before .args .depth)) (weightsLeft (offeredChild s) (c .before .before .before .before .before .before .args .depth)) (placesIn (offeredChild s)) (c .before .before .before .before .before .before .args .evaluation) (c .before .before .before .before .before .before .args .number) (c .before .before .if1 .left), grid-found (gridAt (c .before .before .before .before .before .before .args .level) (c .before .before .before .before .before .before .args .table .now) (c .before .before .before .before .before .before .args .reals .now) (c .before .before .before .before .before .before .args .counts .now)) (c .before .before .before .before .before .before .args .link) (offeredChild s) (c .before .before .before .before .before .before .args .depth) (c .grid-accepts .last .1 .1 .1 .1 .1 .1 .1 .1 .1 .1 .1 .1 .0) (c .before .before .if1 .left) (c .grid-accepts .ensures (offered-grid (gridAt (c .before .before .before .before .before .before .args .level) (c .before .before .before .before .before .before .args .table .now) (c .before .before .before .before .before .before .args .reals .now) (c .before .before .before .before .before .before .args .counts .now)) (c .before .before .before .before .before .before .args .link) (c .before .before .if1 .left) s) .1))
+
+-- src/acceptance.rt:167:8
+grid-accepts-mul-if1 : (t : ℕ) → grid-accepts-lts.Need-mul-if1 (
+  axes-accept-reads.Asked,
+  axes-accept-reads.Learnt,
+  bins-accept-below t,
+  bins-accept.Post,
+) (grid-accepts-at t) grid-accepts.Post
+grid-accepts-mul-if1 t c = let q = (laid-head (c .before .before .before .args .level) (c .before .before .before .args .table .now) (length (c .before .before .before .args .reals .now)) (length (c .before .before .before .args .counts .now)) (c .before .before .before .args .w) (c .before .before .before .pre .1 .0)) in omega arith
+
+-- src/acceptance.rt:167:8
+grid-accepts-shared-slice-read-if1 : (t : ℕ) → grid-accepts-lts.Need-shared-slice-read-if1 (
+  axes-accept-reads.Asked,
+  axes-accept-reads.Learnt,
+  bins-accept-below t,
+  bins-accept.Post,
+) (grid-accepts-at t) grid-accepts.Post
+grid-accepts-shared-slice-read-if1 t c = let q = (laid-head (c .before .before .before .before .args .level) (c .before .before .before .before .args .table .now) (length (c .before .before .before .before .args .reals .now)) (length (c .before .before .before .before .args .counts .now)) (c .before .before .before .before .args .w) (c .before .before .before .before .pre .1 .0)) in omega arith
+
+-- src/acceptance.rt:168:9
+grid-accepts-axes-accept-requires : (t : ℕ) → grid-accepts-lts.Need-axes-accept-requires (
+  axes-accept-reads.Asked,
+  axes-accept-reads.Learnt,
+  bins-accept-below t,
+  bins-accept.Post,
+) (grid-accepts-at t) grid-accepts.Post
+grid-accepts-axes-accept-requires t c κs = ((laid-axes (c .before .before .before .before .before .before .args .level) (c .before .before .before .before .before .before .args .table .now) (length (c .before .before .before .before .before .before .args .reals .now)) (length (c .before .before .before .before .before .before .args .counts .now)) (c .before .before .before .before .before .before .args .w) (c .before .before .before .before .before .before .pre .1 .0) (c .before .if1 .taken)), omega (arith, c .before .before .before .before .before .before .pre .1 .1), offered-as (node-axes (c .before .before .before .before .before .before .args .level) (c .before .before .before .before .before .before .args .table .now) (c .before .before .before .before .before .before .args .reals .now) (c .before .before .before .before .before .before .args .counts .now) (c .before .before .before .before .before .before .args .w) (c .before .if1 .taken)) (c .before .before .before .before .before .before .pre .1 .2), c .before .before .before .before .before .before .pre .1 .3)
+
+-- src/acceptance.rt:168:9
+grid-accepts-returns : (t : ℕ) → grid-accepts-lts.Need-returns (
+  axes-accept-reads.Asked,
+  axes-accept-reads.Learnt,
+  bins-accept-below t,
+  bins-accept.Post,
+) (grid-accepts-at t) grid-accepts.Post
+grid-accepts-returns t c s = (c .axes-accept .ensures (offered-as (node-axes (c .before .before .before .before .before .before .before .args .level) (c .before .before .before .before .before .before .before .args .table .now) (c .before .before .before .before .before .before .before .args .reals .now) (c .before .before .before .before .before .before .before .args .counts .now) (c .before .before .before .before .before .before .before .args .w) (c .before .before .if1 .taken)) s) .0 ∙ ap (λ (g : Grid). keptGrid (trainGrid g (pathLeft (offered s) (c .before .before .before .before .before .before .before .args .depth)) (weightsLeft (offered s) (c .before .before .before .before .before .before .before .args .depth)) (placesIn (offered s)) (c .before .before .before .before .before .before .before .args .evaluation) (c .before .before .before .before .before .before .before .args .number))) (sym (node-axes (c .before .before .before .before .before .before .before .args .level) (c .before .before .before .before .before .before .before .args .table .now) (c .before .before .before .before .before .before .before .args .reals .now) (c .before .before .before .before .before .before .before .args .counts .now) (c .before .before .before .before .before .before .before .args .w) (c .before .before .if1 .taken))), subst (λ (g : Grid). Found (c .axes-accept .last .1 .1 .1 .1 .1 .1 .1 .1 .1 .1 .1 .0) g (offered s) (c .before .before .before .before .before .before .before .args .depth)) (sym (node-axes (c .before .before .before .before .before .before .before .args .level) (c .before .before .before .before .before .before .before .args .table .now) (c .before .before .before .before .before .before .before .args .reals .now) (c .before .before .before .before .before .before .before .args .counts .now) (c .before .before .before .before .before .before .before .args .w) (c .before .before .if1 .taken))) (c .axes-accept .ensures (offered-as (node-axes (c .before .before .before .before .before .before .before .args .level) (c .before .before .before .before .before .before .before .args .table .now) (c .before .before .before .before .before .before .before .args .reals .now) (c .before .before .before .before .before .before .before .args .counts .now) (c .before .before .before .before .before .before .before .args .w) (c .before .before .if1 .taken)) s) .1))
+
+-- src/acceptance.rt:174:9
+grid-accepts-sub-bins-accept : (t : ℕ) → grid-accepts-lts.Need-sub-bins-accept (
+  axes-accept-reads.Asked,
+  axes-accept-reads.Learnt,
+  bins-accept-below t,
+  bins-accept.Post,
+) (grid-accepts-at t) grid-accepts.Post
+grid-accepts-sub-bins-accept t c = omega (arith, (laid-bins (c .before .before .before .before .before .args .level) (c .before .before .before .before .before .args .table .now) (length (c .before .before .before .before .before .args .reals .now)) (length (c .before .before .before .before .before .args .counts .now)) (c .before .before .before .before .before .args .w) (c .before .before .before .before .before .pre .1 .0) (c .if1 .left)) .level)
+
+-- src/acceptance.rt:170:5
+grid-accepts-bins-accept-requires : (t : ℕ) → grid-accepts-lts.Need-bins-accept-requires (
+  axes-accept-reads.Asked,
+  axes-accept-reads.Learnt,
+  bins-accept-below t,
+  bins-accept.Post,
+) (grid-accepts-at t) grid-accepts.Post
+grid-accepts-bins-accept-requires t c κs = (omega (arith, c .before .before .before .before .before .before .pre .0, (laid-bins (c .before .before .before .before .before .before .args .level) (c .before .before .before .before .before .before .args .table .now) (length (c .before .before .before .before .before .before .args .reals .now)) (length (c .before .before .before .before .before .before .args .counts .now)) (c .before .before .before .before .before .before .args .w) (c .before .before .before .before .before .before .pre .1 .0) (c .before .if1 .left)) .level), ((laid-bins (c .before .before .before .before .before .before .args .level) (c .before .before .before .before .before .before .args .table .now) (length (c .before .before .before .before .before .before .args .reals .now)) (length (c .before .before .before .before .before .before .args .counts .now)) (c .before .before .before .before .before .before .args .w) (c .before .before .before .before .before .before .pre .1 .0) (c .before .if1 .left)) .bins, omega (arith, c .before .before .before .before .before .before .pre .1 .1, (laid-bins (c .before .before .before .before .before .before .args .level) (c .before .before .before .before .before .before .args .table .now) (length (c .before .before .before .before .before .before .args .reals .now)) (length (c .before .before .before .before .before .before .args .counts .now)) (c .before .before .before .before .before .before .args .w) (c .before .before .before .before .before .before .pre .1 .0) (c .before .if1 .left)) .level), offered-as (node-bins (c .before .before .before .before .before .before .args .level) (c .before .before .before .before .before .before .args .table .now) (c .before .before .before .before .before .before .args .reals .now) (c .before .before .before .before .before .before .args .counts .now) (c .before .before .before .before .before .before .args .w) (c .before .if1 .left) ((laid-bins (c .before .before .before .before .before .before .args .level) (c .before .before .before .before .before .before .args .table .now) (length (c .before .before .before .before .before .before .args .reals .now)) (length (c .before .before .before .before .before .before .args .counts .now)) (c .before .before .before .before .before .before .args .w) (c .before .before .before .before .before .before .pre .1 .0) (c .before .if1 .left)) .level)) (c .before .before .before .before .before .before .pre .1 .2), c .before .before .before .before .before .before .pre .1 .3))
+
+-- src/acceptance.rt:147:1
+grid-accepts-returns-2 : (t : ℕ) → grid-accepts-lts.Need-returns-2 (
+  axes-accept-reads.Asked,
+  axes-accept-reads.Learnt,
+  bins-accept-below t,
+  bins-accept.Post,
+) (grid-accepts-at t) grid-accepts.Post
+grid-accepts-returns-2 t c s = (c .bins-accept .ensures (offered-as (node-bins (c .before .before .before .before .before .before .before .args .level) (c .before .before .before .before .before .before .before .args .table .now) (c .before .before .before .before .before .before .before .args .reals .now) (c .before .before .before .before .before .before .before .args .counts .now) (c .before .before .before .before .before .before .before .args .w) (c .before .before .if1 .left) ((laid-bins (c .before .before .before .before .before .before .before .args .level) (c .before .before .before .before .before .before .before .args .table .now) (length (c .before .before .before .before .before .before .before .args .reals .now)) (length (c .before .before .before .before .before .before .before .args .counts .now)) (c .before .before .before .before .before .before .before .args .w) (c .before .before .before .before .before .before .before .pre .1 .0) (c .before .before .if1 .left)) .level)) s) .0 ∙ ap (λ (g : Grid). keptGrid (trainGrid g (pathLeft (offered s) (c .before .before .before .before .before .before .before .args .depth)) (weightsLeft (offered s) (c .before .before .before .before .before .before .before .args .depth)) (placesIn (offered s)) (c .before .before .before .before .before .before .before .args .evaluation) (c .before .before .before .before .before .before .before .args .number))) (sym (node-bins (c .before .before .before .before .before .before .before .args .level) (c .before .before .before .before .before .before .before .args .table .now) (c .before .before .before .before .before .before .before .args .reals .now) (c .before .before .before .before .before .before .before .args .counts .now) (c .before .before .before .before .before .before .before .args .w) (c .before .before .if1 .left) ((laid-bins (c .before .before .before .before .before .before .before .args .level) (c .before .before .before .before .before .before .before .args .table .now) (length (c .before .before .before .before .before .before .before .args .reals .now)) (length (c .before .before .before .before .before .before .before .args .counts .now)) (c .before .before .before .before .before .before .before .args .w) (c .before .before .before .before .before .before .before .pre .1 .0) (c .before .before .if1 .left)) .level))), subst (λ (g : Grid). Found (c .bins-accept .last .1 .1 .1 .1 .1 .1 .1 .1 .1 .1 .1 .1 .0) g (offered s) (c .before .before .before .before .before .before .before .args .depth)) (sym (node-bins (c .before .before .before .before .before .before .before .args .level) (c .before .before .before .before .before .before .before .args .table .now) (c .before .before .before .before .before .before .before .args .reals .now) (c .before .before .before .before .before .before .before .args .counts .now) (c .before .before .before .before .before .before .before .args .w) (c .before .before .if1 .left) ((laid-bins (c .before .before .before .before .before .before .before .args .level) (c .before .before .before .before .before .before .before .args .table .now) (length (c .before .before .before .before .before .before .before .args .reals .now)) (length (c .before .before .before .before .before .before .before .args .counts .now)) (c .before .before .before .before .before .before .before .args .w) (c .before .before .before .before .before .before .before .pre .1 .0) (c .before .before .if1 .left)) .level))) (c .bins-accept .ensures (offered-as (node-bins (c .before .before .before .before .before .before .before .args .level) (c .before .before .before .before .before .before .before .args .table .now) (c .before .before .before .before .before .before .before .args .reals .now) (c .before .before .before .before .before .before .before .args .counts .now) (c .before .before .before .before .before .before .before .args .w) (c .before .before .if1 .left) ((laid-bins (c .before .before .before .before .before .before .before .args .level) (c .before .before .before .before .before .before .before .args .table .now) (length (c .before .before .before .before .before .before .before .args .reals .now)) (length (c .before .before .before .before .before .before .before .args .counts .now)) (c .before .before .before .before .before .before .before .args .w) (c .before .before .before .before .before .before .before .pre .1 .0) (c .before .before .if1 .left)) .level)) s) .1))
+
+pub +bins-accept+child-accepts+grid-accepts-spec : {M : Type 1} → statement M
++bins-accept+child-accepts+grid-accepts-spec =
+    close μ-bins-accept μ-child-accepts μ-grid-accepts (λ t. bins-accept-lts.spec (
+      fits-with-reads.Asked,
+      fits-with-reads.Learnt,
+      child-accepts-below t,
+      child-accepts.Post,
+    )
+    (bins-accept-at t)
+    bins-accept.Post
+    (bins-accept-mul-bin t)
+    (bins-accept-element-copy-out-bin t)
+    (bins-accept-mul-weight t)
+    (bins-accept-element-copy-out-weight t)
+    (bins-accept-add-n t)
+    (bins-accept-mul-n t)
+    (bins-accept-shared-slice-read-n t)
+    (bins-accept-add-r t)
+    (bins-accept-mul-r t)
+    (bins-accept-shared-slice-read-r t)
+    (bins-accept-add-c t)
+    (bins-accept-mul-c t)
+    (bins-accept-shared-slice-read-c t)
+    (bins-accept-add-value t)
+    (bins-accept-add-value-2 t)
+    (bins-accept-mul-value t)
+    (bins-accept-shared-slice-read-value t)
+    (bins-accept-fits-with-requires t)
+    (bins-accept-add-inner-r t)
+    (bins-accept-add-inner-r-2 t)
+    (bins-accept-mul-inner-r t)
+    (bins-accept-add-inner-r-3 t)
+    (bins-accept-add-inner-c t)
+    (bins-accept-mul-inner-c t)
+    (bins-accept-add-inner-c-2 t)
+    (bins-accept-fits-with-requires-2 t)
+    (bins-accept-add-link t)
+    (bins-accept-add-link-2 t)
+    (bins-accept-mul-link t)
+    (bins-accept-shared-slice-read-link t)
+    (bins-accept-add-child-accepts t)
+    (bins-accept-child-accepts-requires t)
+    (bins-accept-returns t))
+    (λ t. child-accepts-lts.spec
+    (grid-accepts-below t, grid-accepts.Post)
+    (child-accepts-at t)
+    child-accepts.Post
+    (child-accepts-returns t)
+    (child-accepts-grid-accepts-requires t)
+    (child-accepts-returns-2 t))
+    λ t. grid-accepts-lts.spec
+    (axes-accept-reads.Asked, axes-accept-reads.Learnt, bins-accept-below t, bins-accept.Post)
+    (grid-accepts-at t)
+    grid-accepts.Post
+    (grid-accepts-mul-if1 t)
+    (grid-accepts-shared-slice-read-if1 t)
+    (grid-accepts-axes-accept-requires t)
+    (grid-accepts-returns t)
+    (grid-accepts-sub-bins-accept t)
+    (grid-accepts-bins-accept-requires t)
+    (grid-accepts-returns-2 t)

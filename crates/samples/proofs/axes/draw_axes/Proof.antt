@@ -1,0 +1,41 @@
+use mathlib.Core.Path.{ap, sym, _∙_, subst}
+use lib.Ieee.{Float}
+use Rattle.model.specs.Draw.{Placed, flooredOf}
+use Rattle.lent.specs.declared.Walked.{Walked}
+use Rattle.lent.specs.Drawn.{axesAt, Places, underFloor}
+use borrow.Author.Needs.{needs}
+use Rattle.samples.proofs.axes.draw_axes.Statement.{statement}
+use Rattle.samples.proofs.axes.draw_axes.Tie as tie
+use Rattle.samples.proofs.axes.draw_axes.Reads as reads
+use Rattle.samples.proofs.axes.draw_axes.Lts as lts
+use Rattle.ground.proofs.floors.floored.Reads as floored-reads
+use Rattle.samples.proofs.axes.choose.Reads as choose-reads
+use Rattle.samples.proofs.axes.walk_axes.Reads as walk-axes-reads
+
+-- src/axes.rt:126:9
+choose-requires : tie.Need-choose-requires
+choose-requires c κs = search needs
+
+-- src/axes.rt:126:9
+walk-axes-requires : tie.Need-walk-axes-requires
+walk-axes-requires c κs = search needs
+
+-- src/axes.rt:127:5
+floored-requires : tie.Need-floored-requires
+floored-requires c κs = search needs
+
+-- src/axes.rt:115:1
+returns : tie.Need-returns
+unfolding underFloor
+returns c =
+    let a = c .before .before .before .before .before .before .before .before .args in
+    let axs = axesAt (a .reals .now) (a .counts .now) (a .g) in
+    let drawn = subst (λ (p : Placed). Places (a .g .axes) p (c .before .walk-axes .result) (a .coordinates .now) (c .before .walk-axes .last .1 .1 .1 .1 .1 .0)) (sym (c .before .before .before .before .before .choose .ensures axs)) (c .before .walk-axes .ensures) in (
+      ap (λ (x : Float). record { weight = x; stream = c .before .walk-axes .result .stream }) (c .floored .ensures)
+          ∙ ap (λ (v : Walked). record { weight = flooredOf (a .g .floor) (v .weight); stream = v .stream }) (drawn .0),
+      drawn .1,
+      drawn .2,
+    )
+
+pub draw-axes-spec : {M : Type 1} → statement M
+draw-axes-spec = tie.close (tie.spec choose-requires walk-axes-requires floored-requires returns)

@@ -1,0 +1,140 @@
+-- Each given bin is a cell of its axis, and its training keeps to that axis: what is asked of the others is asked still.
+use mathlib.Core.Path.{_≡_, refl, sym, ap, _∙_, subst}
+use Prim.Native.Nat.{_+_, _-_, _*_, _≤_}
+use native.Mathlib.Omega.{arith}
+use lib.ListN.{length}
+use Rattle.lent.specs.Memory.{Memory, memory, overAxes, Asked}
+use Rattle.lent.specs.Sampled.{entries}
+use Rattle.lent.specs.Trained.{trainedAt, Cell}
+use Rattle.lent.proofs.Trains.{trained-out, given-cell, given-on, trained-on}
+use Rattle.samples.proofs.training.train_axes.Statement.{statement}
+use Rattle.samples.proofs.training.train_axes.Tie as tie
+use Rattle.samples.proofs.training.train_axes.Reads as reads
+use Rattle.samples.proofs.training.train_axes.Lts as lts
+use Rattle.samples.proofs.training.train_axis.Reads as train-axis-reads
+
+abbrev Inv-loop : tie.InvT-loop
+Inv-loop reals₀ counts₀ g spots v at₀ place₀ done₀ reals counts at place done =
+    (done ≤ g .axes) × (length reals ≡ length reals₀) × (length counts ≡ length counts₀)
+    × Asked (Cell (g .most)) (g .most) (entries 0 spots done (g .axes - done)) at place (memory reals counts)
+    × (overAxes (trainedAt (g .most) v) (g .most) (entries 0 spots done (g .axes - done)) at place (memory reals counts)
+    ≡ overAxes (trainedAt (g .most) v) (g .most) (entries 0 spots 0 (g .axes)) (g .reals) (g .counts) (memory reals₀ counts₀))
+
+abbrev μ-loop : tie.MeasureT-loop
+μ-loop reals₀ counts₀ g spots v at₀ place₀ done₀ reals counts at place done = g .axes - done
+
+loop-holds : tie.Need-loop-holds Inv-loop μ-loop
+loop-holds c =
+    let o = c .before .before in
+    let e : o .args .g .axes - 0 ≡ o .args .g .axes = omega arith in
+    (omega arith, refl, refl, rw e (o .pre .2), rw e)
+
+mul-train-axis : tie.Need-mul-train-axis Inv-loop μ-loop
+mul-train-axis c = omega (arith, c .before .before .if1 .taken, c .before .before .before .before .before .before .before .pre .0)
+
+element-copy-out-train-axis : tie.Need-element-copy-out-train-axis Inv-loop μ-loop
+element-copy-out-train-axis c = omega (arith, c .before .before .if1 .taken, c .before .before .before .before .before .before .before .pre .0)
+
+train-axis-requires : tie.Need-train-axis-requires Inv-loop μ-loop
+train-axis-requires c κs =
+    let o = c .before .before .before .before .before .before .before .before in
+    let l = c .before .before .before .before .before .loop in
+    (o .pre .1, given-cell (o .args .g .most) (o .args .g .axes) (o .args .v) (o .args .spots .now) (l .done) (l .at) (l .place) (memory (l .reals) (l .counts)) (c .before .before .before .if1 .taken) (l .inv .3))
+
+mul-at : tie.Need-mul-at Inv-loop μ-loop
+mul-at c =
+    let o = c .before .before .before .before .before .before .before .before .before .before .before .before .before .before in
+    let l = c .before .before .before .before .before .before .before .before .before .before .before .loop in
+    let n = given-cell (o .args .g .most) (o .args .g .axes) (o .args .v) (o .args .spots .now) (l .done) (l .at) (l .place) (memory (l .reals) (l .counts)) (c .before .before .before .before .before .before .before .before .before .if1 .taken) (l .inv .3) in
+    omega (arith, n .room, n .places, l .inv .1, l .inv .2)
+
+add-at : tie.Need-add-at Inv-loop μ-loop
+add-at c =
+    let o = c .before .before .before .before .before .before .before .before .before .before .before .before .before .before in
+    let l = c .before .before .before .before .before .before .before .before .before .before .before .loop in
+    let n = given-cell (o .args .g .most) (o .args .g .axes) (o .args .v) (o .args .spots .now) (l .done) (l .at) (l .place) (memory (l .reals) (l .counts)) (c .before .before .before .before .before .before .before .before .before .if1 .taken) (l .inv .3) in
+    omega (arith, n .room, n .places, l .inv .1, l .inv .2)
+
+add-at-2 : tie.Need-add-at-2 Inv-loop μ-loop
+add-at-2 c =
+    let o = c .before .before .before .before .before .before .before .before .before .before .before .before .before .before in
+    let l = c .before .before .before .before .before .before .before .before .before .before .before .loop in
+    let n = given-cell (o .args .g .most) (o .args .g .axes) (o .args .v) (o .args .spots .now) (l .done) (l .at) (l .place) (memory (l .reals) (l .counts)) (c .before .before .before .before .before .before .before .before .before .if1 .taken) (l .inv .3) in
+    omega (arith, n .room, n .places, l .inv .1, l .inv .2)
+
+mul-place : tie.Need-mul-place Inv-loop μ-loop
+mul-place c =
+    let o = c .before .before .before .before .before .before .before .before .before .before .before .before .before .before .before in
+    let l = c .before .before .before .before .before .before .before .before .before .before .before .before .loop in
+    let n = given-cell (o .args .g .most) (o .args .g .axes) (o .args .v) (o .args .spots .now) (l .done) (l .at) (l .place) (memory (l .reals) (l .counts)) (c .before .before .before .before .before .before .before .before .before .before .if1 .taken) (l .inv .3) in
+    omega (arith, n .room, n .places, l .inv .1, l .inv .2)
+
+add-place : tie.Need-add-place Inv-loop μ-loop
+add-place c =
+    let o = c .before .before .before .before .before .before .before .before .before .before .before .before .before .before .before in
+    let l = c .before .before .before .before .before .before .before .before .before .before .before .before .loop in
+    let n = given-cell (o .args .g .most) (o .args .g .axes) (o .args .v) (o .args .spots .now) (l .done) (l .at) (l .place) (memory (l .reals) (l .counts)) (c .before .before .before .before .before .before .before .before .before .before .if1 .taken) (l .inv .3) in
+    omega (arith, n .room, n .places, l .inv .1, l .inv .2)
+
+add-place-2 : tie.Need-add-place-2 Inv-loop μ-loop
+add-place-2 c =
+    let o = c .before .before .before .before .before .before .before .before .before .before .before .before .before .before .before in
+    let l = c .before .before .before .before .before .before .before .before .before .before .before .before .loop in
+    let n = given-cell (o .args .g .most) (o .args .g .axes) (o .args .v) (o .args .spots .now) (l .done) (l .at) (l .place) (memory (l .reals) (l .counts)) (c .before .before .before .before .before .before .before .before .before .before .if1 .taken) (l .inv .3) in
+    omega (arith, n .room, n .places, l .inv .1, l .inv .2)
+
+add-done : tie.Need-add-done Inv-loop μ-loop
+add-done c = omega (arith, c .before .before .before .before .before .before .before .before .before .before .if1 .taken, c .before .before .before .before .before .before .before .before .before .before .before .before .before .before .before .pre .0)
+
+loop-less : tie.Need-loop-less Inv-loop μ-loop
+loop-less c = omega (arith, c .before .before .before .before .before .before .before .before .before .before .if1 .taken)
+
+loop-again : tie.Need-loop-again Inv-loop μ-loop
+loop-again c =
+    let o = c .before .before .before .before .before .before .before .before .before .before .before .before .before .before .before in
+    let l = c .before .before .before .before .before .before .before .before .before .before .before .before .loop in
+    let most = o .args .g .most in
+    let left = entries 0 (o .args .spots .now) (l .done + 1) (o .args .g .axes - (l .done + 1)) in
+    let at = l .at + (6 * most + 1) in
+    let place = l .place + (3 * most + 2) in (
+      omega (arith, c .before .before .before .before .before .before .before .before .before .before .if1 .taken),
+      c .before .before .before .before .before .before .train-axis .kept .0 ∙ l .inv .1,
+      c .before .before .before .before .before .before .train-axis .kept .1 .0 ∙ l .inv .2,
+      subst (λ (t : Memory). Asked (Cell most) most left at place t) (sym (c .before .before .before .before .before .before .train-axis .ensures)) (given-on (o .args .g .most) (o .args .g .axes) (o .args .v) (o .args .spots .now) (l .done) (l .at) (l .place) (memory (l .reals) (l .counts)) (c .before .before .before .before .before .before .before .before .before .before .if1 .taken) (l .inv .3)),
+      ap (λ (t : Memory). overAxes (trainedAt most (o .args .v)) most left at place t) (c .before .before .before .before .before .before .train-axis .ensures) ∙ trained-on (o .args .g .most) (o .args .g .axes) (o .args .v) (o .args .spots .now) (l .done) (l .at) (l .place) (memory (l .reals) (l .counts)) (c .before .before .before .before .before .before .before .before .before .before .if1 .taken) (l .inv .3) ∙ l .inv .4,
+    )
+
+same-length : tie.Need-same-length Inv-loop μ-loop
+same-length c = c .before .before .loop .inv .1
+
+same-length-2 : tie.Need-same-length-2 Inv-loop μ-loop
+same-length-2 c = c .before .before .loop .inv .2
+
+returns : tie.Need-returns Inv-loop μ-loop
+returns c =
+    let o = c .before .before .before .before .before in
+    let l = c .before .before .loop in
+    sym (trained-out (o .args .g .most) (o .args .g .axes) (o .args .v) (o .args .spots .now) (l .done) (l .at) (l .place) (memory (l .reals) (l .counts)) (omega (arith, c .if1 .left))) ∙ l .inv .4
+
+pub train-axes-spec : {M : Type 1} → statement M
+train-axes-spec =
+    tie.close
+    (tie.spec
+    Inv-loop
+    μ-loop
+    loop-holds
+    mul-train-axis
+    element-copy-out-train-axis
+    train-axis-requires
+    mul-at
+    add-at
+    add-at-2
+    mul-place
+    add-place
+    add-place-2
+    add-done
+    loop-less
+    loop-again
+    same-length
+    same-length-2
+    returns)

@@ -1,0 +1,316 @@
+// The update of a tree in lent memory: children first, then the bins' accumulators, then the bins grid's own and its probabilities.
+ghost use mathlib.Core.Path.{_≡_};
+ghost use mathlib.Core.Bool.{_||_};
+ghost use Prim.Native.Nat.{_+_, _-_, _*_, _≤_, _<_};
+ghost use lib.ListN.{length, getD};
+ghost use Rattle.model.specs.Update.{idle, rawOf};
+ghost use Rattle.lent.specs.Memory.{memory};
+ghost use Rattle.lent.specs.Tree.{AxesLaid, BinsLaid, Laid};
+ghost use Rattle.lent.specs.Renewed.{found};
+ghost use Rattle.lent.specs.Turns.{childTurned, childrenTurned};
+ghost use Rattle.lent.specs.Adapted.{ruleAt, accountUpdated, accountsUpdated, axesUpdated, idleIn, rawsIn, chancesAdapted, binsAdapted, updatedIn};
+use crate::renewal;
+use accumulator::StatisticsAccumulator;
+use accumulator::Updated;
+use ground::accounts;
+use ground::judging;
+use ground::layout;
+use ground::parts;
+use lent::Found;
+use lent::Rule;
+
+// What was found in either of two.
+fn either(a: Found, b: Found) -> Found
+    ensures { λ r. ⌜ (r .eight ≡ (a .eight || b .eight)) × (r .nine ≡ (a .nine || b .nine)) ⌝ }
+{
+    Found {
+        eight: a.eight | b.eight,
+        nine: a.nine | b.nine,
+    }
+}
+
+// The update of the accumulator at r and c; refused, it stays as it was.
+fn update_account(reals: &mut [f64], counts: &mut [u64], r: usize, c: usize) -> Found
+    requires { ⌜ (r + 14 ≤ length (now reals)) × (c + 7 ≤ length (now counts)) ⌝ }
+    ensures { λ f. ⌜ found f (memory (now (reals .exit)) (now (counts .exit))) ≡ accountUpdated r c (memory (now (reals .entry)) (now (counts .entry))) ⌝ }
+{
+    match accounts::load(reals, counts, r, c).update_iter(false) {
+        Updated::Record(_, a) => {
+            accounts::store(reals, counts, r, c, a);
+            Found {
+                eight: false,
+                nine: false,
+            }
+        }
+        Updated::Refused(_) => Found {
+            eight: true,
+            nine: false,
+        },
+    }
+}
+
+// What a run says of its axes' update.
+fn rule_at(table: &[u64], w: usize) -> Rule
+    requires { ⌜ w + 11 ≤ length (now table) ⌝ }
+    ensures { λ r. ⌜ r ≡ ruleAt (now (table .entry)) w ⌝ }
+{
+    Rule {
+        bins: table[w + 3] as usize,
+        least: table[w + 4],
+        averages: table[w + 5] == 1,
+    }
+}
+
+// An axes grid: its axes, then its own accumulator. That its axes are well formed is asked here, where it costs little, so that nothing
+// need be known of what the update of other grids has written.
+fn update_axes_grid(
+    table: &[u64],
+    reals: &mut [f64],
+    counts: &mut [u64],
+    w: usize,
+    rate: f64,
+) -> Found
+    requires { ⌜ AxesLaid (now table) (length (now reals)) (length (now counts)) w ⌝ }
+    ensures { λ f. ⌜ found f (memory (now (reals .exit)) (now (counts .exit))) ≡ axesUpdated (now (table .entry)) rate w (memory (now (reals .entry)) (now (counts .entry))) ⌝ }
+{
+    let g = layout::axes_place(table, w);
+    let first = w + 11;
+    let last = first + table[w + 8] as usize;
+    if !judging::axes_fit(reals, counts, g, table[w + 3], &table[first..last]) {
+        return Found {
+            eight: true,
+            nine: false,
+        };
+    }
+    let axes = renewal::update_axes(
+        reals,
+        counts,
+        g,
+        rule_at(table, w),
+        &table[first..last],
+        rate,
+    );
+    let own = update_account(reals, counts, table[w + 9] as usize, table[w + 10] as usize);
+    either(axes, own)
+}
+
+// The accumulators of a bins grid's bins, one after the other.
+fn update_accounts(
+    table: &[u64],
+    reals: &mut [f64],
+    counts: &mut [u64],
+    level: usize,
+    w: usize,
+) -> Found
+    requires { ⌜ BinsLaid (Laid level (now table) (length (now reals)) (length (now counts))) (now table) (length (now reals)) (length (now counts)) w ⌝ }
+    ensures { λ f. ⌜ found f (memory (now (reals .exit)) (now (counts .exit))) ≡ accountsUpdated (now (table .entry)) w 0 (getD (now (table .entry)) (w + 2) 0) (memory (now (reals .entry)) (now (counts .entry))) ⌝ }
+{
+    let n = table[w + 2] as usize;
+    let r = table[w + 5] as usize + 14 + n;
+    let c = table[w + 6] as usize + 7;
+    let mut eight = false;
+    let mut nine = false;
+    let mut i = 0;
+    while i < n {
+        let f = update_account(reals, counts, r + 14 * i, c + 7 * i);
+        eight = eight | f.eight;
+        nine = nine | f.nine;
+        i += 1;
+    }
+    Found { eight, nine }
+}
+
+// Whether a bin leaves nothing to adapt to.
+fn is_idle(averages: bool, a: StatisticsAccumulator) -> bool
+    ensures { λ r. ⌜ r ≡ idle averages a ⌝ }
+{
+    if averages {
+        return a.avg == 0.0;
+    }
+    (a.err == 0.0) | (a.processed_samples < 2)
+}
+
+// Whether all of them do.
+fn are_idle(table: &[u64], reals: &[f64], counts: &[u64], level: usize, w: usize) -> bool
+    requires { ⌜ BinsLaid (Laid level (now table) (length (now reals)) (length (now counts))) (now table) (length (now reals)) (length (now counts)) w ⌝ }
+    ensures { λ o. ⌜ o ≡ idleIn (now (table .entry)) (memory (now (reals .entry)) (now (counts .entry))) w 0 (getD (now (table .entry)) (w + 2) 0) ⌝ }
+{
+    let n = table[w + 2] as usize;
+    let averages = table[w + 4] == 1;
+    let r = table[w + 5] as usize + 14 + n;
+    let c = table[w + 6] as usize + 7;
+    let mut all = true;
+    let mut i = 0;
+    while i < n {
+        all = all
+            & is_idle(
+                averages,
+                accounts::load(reals, counts, r + 14 * i, c + 7 * i),
+            );
+        i += 1;
+    }
+    all
+}
+
+// A bin's raw probability: the size of its average; or its error times the root of its samples less one, 0 for fewer than two.
+fn raw_of(averages: bool, a: StatisticsAccumulator) -> f64
+    ensures { λ r. ⌜ r ≡ rawOf averages a ⌝ }
+{
+    if averages {
+        return real::norm(a.avg);
+    }
+    if a.processed_samples < 2 {
+        return 0.0;
+    }
+    a.err * real::sqrt(real::count(a.processed_samples - 1))
+}
+
+// The bins' raw probabilities.
+fn find_raws(table: &[u64], reals: &[f64], counts: &[u64], level: usize, w: usize, raws: &mut [f64])
+    requires { ⌜ BinsLaid (Laid level (now table) (length (now reals)) (length (now counts))) (now table) (length (now reals)) (length (now counts)) w
+        × (length (now raws) ≡ getD (now table) (w + 2) 0) ⌝ }
+    ensures { λ _. ⌜ now (raws .exit) ≡ rawsIn (now (table .entry)) (memory (now (reals .entry)) (now (counts .entry))) w 0 (getD (now (table .entry)) (w + 2) 0) ⌝ }
+{
+    let n = table[w + 2] as usize;
+    let averages = table[w + 4] == 1;
+    let r = table[w + 5] as usize + 14 + n;
+    let c = table[w + 6] as usize + 7;
+    let mut i = 0;
+    while i < n {
+        raws[i] = raw_of(
+            averages,
+            accounts::load(reals, counts, r + 14 * i, c + 7 * i),
+        );
+        i += 1;
+    }
+}
+
+// The probabilities that follow from the bins, laid down; 9 where one is not finite and above 0. The last is work room.
+fn lay_chances(
+    table: &[u64],
+    reals: &mut [f64],
+    counts: &[u64],
+    level: usize,
+    w: usize,
+    room: &mut [f64],
+) -> Found
+    requires { ⌜ BinsLaid (Laid level (now table) (length (now reals)) (length (now counts))) (now table) (length (now reals)) (length (now counts)) w
+        × (length (now room) ≡ getD (now table) (w + 2) 0) ⌝ }
+    ensures { λ f. ⌜ found f (memory (now (reals .exit)) (now (counts .entry))) ≡ chancesAdapted (now (table .entry)) w (memory (now (reals .entry)) (now (counts .entry))) ⌝ }
+{
+    find_raws(table, reals, counts, level, w, room);
+    let fit = recut::adapt(room, layout::double(table[w + 3]));
+    parts::put_reals(reals, table[w + 5] as usize + 14, room);
+    Found {
+        eight: false,
+        nine: !fit,
+    }
+}
+
+// The probabilities that follow from the bins, found in work room of its own.
+fn adapt_chances(table: &[u64], reals: &mut [f64], counts: &[u64], level: usize, w: usize) -> Found
+    requires { ⌜ BinsLaid (Laid level (now table) (length (now reals)) (length (now counts))) (now table) (length (now reals)) (length (now counts)) w ⌝ }
+    ensures { λ f. ⌜ found f (memory (now (reals .exit)) (now (counts .entry))) ≡ chancesAdapted (now (table .entry)) w (memory (now (reals .entry)) (now (counts .entry))) ⌝ }
+{
+    let n = table[w + 2] as usize;
+    let mut room = [0.0f64; 256];
+    lay_chances(table, reals, counts, level, w, &mut room[0..n])
+}
+
+// A bins grid once its bins are updated: its probabilities and its own accumulator, but for an early return.
+fn adapt_bins(
+    table: &[u64],
+    reals: &mut [f64],
+    counts: &mut [u64],
+    level: usize,
+    w: usize,
+    rate: f64,
+) -> Found
+    requires { ⌜ BinsLaid (Laid level (now table) (length (now reals)) (length (now counts))) (now table) (length (now reals)) (length (now counts)) w ⌝ }
+    ensures { λ f. ⌜ found f (memory (now (reals .exit)) (now (counts .exit))) ≡ binsAdapted (now (table .entry)) rate w (memory (now (reals .entry)) (now (counts .entry))) ⌝ }
+{
+    if (rate == 0.0) | are_idle(table, reals, counts, level, w) {
+        return Found {
+            eight: false,
+            nine: false,
+        };
+    }
+    let chances = adapt_chances(table, reals, counts, level, w);
+    let own = update_account(reals, counts, table[w + 5] as usize, table[w + 6] as usize);
+    either(chances, own)
+}
+
+// What hangs at a link: nothing where it is 0.
+fn update_child(
+    table: &[u64],
+    reals: &mut [f64],
+    counts: &mut [u64],
+    level: usize,
+    link: usize,
+    bins_rate: f64,
+    axes_rate: f64,
+) -> Found
+    requires { ⌜ ((link ≡ 0 → ⊥) → Laid level (now table) (length (now reals)) (length (now counts)) link) ⌝ }
+    ensures { λ f. ⌜ found f (memory (now (reals .exit)) (now (counts .exit))) ≡
+        childTurned (updatedIn level (now (table .entry)) «bins_rate» «axes_rate») link (memory (now (reals .entry)) (now (counts .entry))) ⌝ }
+{
+    if link == 0 {
+        return Found {
+            eight: false,
+            nine: false,
+        };
+    }
+    update_grid(table, reals, counts, level, link, bins_rate, axes_rate)
+}
+
+// What hangs at the links of a bins grid, one after the other.
+fn update_children(
+    table: &[u64],
+    reals: &mut [f64],
+    counts: &mut [u64],
+    level: usize,
+    w: usize,
+    bins_rate: f64,
+    axes_rate: f64,
+) -> Found
+    requires { ⌜ BinsLaid (Laid level (now table) (length (now reals)) (length (now counts))) (now table) (length (now reals)) (length (now counts)) w ⌝ }
+    ensures { λ f. ⌜ found f (memory (now (reals .exit)) (now (counts .exit))) ≡
+        childrenTurned (updatedIn level (now (table .entry)) «bins_rate» «axes_rate») (now (table .entry)) w 0 (getD (now (table .entry)) (w + 2) 0) (memory (now (reals .entry)) (now (counts .entry))) ⌝ }
+{
+    let n = table[w + 2] as usize;
+    let mut eight = false;
+    let mut nine = false;
+    let mut i = 0;
+    while i < n {
+        let link = table[w + 7 + i] as usize;
+        let f = update_child(table, reals, counts, level, link, bins_rate, axes_rate);
+        eight = eight | f.eight;
+        nine = nine | f.nine;
+        i += 1;
+    }
+    Found { eight, nine }
+}
+
+// The grid whose run begins at word w, with all below it.
+pub fn update_grid(
+    table: &[u64],
+    reals: &mut [f64],
+    counts: &mut [u64],
+    level: usize,
+    w: usize,
+    bins_rate: f64,
+    axes_rate: f64,
+) -> Found
+    requires { ⌜ Laid level (now table) (length (now reals)) (length (now counts)) w ⌝ }
+    ensures { λ f. ⌜ found f (memory (now (reals .exit)) (now (counts .exit))) ≡
+        updatedIn level (now (table .entry)) «bins_rate» «axes_rate» w (memory (now (reals .entry)) (now (counts .entry))) ⌝ }
+{
+    if table[w] == 1 {
+        return update_axes_grid(table, reals, counts, w, axes_rate);
+    }
+    let below = level - 1;
+    let children = update_children(table, reals, counts, below, w, bins_rate, axes_rate);
+    let accounts = update_accounts(table, reals, counts, below, w);
+    let own = adapt_bins(table, reals, counts, below, w, bins_rate);
+    either(either(children, accounts), own)
+}
