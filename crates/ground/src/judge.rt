@@ -22,7 +22,7 @@ fn axes_grid_fits(table: &[u64], reals: &[f64], counts: &[u64], w: usize) -> boo
     requires { ⌜ AxesLaid (now table) (length (now reals)) (length (now counts)) w ⌝ }
     ensures { λ o. ⌜ o ≡ sound (axes (axesGridAt (now (table .entry)) (now (reals .entry)) (now (counts .entry)) w)) ⌝ }
 {
-    let g = layout::axes_place(table, w);
+    let g = layout::place_there(table, w);
     let first = w + 11;
     let last = first + table[w + 8] as usize;
     let fit = judging::axes_fit(reals, counts, g, table[w + 3], &table[first..last]);

@@ -7,6 +7,5 @@ mod judge;
 pub mod judging;
 pub mod laying;
 pub mod layout;
-pub mod onward;
 pub mod parts;
 pub mod state;

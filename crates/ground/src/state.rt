@@ -2,12 +2,8 @@
 ghost use mathlib.Core.Path.{_≡_};
 ghost use Rattle.plan.specs.Paper.{gives};
 ghost use Rattle.plan.specs.Calls.{sizesOf};
-ghost use lib.ListN.{length};
-ghost use Rattle.lent.specs.Tree.{Laid};
-ghost use Rattle.lent.specs.State.{rootOf, ownOf, judgedBy, judgedTo, stateFault, bothJudged, secondBy, pairFault};
-use crate::accounts;
+ghost use Rattle.lent.specs.State.{judgedBy, judgedTo, stateFault, bothJudged, secondBy, pairFault};
 use crate::judge;
-use accumulator::StatisticsAccumulator;
 use plan::Needs;
 use plan::Sized;
 
@@ -140,15 +136,4 @@ pub fn pair_fault(
         Sized::Plan(needs) => second_fault(table, reals, counts, needs, other, theirs, tallies),
         Sized::Refused(_) => 12,
     }
-}
-
-// The root's own accumulator.
-pub fn own(table: &[u64], reals: &[f64], counts: &[u64]) -> StatisticsAccumulator
-    requires { ⌜ Laid 4 (now table) (length (now reals)) (length (now counts)) 0 ⌝ }
-    ensures { λ a. ⌜ a ≡ ownOf (rootOf (now (table .entry)) (now (reals .entry)) (now (counts .entry))) ⌝ }
-{
-    if table[0] == 1 {
-        return accounts::load(reals, counts, table[9] as usize, table[10] as usize);
-    }
-    accounts::load(reals, counts, table[5] as usize, table[6] as usize)
 }

@@ -3,6 +3,8 @@ pub mod Same
 pub mod Reading
 pub mod Over
 pub mod Laid
+pub mod Runs
+pub mod Places
 pub mod Standing
 pub mod First
 pub mod Draws

@@ -1,7 +1,7 @@
 -- Writing lent memory: parts that are replaced, axis after axis, and the records of accumulators.
 use Prim.Native.Nat.{ℕ, _+_}
 use mathlib.Core.List.{List, [], _∷_, _++_}
-use lib.ListN.{take, drop, getD}
+use lib.ListN.{take, drop, getD, replicate}
 use lib.Seq.{sets}
 use lib.Ieee.{Float, nan}
 use Rattle.accumulator.specs.declared.StatisticsAccumulator.{StatisticsAccumulator}
@@ -28,6 +28,10 @@ Asked P m (x ∷ xs) r c s = P r c x s × Asked P m xs (r + axisReals m) (c + ax
 -- the n entries from a place on replaced by others
 unfoldable pub put : {A : Type 0} → ℕ → ℕ → List A → List A → List A
 put at n ys xs = take at xs ++ (ys ++ drop n (drop at xs))
+
+-- the n entries from a place on, past the last entry a value in its stead
+unfoldable pub fromOn : {A : Type 0} → ℕ → A → ℕ → List A → List A
+fromOn n d at xs = sets (replicate n d) 0 (drop at xs)
 
 -- an accumulator's 14 reals and 7 counts, in the order of its fields
 unfoldable pub realsOf : StatisticsAccumulator → List Float
@@ -65,6 +69,33 @@ recordAt reals counts r c =
       «max_eval_negative» = getD reals (r + 13) nan;
       «max_eval_negative_number» = getD counts (c + 5) 0;
       «num_zero_evaluations» = getD counts (c + 6) 0;
+    }
+
+-- the accumulator of 14 reals and 7 counts
+unfoldable pub recordFrom : List Float → List ℕ → StatisticsAccumulator
+recordFrom xs ns =
+    record {
+      sum = getD xs 0 nan;
+      «sum_sq» = getD xs 1 nan;
+      «total_sum» = getD xs 2 nan;
+      «total_sum_sq» = getD xs 3 nan;
+      «weight_sum» = getD xs 4 nan;
+      «avg_sum» = getD xs 5 nan;
+      avg = getD xs 6 nan;
+      err = getD xs 7 nan;
+      guess = getD xs 8 nan;
+      «chi_sq» = getD xs 9 nan;
+      «chi_sum» = getD xs 10 nan;
+      «chi_sq_sum» = getD xs 11 nan;
+      «new_samples» = getD ns 0 0;
+      «new_zero_evaluations» = getD ns 1 0;
+      «cur_iter» = getD ns 2 0;
+      «processed_samples» = getD ns 3 0;
+      «max_eval_positive» = getD xs 12 nan;
+      «max_eval_positive_number» = getD ns 4 0;
+      «max_eval_negative» = getD xs 13 nan;
+      «max_eval_negative_number» = getD ns 5 0;
+      «num_zero_evaluations» = getD ns 6 0;
     }
 
 -- an accumulator stored there

@@ -1,12 +1,13 @@
 -- A grid in lent memory: its run of the plan's table says what it is and where it begins (docs/DESIGN.md, "Lent memory").
 use mathlib.Core.Path.{_≡_}
 use mathlib.Core.Logic.{_≢_, _⊎_}
-use mathlib.Core.Bool.{true, cond}
+use mathlib.Core.Bool.{Bool, true, cond, _&&_}
 use mathlib.Core.List.{List}
-use Prim.Native.Nat.{ℕ, zero, suc, _+_, _*_, _≤_, _<_}
-use lib.Dec.{eqb}
+use Prim.Native.Nat.{ℕ, zero, suc, _+_, _*_, _^_, _≤_, _<_}
+use lib.Dec.{eqb, leb}
 use lib.ListN.{length, getD}
 use lib.Ieee.{Float, nan, binary64, ofBits}
+use Rattle.real.specs.Numbers.{zero64}
 use Rattle.plan.specs.Numbers.{wordsAt}
 use Rattle.plan.specs.Ranges.{floorFits, ratioFits}
 use Rattle.model.specs.Axes.{AxesPlan, AxesGrid}
@@ -37,6 +38,16 @@ axesPlace table w =
       reals = getD table (w + 9) 0 + 14;
       counts = getD table (w + 10) 0 + 7;
     }
+
+-- of any table and word: a run's head lies there, and its places are none past 2^63; else the place of no axes
+unfoldable pub placeFits : List ℕ → ℕ → Bool
+placeFits table w = leb (w + 11) (length table) && (leb (getD table (w + 9) 0) (2 ^ 63) && leb (getD table (w + 10) 0) (2 ^ 63))
+
+abbrev pub nowhere : AxesAt
+nowhere = record { axes = 0; most = 0; floor = zero64; reals = 0; counts = 0 }
+
+unfoldable pub placeOf : List ℕ → ℕ → AxesAt
+placeOf table w = cond (placeFits table w) (axesPlace table w) nowhere
 
 unfoldable pub axesGridAt : List ℕ → List Float → List ℕ → ℕ → AxesGrid
 axesGridAt table reals counts w =

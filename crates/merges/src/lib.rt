@@ -2,6 +2,7 @@
 mod joining;
 mod matching;
 mod merging;
+mod onward;
 mod uniting;
 
 ghost use mathlib.Core.Path.{_≡_};

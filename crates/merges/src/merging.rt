@@ -14,7 +14,7 @@ ghost use Rattle.lent.specs.Laid.{Roomy};
 ghost use Rattle.lent.specs.Merged.{mergedReals, mergedCounts, mergeAt, mergedMemory, Spaced};
 ghost use Rattle.lent.specs.Drawn.{axesAt, Stands};
 use crate::joining;
-use ground::onward;
+use crate::onward;
 use lent::AxesAt;
 
 // Whether both have as many axes, and each axis as many bins now held as the other's.

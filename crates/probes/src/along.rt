@@ -6,7 +6,9 @@ ghost use Rattle.accumulator.specs.Calls.{liveEstimateOf, paperEstimated};
 ghost use Rattle.lent.specs.Tree.{binIn, gridAt, BinsLaid, Laid};
 ghost use Rattle.lent.specs.Sampled.{entries};
 ghost use Rattle.lent.specs.Bins.{estimateAlong};
+ghost use Rattle.lent.specs.State.{rootOf, ownOf};
 use accumulator::Estimated;
+use accumulator::StatisticsAccumulator;
 use ground::accounts;
 
 // That of bin i of the bins grid at word w, whose children have so many levels left.
@@ -62,4 +64,15 @@ pub fn estimate_along(
         return Estimated::Refused(4);
     }
     estimate_along(table, reals, counts, below, link, path, levels, depth + 1)
+}
+
+// The root's own accumulator.
+pub fn own(table: &[u64], reals: &[f64], counts: &[u64]) -> StatisticsAccumulator
+    requires { ⌜ Laid 4 (now table) (length (now reals)) (length (now counts)) 0 ⌝ }
+    ensures { λ a. ⌜ a ≡ ownOf (rootOf (now (table .entry)) (now (reals .entry)) (now (counts .entry))) ⌝ }
+{
+    if table[0] == 1 {
+        return accounts::load(reals, counts, table[9] as usize, table[10] as usize);
+    }
+    accounts::load(reals, counts, table[5] as usize, table[6] as usize)
 }

@@ -1,6 +1,7 @@
 // What a grid in lent memory says when it is asked: the weight at a point or over a region, its summary, its live estimates.
 mod along;
 mod descent;
+mod onward;
 mod probing;
 
 ghost use mathlib.Core.Path.{_≡_};
@@ -33,7 +34,7 @@ pub fn summary(table: &[u64], reals: &[f64], counts: &[u64]) -> Summed
     if refused != 0 {
         return Summed::Refused(refused);
     }
-    state::own(table, reals, counts).summary()
+    along::own(table, reals, counts).summary()
 }
 
 // Average, error and chi-squared as if the iteration ended now. Refused: 10, 12, 8.
@@ -44,7 +45,7 @@ pub fn live_estimate(table: &[u64], reals: &[f64], counts: &[u64]) -> Estimated
     if refused != 0 {
         return Estimated::Refused(refused);
     }
-    state::own(table, reals, counts).get_live_estimate()
+    along::own(table, reals, counts).get_live_estimate()
 }
 
 // The same of the bin at the end of a path. Refused: 10, 12; along the path 4, 6; then 8.

@@ -53,7 +53,7 @@ fn weigh_axes(reals: &[f64], counts: &[u64], g: AxesAt, p: Coordinates) -> Probe
         let start = left.reals;
         let end = start + held + 1;
         weight = weigh_on(&reals[start..end], free, x, weight);
-        left = ground::onward::after_first(left);
+        left = crate::onward::after_first(left);
         done += 1;
     }
     Probed::Weight(weight)

@@ -9,13 +9,13 @@ ghost use Rattle.lent.specs.Tree.{AxesLaid, BinsLaid, Laid};
 ghost use Rattle.lent.specs.Renewed.{found};
 ghost use Rattle.lent.specs.Turns.{childTurned, childrenTurned};
 ghost use Rattle.lent.specs.Adapted.{ruleAt, accountUpdated, accountsUpdated, axesUpdated, idleIn, rawsIn, chancesAdapted, binsAdapted, updatedIn};
+use crate::parts;
 use crate::renewal;
 use accumulator::StatisticsAccumulator;
 use accumulator::Updated;
 use ground::accounts;
 use ground::judging;
 use ground::layout;
-use ground::parts;
 use lent::Found;
 use lent::Rule;
 
@@ -199,7 +199,7 @@ fn lay_chances(
     ensures { λ f. ⌜ found f (memory (now (reals .exit)) (now (counts .entry))) ≡ chancesAdapted (now (table .entry)) w (memory (now (reals .entry)) (now (counts .entry))) ⌝ }
 {
     find_raws(table, reals, counts, level, w, room);
-    let fit = recut::adapt(room, layout::double(table[w + 3]));
+    let fit = recut::adapt(room, answers::double(table[w + 3]));
     parts::put_reals(reals, table[w + 5] as usize + 14, room);
     Found {
         eight: false,

@@ -1,5 +1,6 @@
 // The update of a grid in lent memory, worked out on a spare.
 mod adapting;
+mod parts;
 mod renewal;
 mod updating;
 

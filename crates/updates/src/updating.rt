@@ -8,7 +8,7 @@ ghost use Rattle.lent.specs.Memory.{memory};
 ghost use Rattle.lent.specs.Tree.{Laid};
 ghost use Rattle.lent.specs.Calls.{stateEnd, renewedOver, updatedBy};
 use crate::adapting;
-use ground::parts;
+use crate::parts;
 use ground::state;
 use plan::Needs;
 

@@ -14,7 +14,7 @@ use Rattle.copies.proofs.copying.clear_axes.Tie as tie
 use Rattle.copies.proofs.copying.clear_axes.Reads as reads
 use Rattle.copies.proofs.copying.clear_axes.Lts as lts
 use Rattle.ground.proofs.laying.clear_waiting.Reads as clear-waiting-reads
-use Rattle.ground.proofs.onward.after_first.Reads as after-first-reads
+use Rattle.copies.proofs.onward.after_first.Reads as after-first-reads
 
 abbrev Inv-loop : tie.InvT-loop
 Inv-loop reals₀ counts₀ left₀ reals counts left =

@@ -1,3 +1,4 @@
+use Rattle.lent.proofs.Places.{placed}
 use mathlib.Core.Path.{sym, subst}
 use Rattle.lent.specs.declared.AxesAt.{AxesAt}
 use Rattle.lent.specs.Memory.{memory}
@@ -14,7 +15,7 @@ use Rattle.ground.proofs.layout.axes_place.Reads as axes-place-reads
 
 -- src/copying.rt:44:9
 axes-place-requires : tie.Need-axes-place-requires
-axes-place-requires c κs = search needs
+axes-place-requires c κs = tt
 
 -- src/copying.rt:45:19
 add-r : tie.Need-add-r
@@ -42,11 +43,11 @@ shared-slice-read-c c = search needs
 
 -- src/copying.rt:47:5
 clear-axes-requires : tie.Need-clear-axes-requires
-clear-axes-requires c κs = subst (λ (g : AxesAt). Stands (c .before .before .before .before .before .before .before .before .args .reals .now) (c .before .before .before .before .before .before .before .before .args .counts .now) g) (sym (c .before .before .before .before .axes-place .ensures)) (c .before .before .before .before .before .before .before .before .pre .1)
+clear-axes-requires c κs = subst (λ (g : AxesAt). Stands (c .before .before .before .before .before .before .before .before .args .reals .now) (c .before .before .before .before .before .before .before .before .args .counts .now) g) (sym (placed (c .before .before .before .before .before .before .before .before .args .table .now) (c .before .before .before .before .before .before .before .before .args .w) (c .before .before .before .before .axes-place .ensures) (search needs))) (c .before .before .before .before .before .before .before .before .pre .1)
 
 -- src/copying.rt:48:5
 clear-requires : tie.Need-clear-requires
-clear-requires c κs = search needs
+clear-requires c κs = tt
 
 -- src/copying.rt:40:1
 same-length : tie.Need-same-length
@@ -58,7 +59,7 @@ same-length-2 c = search needs
 
 -- src/copying.rt:40:1
 returns : tie.Need-returns
-returns c = axes-emptied (c .before .before .before .before .before .before .before .before .before .before .before .before .before .before .before .before .before .before .before .before .args .table .now) (c .before .before .before .before .before .before .before .before .before .before .before .before .before .before .before .before .before .before .before .before .args .w) (c .before .before .before .before .before .before .before .before .before .before .before .before .before .before .before .before .axes-place .result) (memory (c .before .before .before .before .before .before .before .before .before .before .before .before .before .before .before .before .before .before .before .before .args .reals .now) (c .before .before .before .before .before .before .before .before .before .before .before .before .before .before .before .before .before .before .before .before .args .counts .now)) (memory (c .before .before .before .before .before .before .before .before .before .before .before .clear-axes .last .0) (c .before .before .before .before .before .before .before .before .before .before .before .clear-axes .last .1 .0)) (memory (c .before .before .before .before .clear .last .0) (c .before .before .before .before .clear .last .1 .0)) (c .before .before .before .before .before .before .before .before .before .before .before .before .before .before .before .before .axes-place .ensures) (c .before .before .before .before .before .before .before .before .before .before .before .clear-axes .ensures) (c .before .before .before .before .clear .ensures)
+returns c = axes-emptied (c .before .before .before .before .before .before .before .before .before .before .before .before .before .before .before .before .before .before .before .before .args .table .now) (c .before .before .before .before .before .before .before .before .before .before .before .before .before .before .before .before .before .before .before .before .args .w) (c .before .before .before .before .before .before .before .before .before .before .before .before .before .before .before .before .axes-place .result) (memory (c .before .before .before .before .before .before .before .before .before .before .before .before .before .before .before .before .before .before .before .before .args .reals .now) (c .before .before .before .before .before .before .before .before .before .before .before .before .before .before .before .before .before .before .before .before .args .counts .now)) (memory (c .before .before .before .before .before .before .before .before .before .before .before .clear-axes .last .0) (c .before .before .before .before .before .before .before .before .before .before .before .clear-axes .last .1 .0)) (memory (c .before .before .before .before .clear .last .0) (c .before .before .before .before .clear .last .1 .0)) (placed (c .before .before .before .before .before .before .before .before .before .before .before .before .before .before .before .before .before .before .before .before .args .table .now) (c .before .before .before .before .before .before .before .before .before .before .before .before .before .before .before .before .before .before .before .before .args .w) (c .before .before .before .before .before .before .before .before .before .before .before .before .before .before .before .before .axes-place .ensures) (search needs)) (c .before .before .before .before .before .before .before .before .before .before .before .clear-axes .ensures) (c .before .before .before .before .clear .ensures)
 
 pub clear-axes-grid-spec : {M : Type 1} → statement M
 clear-axes-grid-spec =

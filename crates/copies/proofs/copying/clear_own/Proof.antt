@@ -88,7 +88,7 @@ add-clear-5 c = omega (arith, c .before .before .before .before .before .before 
 
 -- src/copying.rt:61:9
 clear-requires : tie.Need-clear-requires Inv-loop μ-loop
-clear-requires c κs = (omega (arith, c .before .before .before .before .before .before .before .before .before .before .pre, c .before .before .loop-test .taken, c .before .before .before .loop .inv .1), omega (arith, c .before .before .before .before .before .before .before .before .before .before .pre, c .before .before .loop-test .taken, c .before .before .before .loop .inv .2))
+clear-requires c κs = tt
 
 -- src/copying.rt:62:9
 add-i : tie.Need-add-i Inv-loop μ-loop
@@ -104,7 +104,7 @@ loop-again c = (omega (arith, c .before .before .before .before .before .before 
 
 -- src/copying.rt:64:5
 clear-requires-2 : tie.Need-clear-requires-2 Inv-loop μ-loop
-clear-requires-2 c κs = (omega (arith, c .before .before .before .before .before .before .before .before .before .before .pre, c .before .before .before .loop .inv .1), omega (arith, c .before .before .before .before .before .before .before .before .before .before .pre, c .before .before .before .loop .inv .2))
+clear-requires-2 c κs = tt
 
 -- src/copying.rt:52:1
 same-length : tie.Need-same-length Inv-loop μ-loop

@@ -10,8 +10,8 @@ use Rattle.copies.proofs.copying.copy_grid.Tie as tie
 use Rattle.copies.proofs.copying.copy_grid.Reads as reads
 use Rattle.copies.proofs.copying.copy_grid.Lts as lts
 use Rattle.copies.proofs.copying.clear_root.Reads as clear-root-reads
-use Rattle.ground.proofs.parts.put_counts.Reads as put-counts-reads
-use Rattle.ground.proofs.parts.put_reals.Reads as put-reals-reads
+use Rattle.copies.proofs.parts.put_counts.Reads as put-counts-reads
+use Rattle.copies.proofs.parts.put_reals.Reads as put-reals-reads
 use Rattle.ground.proofs.state.judged_to.Reads as judged-to-reads
 
 -- src/copying.rt:92:9

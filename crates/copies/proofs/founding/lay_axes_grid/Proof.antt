@@ -1,3 +1,4 @@
+use Rattle.lent.proofs.Places.{placed}
 use native.Mathlib.Omega.{arith}
 use lib.ListN.{length}
 use Rattle.lent.specs.Memory.{memory}
@@ -15,7 +16,7 @@ use Rattle.ground.proofs.layout.axes_place.Reads as axes-place-reads
 
 -- src/founding.rt:18:9
 axes-place-requires : tie.Need-axes-place-requires
-axes-place-requires c κs = search needs
+axes-place-requires c κs = tt
 
 -- src/founding.rt:19:19
 add-r : tie.Need-add-r
@@ -59,11 +60,11 @@ new-requires c κs = tt
 
 -- src/founding.rt:22:5
 store-requires : tie.Need-store-requires
-store-requires c κs = (omega (arith, c .before .before .before .before .before .before .before .before .before .before .pre), omega (arith, c .before .before .before .before .before .before .before .before .before .before .pre))
+store-requires c κs = tt
 
 -- src/founding.rt:23:5
 lay-axes-requires : tie.Need-lay-axes-requires
-lay-axes-requires c κs = axes-room (c .before .before .before .before .before .before .before .before .before .before .before .before .before .before .before .before .before .args .table .now) (length (c .before .before .before .before .before .before .before .before .before .before .before .before .before .before .before .before .before .args .reals .now)) (length (c .before .before .before .before .before .before .before .before .before .before .before .before .before .before .before .before .before .args .counts .now)) (length (c .before .before .before .before .before .before .store .last .0)) (length (c .before .before .before .before .before .before .store .last .1 .0)) (c .before .before .before .before .before .before .before .before .before .before .before .before .before .before .before .before .before .args .w) (c .before .before .before .before .before .before .before .before .before .before .before .before .before .axes-place .result) (c .before .before .before .before .before .before .before .before .before .before .before .before .before .before .before .before .before .pre) (c .before .before .before .before .before .before .store .kept .0) (c .before .before .before .before .before .before .store .kept .1 .0) (c .before .before .before .before .before .before .before .before .before .before .before .before .before .axes-place .ensures)
+lay-axes-requires c κs = axes-room (c .before .before .before .before .before .before .before .before .before .before .before .before .before .before .before .before .before .args .table .now) (length (c .before .before .before .before .before .before .before .before .before .before .before .before .before .before .before .before .before .args .reals .now)) (length (c .before .before .before .before .before .before .before .before .before .before .before .before .before .before .before .before .before .args .counts .now)) (length (c .before .before .before .before .before .before .store .last .0)) (length (c .before .before .before .before .before .before .store .last .1 .0)) (c .before .before .before .before .before .before .before .before .before .before .before .before .before .before .before .before .before .args .w) (c .before .before .before .before .before .before .before .before .before .before .before .before .before .axes-place .result) (c .before .before .before .before .before .before .before .before .before .before .before .before .before .before .before .before .before .pre) (c .before .before .before .before .before .before .store .kept .0) (c .before .before .before .before .before .before .store .kept .1 .0) (placed (c .before .before .before .before .before .before .before .before .before .before .before .before .before .before .before .before .before .args .table .now) (c .before .before .before .before .before .before .before .before .before .before .before .before .before .before .before .before .before .args .w) (c .before .before .before .before .before .before .before .before .before .before .before .before .before .axes-place .ensures) (search needs))
 
 -- src/founding.rt:14:1
 same-length : tie.Need-same-length
@@ -75,7 +76,7 @@ same-length-2 c = c .before .before .before .before .lay-axes .kept .1 .0 ∙ c 
 
 -- src/founding.rt:14:1
 returns : tie.Need-returns
-returns c = axes-founded (c .before .before .before .before .before .before .before .before .before .before .before .before .before .before .before .before .before .before .before .before .before .before .args .table .now) (c .before .before .before .before .before .before .before .before .before .before .before .before .before .before .before .before .before .before .before .before .before .before .args .w) (c .before .before .before .before .before .before .before .before .before .before .before .before .before .before .before .before .before .before .axes-place .result) (c .before .before .before .before .before .before .before .before .before .before .before .before .new .result) (memory (c .before .before .before .before .before .before .before .before .before .before .before .before .before .before .before .before .before .before .before .before .before .before .args .reals .now) (c .before .before .before .before .before .before .before .before .before .before .before .before .before .before .before .before .before .before .before .before .before .before .args .counts .now)) (memory (c .before .before .before .before .before .before .before .before .before .before .before .store .last .0) (c .before .before .before .before .before .before .before .before .before .before .before .store .last .1 .0)) (memory (c .before .before .before .before .lay-axes .last .0) (c .before .before .before .before .lay-axes .last .1 .0)) (c .before .before .before .before .before .before .before .before .before .before .before .before .before .before .before .before .before .before .axes-place .ensures) (c .before .before .before .before .before .before .before .before .before .before .before .before .new .ensures) (c .before .before .before .before .before .before .before .before .before .before .before .store .ensures) (c .before .before .before .before .lay-axes .ensures)
+returns c = axes-founded (c .before .before .before .before .before .before .before .before .before .before .before .before .before .before .before .before .before .before .before .before .before .before .args .table .now) (c .before .before .before .before .before .before .before .before .before .before .before .before .before .before .before .before .before .before .before .before .before .before .args .w) (c .before .before .before .before .before .before .before .before .before .before .before .before .before .before .before .before .before .before .axes-place .result) (c .before .before .before .before .before .before .before .before .before .before .before .before .new .result) (memory (c .before .before .before .before .before .before .before .before .before .before .before .before .before .before .before .before .before .before .before .before .before .before .args .reals .now) (c .before .before .before .before .before .before .before .before .before .before .before .before .before .before .before .before .before .before .before .before .before .before .args .counts .now)) (memory (c .before .before .before .before .before .before .before .before .before .before .before .store .last .0) (c .before .before .before .before .before .before .before .before .before .before .before .store .last .1 .0)) (memory (c .before .before .before .before .lay-axes .last .0) (c .before .before .before .before .lay-axes .last .1 .0)) (placed (c .before .before .before .before .before .before .before .before .before .before .before .before .before .before .before .before .before .before .before .before .before .before .args .table .now) (c .before .before .before .before .before .before .before .before .before .before .before .before .before .before .before .before .before .before .before .before .before .before .args .w) (c .before .before .before .before .before .before .before .before .before .before .before .before .before .before .before .before .before .before .axes-place .ensures) (search needs)) (c .before .before .before .before .before .before .before .before .before .before .before .before .new .ensures) (c .before .before .before .before .before .before .before .before .before .before .before .store .ensures) (c .before .before .before .before .lay-axes .ensures)
 
 pub lay-axes-grid-spec : {M : Type 1} → statement M
 lay-axes-grid-spec =

@@ -70,7 +70,7 @@ new-requires c κs = tt
 
 -- src/founding.rt:35:5
 store-requires : tie.Need-store-requires Inv-loop μ-loop
-store-requires c κs = (omega (arith, c .before .before .before .before .before .before .before .before .before .before .before .pre), omega (arith, c .before .before .before .before .before .before .before .before .before .before .before .pre))
+store-requires c κs = tt
 
 -- src/founding.rt:37:5
 loop-holds : tie.Need-loop-holds Inv-loop μ-loop
@@ -126,7 +126,7 @@ new-requires-2 c κs = tt
 
 -- src/founding.rt:39:9
 store-requires-2 : tie.Need-store-requires-2 Inv-loop μ-loop
-store-requires-2 c κs = (omega (arith, c .before .before .before .before .before .before .before .before .before .before .before .before .before .before .before .before .before .before .before .before .before .pre, c .before .before .before .loop-test .taken, c .before .before .before .before .loop .inv .1, c .before .before .before .before .before .before .before .before .before .store .kept .0, length-set (c .before .before .before .before .loop .reals) (getD (c .before .before .before .before .before .before .before .before .before .before .before .before .before .before .before .before .before .before .before .before .before .args .table .now) ((c .before .before .before .before .before .before .before .before .before .before .before .before .before .before .before .before .before .before .before .before .before .args .w) + 5) 0 + 14 + (c .before .before .before .before .loop .i)) (c .before .before .before .before .before .before .before .before .before .before .before .before .before .inv .result)), omega (arith, c .before .before .before .before .before .before .before .before .before .before .before .before .before .before .before .before .before .before .before .before .before .pre, c .before .before .before .loop-test .taken, c .before .before .before .before .loop .inv .2, c .before .before .before .before .before .before .before .before .before .store .kept .1 .0))
+store-requires-2 c κs = tt
 
 -- src/founding.rt:46:9
 add-i : tie.Need-add-i Inv-loop μ-loop

@@ -1,80 +1,50 @@
-use mathlib.Core.Path.{refl}
-use native.Mathlib.Omega.{arith}
-use lib.ListN.{length-set}
-use Rattle.lent.specs.Cleared.{clearedAt}
+use mathlib.Core.Path.{ap₂, _∙_}
+use Rattle.lent.specs.Memory.{memory}
+use Rattle.lent.proofs.Runs.{cleared-run}
 use borrow.Author.Needs.{needs}
 use Rattle.ground.proofs.accounts.clear.Statement.{statement}
 use Rattle.ground.proofs.accounts.clear.Tie as tie
 use Rattle.ground.proofs.accounts.clear.Reads as reads
 use Rattle.ground.proofs.accounts.clear.Lts as lts
+use Rattle.ground.proofs.parts.set_counts.Reads as set-counts-reads
+use Rattle.ground.proofs.parts.set_reals.Reads as set-reals-reads
 
--- src/accounts.rt:90:5
-mul-reals : tie.Need-mul-reals
-mul-reals c = search needs
+-- src/accounts.rt:104:32
+slice-aggregate-set-reals : tie.Need-slice-aggregate-set-reals
+slice-aggregate-set-reals c = search needs
 
--- src/accounts.rt:90:5
-slice-write-reals : tie.Need-slice-write-reals
-slice-write-reals c = search needs
+-- src/accounts.rt:104:5
+set-reals-requires : tie.Need-set-reals-requires
+set-reals-requires c κs = search needs
 
--- src/accounts.rt:91:11
-add-reals : tie.Need-add-reals
-add-reals c = search needs
+-- src/accounts.rt:105:34
+slice-aggregate-set-counts : tie.Need-slice-aggregate-set-counts
+slice-aggregate-set-counts c = search needs
 
--- src/accounts.rt:91:5
-mul-reals-2 : tie.Need-mul-reals-2
-mul-reals-2 c = search needs
+-- src/accounts.rt:105:5
+set-counts-requires : tie.Need-set-counts-requires
+set-counts-requires c κs = search needs
 
--- src/accounts.rt:91:5
-slice-write-reals-2 : tie.Need-slice-write-reals-2
-slice-write-reals-2 c = simp length-set (omega (arith, c .pre .0))
-
--- src/accounts.rt:92:5
-mul-counts : tie.Need-mul-counts
-mul-counts c = search needs
-
--- src/accounts.rt:92:5
-slice-write-counts : tie.Need-slice-write-counts
-slice-write-counts c = search needs
-
--- src/accounts.rt:93:12
-add-counts : tie.Need-add-counts
-add-counts c = search needs
-
--- src/accounts.rt:93:5
-mul-counts-2 : tie.Need-mul-counts-2
-mul-counts-2 c = search needs
-
--- src/accounts.rt:93:5
-slice-write-counts-2 : tie.Need-slice-write-counts-2
-slice-write-counts-2 c = simp length-set (omega (arith, c .pre .1))
-
--- src/accounts.rt:86:1
+-- src/accounts.rt:99:1
 same-length : tie.Need-same-length
 same-length c = search needs
 
--- src/accounts.rt:86:1
+-- src/accounts.rt:99:1
 same-length-2 : tie.Need-same-length-2
 same-length-2 c = search needs
 
--- src/accounts.rt:86:1
+-- src/accounts.rt:99:1
 returns : tie.Need-returns
-unfolding clearedAt
-returns c = refl
+returns c = ap₂ memory (c .before .before .before .before .before .before .before .set-reals .ensures) (c .before .before .set-counts .ensures) ∙ cleared-run (c .before .before .before .before .before .before .before .before .before .before .before .before .args .r) (c .before .before .before .before .before .before .before .before .before .before .before .before .args .c) (memory (c .before .before .before .before .before .before .before .before .before .before .before .before .args .reals .now) (c .before .before .before .before .before .before .before .before .before .before .before .before .args .counts .now))
 
 pub clear-spec : {M : Type 1} → statement M
 clear-spec =
     tie.close
     (tie.spec
-    mul-reals
-    slice-write-reals
-    add-reals
-    mul-reals-2
-    slice-write-reals-2
-    mul-counts
-    slice-write-counts
-    add-counts
-    mul-counts-2
-    slice-write-counts-2
+    slice-aggregate-set-reals
+    set-reals-requires
+    slice-aggregate-set-counts
+    set-counts-requires
     same-length
     same-length-2
     returns)

@@ -1,35 +1,50 @@
 use mathlib.Core.Path.{ap₂}
-use Rattle.lent.specs.Memory.{memory, stored}
+use Rattle.lent.specs.Memory.{memory, stored, realsOf, countsOf}
 use borrow.Author.Needs.{needs}
 use Rattle.ground.proofs.accounts.store.Statement.{statement}
 use Rattle.ground.proofs.accounts.store.Tie as tie
 use Rattle.ground.proofs.accounts.store.Reads as reads
 use Rattle.ground.proofs.accounts.store.Lts as lts
-use Rattle.ground.proofs.accounts.store_counts.Reads as store-counts-reads
-use Rattle.ground.proofs.accounts.store_reals.Reads as store-reals-reads
+use Rattle.ground.proofs.parts.set_counts.Reads as set-counts-reads
+use Rattle.ground.proofs.parts.set_reals.Reads as set-reals-reads
 
--- src/accounts.rt:79:5
-store-reals-requires : tie.Need-store-reals-requires
-store-reals-requires c κs = search needs
+-- src/accounts.rt:94:32
+slice-aggregate-set-reals : tie.Need-slice-aggregate-set-reals
+slice-aggregate-set-reals c = search needs
 
--- src/accounts.rt:80:5
-store-counts-requires : tie.Need-store-counts-requires
-store-counts-requires c κs = search needs
+-- src/accounts.rt:94:5
+set-reals-requires : tie.Need-set-reals-requires
+set-reals-requires c κs = search needs
 
--- src/accounts.rt:75:1
+-- src/accounts.rt:95:34
+slice-aggregate-set-counts : tie.Need-slice-aggregate-set-counts
+slice-aggregate-set-counts c = search needs
+
+-- src/accounts.rt:95:5
+set-counts-requires : tie.Need-set-counts-requires
+set-counts-requires c κs = search needs
+
+-- src/accounts.rt:66:1
 same-length : tie.Need-same-length
 same-length c = search needs
 
--- src/accounts.rt:75:1
+-- src/accounts.rt:66:1
 same-length-2 : tie.Need-same-length-2
 same-length-2 c = search needs
 
--- src/accounts.rt:75:1
+-- src/accounts.rt:66:1
 returns : tie.Need-returns
-unfolding stored
-returns c = ap₂ memory (c .before .before .before .before .before .before .store-reals .ensures) (c .before .before .store-counts .ensures)
+unfolding stored realsOf countsOf
+returns c = ap₂ memory (c .before .before .before .before .before .before .before .set-reals .ensures) (c .before .before .set-counts .ensures)
 
 pub store-spec : {M : Type 1} → statement M
 store-spec =
     tie.close
-    (tie.spec store-reals-requires store-counts-requires same-length same-length-2 returns)
+    (tie.spec
+    slice-aggregate-set-reals
+    set-reals-requires
+    slice-aggregate-set-counts
+    set-counts-requires
+    same-length
+    same-length-2
+    returns)

@@ -12,11 +12,11 @@ use Rattle.ground.proofs.judge.axes_grid_fits.Reads as reads
 use Rattle.ground.proofs.judge.axes_grid_fits.Lts as lts
 use Rattle.ground.proofs.accounts.is_sound.Reads as is-sound-reads
 use Rattle.ground.proofs.judging.axes_fit.Reads as axes-fit-reads
-use Rattle.ground.proofs.layout.axes_place.Reads as axes-place-reads
+use Rattle.ground.proofs.layout.place_there.Reads as place-there-reads
 
 -- src/judge.rt:25:9
-axes-place-requires : tie.Need-axes-place-requires
-axes-place-requires c κs = search needs
+place-there-requires : tie.Need-place-there-requires
+place-there-requires c κs = search needs
 
 -- src/judge.rt:26:17
 add-first : tie.Need-add-first
@@ -69,7 +69,7 @@ part-axes-fit-end c = search needs
 -- src/judge.rt:28:9
 axes-fit-requires : tie.Need-axes-fit-requires
 unfolding axesPlace
-axes-fit-requires c κs = rw (c .before .before .before .axes-place .ensures, (part ((c .before .before .before .before .before .before .before .args .w) + 11) (getD (c .before .before .before .before .before .before .before .args .table .now) ((c .before .before .before .before .before .before .before .args .w) + 8) 0) (c .before .before .before .before .before .before .before .args .table .now) ∙ words-stretch (c .before .before .before .before .before .before .before .args .table .now) ((c .before .before .before .before .before .before .before .args .w) + 11) (getD (c .before .before .before .before .before .before .before .args .table .now) ((c .before .before .before .before .before .before .before .args .w) + 8) 0) (omega (arith, c .before .before .before .before .before .before .before .pre .head)))) (c .before .before .before .before .before .before .before .pre .most, numbers-upto (c .before .before .before .before .before .before .before .args .table .now) (length (c .before .before .before .before .before .before .before .args .reals .now)) (length (c .before .before .before .before .before .before .before .args .counts .now)) (c .before .before .before .before .before .before .before .args .w) (c .before .before .before .before .before .before .before .pre), c .before .before .before .before .before .before .before .pre .room, c .before .before .before .before .before .before .before .pre .places)
+axes-fit-requires c κs = rw (c .before .before .before .place-there .ensures, (part ((c .before .before .before .before .before .before .before .args .w) + 11) (getD (c .before .before .before .before .before .before .before .args .table .now) ((c .before .before .before .before .before .before .before .args .w) + 8) 0) (c .before .before .before .before .before .before .before .args .table .now) ∙ words-stretch (c .before .before .before .before .before .before .before .args .table .now) ((c .before .before .before .before .before .before .before .args .w) + 11) (getD (c .before .before .before .before .before .before .before .args .table .now) ((c .before .before .before .before .before .before .before .args .w) + 8) 0) (omega (arith, c .before .before .before .before .before .before .before .pre .head)))) (c .before .before .before .before .before .before .before .pre .most, numbers-upto (c .before .before .before .before .before .before .before .args .table .now) (length (c .before .before .before .before .before .before .before .args .reals .now)) (length (c .before .before .before .before .before .before .before .args .counts .now)) (c .before .before .before .before .before .before .before .args .w) (c .before .before .before .before .before .before .before .pre), c .before .before .before .before .before .before .before .pre .room, c .before .before .before .before .before .before .before .pre .places)
 
 -- src/judge.rt:29:55
 add-is-sound : tie.Need-add-is-sound
@@ -102,13 +102,13 @@ is-sound-requires c κs = search needs
 -- src/judge.rt:21:1
 returns : tie.Need-returns
 unfolding axesPlace
-returns c = rw (c .before .before .before .axes-fit .ensures, c .is-sound .ensures, c .before .before .before .before .before .before .before .axes-place .ensures, (part ((c .before .before .before .before .before .before .before .before .before .before .before .args .w) + 11) (getD (c .before .before .before .before .before .before .before .before .before .before .before .args .table .now) ((c .before .before .before .before .before .before .before .before .before .before .before .args .w) + 8) 0) (c .before .before .before .before .before .before .before .before .before .before .before .args .table .now) ∙ words-stretch (c .before .before .before .before .before .before .before .before .before .before .before .args .table .now) ((c .before .before .before .before .before .before .before .before .before .before .before .args .w) + 11) (getD (c .before .before .before .before .before .before .before .before .before .before .before .args .table .now) ((c .before .before .before .before .before .before .before .before .before .before .before .args .w) + 8) 0) (omega (arith, c .before .before .before .before .before .before .before .before .before .before .before .pre .head)))) (sound-axes (c .before .before .before .before .before .before .before .before .before .before .before .args .table .now) (c .before .before .before .before .before .before .before .before .before .before .before .args .reals .now) (c .before .before .before .before .before .before .before .before .before .before .before .args .counts .now) (c .before .before .before .before .before .before .before .before .before .before .before .args .w) (c .before .before .before .before .before .before .before .before .before .before .before .pre))
+returns c = rw (c .before .before .before .axes-fit .ensures, c .is-sound .ensures, c .before .before .before .before .before .before .before .place-there .ensures, (part ((c .before .before .before .before .before .before .before .before .before .before .before .args .w) + 11) (getD (c .before .before .before .before .before .before .before .before .before .before .before .args .table .now) ((c .before .before .before .before .before .before .before .before .before .before .before .args .w) + 8) 0) (c .before .before .before .before .before .before .before .before .before .before .before .args .table .now) ∙ words-stretch (c .before .before .before .before .before .before .before .before .before .before .before .args .table .now) ((c .before .before .before .before .before .before .before .before .before .before .before .args .w) + 11) (getD (c .before .before .before .before .before .before .before .before .before .before .before .args .table .now) ((c .before .before .before .before .before .before .before .before .before .before .before .args .w) + 8) 0) (omega (arith, c .before .before .before .before .before .before .before .before .before .before .before .pre .head)))) (sound-axes (c .before .before .before .before .before .before .before .before .before .before .before .args .table .now) (c .before .before .before .before .before .before .before .before .before .before .before .args .reals .now) (c .before .before .before .before .before .before .before .before .before .before .before .args .counts .now) (c .before .before .before .before .before .before .before .before .before .before .before .args .w) (c .before .before .before .before .before .before .before .before .before .before .before .pre))
 
 pub axes-grid-fits-spec : {M : Type 1} → statement M
 axes-grid-fits-spec =
     tie.close
     (tie.spec
-    axes-place-requires
+    place-there-requires
     add-first
     add-last
     mul-last

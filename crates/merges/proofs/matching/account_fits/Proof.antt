@@ -14,11 +14,11 @@ use Rattle.ground.proofs.accounts.load.Reads as load-reads
 
 -- src/matching.rt:71:9
 load-requires : tie.Need-load-requires
-load-requires c κs = search needs
+load-requires c κs = tt
 
 -- src/matching.rt:72:9
 load-requires-2 : tie.Need-load-requires-2
-load-requires-2 c κs = search needs
+load-requires-2 c κs = tt
 
 -- src/matching.rt:73:11
 merge-samples-no-reset-requires : tie.Need-merge-samples-no-reset-requires

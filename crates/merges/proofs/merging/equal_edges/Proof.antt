@@ -11,7 +11,7 @@ use Rattle.merges.proofs.merging.equal_edges.Tie as tie
 use Rattle.merges.proofs.merging.equal_edges.Reads as reads
 use Rattle.merges.proofs.merging.equal_edges.Lts as lts
 use Rattle.merges.proofs.merging.are_equal.Reads as are-equal-reads
-use Rattle.ground.proofs.onward.after_first.Reads as after-first-reads
+use Rattle.merges.proofs.onward.after_first.Reads as after-first-reads
 
 abbrev Inv-loop : tie.InvT-loop
 Inv-loop reals counts theirs tallies ok₀ left₀ right₀ ok left right =

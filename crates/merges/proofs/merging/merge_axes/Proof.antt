@@ -14,7 +14,7 @@ use Rattle.merges.proofs.merging.merge_axes.Tie as tie
 use Rattle.merges.proofs.merging.merge_axes.Reads as reads
 use Rattle.merges.proofs.merging.merge_axes.Lts as lts
 use Rattle.merges.proofs.merging.merge_axis.Reads as merge-axis-reads
-use Rattle.ground.proofs.onward.after_first.Reads as after-first-reads
+use Rattle.merges.proofs.onward.after_first.Reads as after-first-reads
 
 abbrev Inv-loop : tie.InvT-loop
 Inv-loop reals₀ counts₀ theirs tallies left₀ right₀ reals counts left right =

@@ -13,7 +13,7 @@ use Rattle.merges.proofs.merging.merged_fit.Tie as tie
 use Rattle.merges.proofs.merging.merged_fit.Reads as reads
 use Rattle.merges.proofs.merging.merged_fit.Lts as lts
 use Rattle.merges.proofs.merging.first_fits.Reads as first-fits-reads
-use Rattle.ground.proofs.onward.after_first.Reads as after-first-reads
+use Rattle.merges.proofs.onward.after_first.Reads as after-first-reads
 
 abbrev Inv-loop : tie.InvT-loop
 Inv-loop reals counts theirs tallies ok₀ left₀ right₀ ok left right =

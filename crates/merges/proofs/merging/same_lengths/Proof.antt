@@ -10,7 +10,7 @@ use Rattle.merges.proofs.merging.same_lengths.Statement.{statement}
 use Rattle.merges.proofs.merging.same_lengths.Tie as tie
 use Rattle.merges.proofs.merging.same_lengths.Reads as reads
 use Rattle.merges.proofs.merging.same_lengths.Lts as lts
-use Rattle.ground.proofs.onward.after_first.Reads as after-first-reads
+use Rattle.merges.proofs.onward.after_first.Reads as after-first-reads
 
 abbrev Inv-loop : tie.InvT-loop
 Inv-loop reals counts theirs tallies same₀ left₀ right₀ same left right =

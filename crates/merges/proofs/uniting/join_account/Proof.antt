@@ -12,11 +12,11 @@ use Rattle.ground.proofs.accounts.store.Reads as store-reads
 
 -- src/uniting.rt:29:9
 load-requires : tie.Need-load-requires
-load-requires c κs = search needs
+load-requires c κs = tt
 
 -- src/uniting.rt:30:9
 load-requires-2 : tie.Need-load-requires-2
-load-requires-2 c κs = search needs
+load-requires-2 c κs = tt
 
 -- src/uniting.rt:31:11
 merge-samples-no-reset-requires : tie.Need-merge-samples-no-reset-requires
@@ -28,7 +28,7 @@ enum-known-after c = search needs
 
 -- src/uniting.rt:32:35
 store-requires : tie.Need-store-requires
-store-requires c κs = search needs
+store-requires c κs = tt
 
 -- src/uniting.rt:33:32
 enum-told : tie.Need-enum-told

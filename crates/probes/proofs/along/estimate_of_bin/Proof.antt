@@ -75,7 +75,7 @@ add-load-2 c = search needs
 
 -- src/along.rt:28:5
 load-requires : tie.Need-load-requires
-load-requires c κs = search needs
+load-requires c κs = tt
 
 -- src/along.rt:28:5
 get-live-estimate-requires : tie.Need-get-live-estimate-requires

@@ -18,7 +18,7 @@ use Rattle.probes.proofs.probing.weigh_axes.Statement.{statement}
 use Rattle.probes.proofs.probing.weigh_axes.Tie as tie
 use Rattle.probes.proofs.probing.weigh_axes.Reads as reads
 use Rattle.probes.proofs.probing.weigh_axes.Lts as lts
-use Rattle.ground.proofs.onward.after_first.Reads as after-first-reads
+use Rattle.probes.proofs.onward.after_first.Reads as after-first-reads
 use Rattle.probes.proofs.probing.is_fit.Reads as is-fit-reads
 use Rattle.probes.proofs.probing.weigh_on.Reads as weigh-on-reads
 

@@ -1,4 +1,5 @@
 -- What the record gains is found before the axes are written; a well-formed grid and the sample's form give what the axes ask.
+use Rattle.lent.proofs.Places.{placed}
 use native.Mathlib.Omega.{arith}
 use Rattle.lent.specs.Memory.{memory}
 use Rattle.lent.proofs.Accepts.{own-sound}
@@ -26,7 +27,7 @@ element-copy-out-weight c = search needs
 
 -- src/absorbing.rt:36:9
 axes-place-requires : tie.Need-axes-place-requires
-axes-place-requires c κs = search needs
+axes-place-requires c κs = tt
 
 -- src/absorbing.rt:37:19
 add-r : tie.Need-add-r
@@ -64,7 +65,7 @@ train-axes-requires : tie.Need-train-axes-requires
 train-axes-requires c κs =
     let o = c .before .before .before .before .before .before .before .before .before .before .before .before in
     let s = held (o .pre .2) in
-    found-asked (o .args .table .now) (o .args .reals .now) (o .args .counts .now) (o .args .w) s (o .args .depth) (o .args .number) (o .pre .0) (o .pre .2 .offer .takes) (c .before .before .before .before .before .before .before .axes-place .result) (c .before .before .before .before .before .before .before .axes-place .ensures) (o .args .spots .now) (o .pre .2 .found)
+    found-asked (o .args .table .now) (o .args .reals .now) (o .args .counts .now) (o .args .w) s (o .args .depth) (o .args .number) (o .pre .0) (o .pre .2 .offer .takes) (c .before .before .before .before .before .before .before .axes-place .result) (placed (o .args .table .now) (o .args .w) (c .before .before .before .before .before .before .before .axes-place .ensures) (search needs)) (o .args .spots .now) (o .pre .2 .found)
 
 -- src/absorbing.rt:42:5
 put-requires : tie.Need-put-requires
@@ -88,7 +89,7 @@ returns c h =
     axes-absorbed (o .args .table .now) s (o .args .evaluation) (o .args .number) (o .args .w) (o .args .depth) m
     (memory (c .before .before .before .before .before .before .before .before .before .before .before .train-axes .last .0) (c .before .before .before .before .before .before .before .before .before .before .before .train-axes .last .1 .0)) (memory (c .before .before .before .before .put .last .0) (c .before .before .before .before .put .last .1 .0))
     g (entries 0 (o .args .spots .now) 0 (g .axes)) (c .before .before .before .before .before .before .before .before .before .before .before .before .before .before .gain-at .result)
-    (c .before .before .before .before .before .before .before .before .before .before .before .before .before .before .before .before .before .before .before .axes-place .ensures) (found-there (o .args .table .now) (o .args .reals .now) (o .args .counts .now) (o .args .w) s (o .args .depth) (o .args .number) (o .pre .0) (h .offer .takes) g (c .before .before .before .before .before .before .before .before .before .before .before .before .before .before .before .before .before .before .before .axes-place .ensures) (o .args .spots .now) (h .found)) (c .before .before .before .before .before .before .before .before .before .before .before .before .before .before .gain-at .ensures) (c .before .before .before .before .before .before .before .before .before .before .before .train-axes .ensures) (c .before .before .before .before .put .ensures)
+    (placed (o .args .table .now) (o .args .w) (c .before .before .before .before .before .before .before .before .before .before .before .before .before .before .before .before .before .before .before .axes-place .ensures) (search needs)) (found-there (o .args .table .now) (o .args .reals .now) (o .args .counts .now) (o .args .w) s (o .args .depth) (o .args .number) (o .pre .0) (h .offer .takes) g (placed (o .args .table .now) (o .args .w) (c .before .before .before .before .before .before .before .before .before .before .before .before .before .before .before .before .before .before .before .axes-place .ensures) (search needs)) (o .args .spots .now) (h .found)) (c .before .before .before .before .before .before .before .before .before .before .before .before .before .before .gain-at .ensures) (c .before .before .before .before .before .before .before .before .before .before .before .train-axes .ensures) (c .before .before .before .before .put .ensures)
 
 pub absorb-axes-spec : {M : Type 1} → statement M
 absorb-axes-spec =

@@ -1,4 +1,5 @@
 -- Of well-formed axes only the bins that the sample joins may fail, and the grid's own accumulator.
+use Rattle.lent.proofs.Places.{placed}
 use mathlib.Core.Path.{ap₂, _∙_}
 use mathlib.Core.Bool.{_&&_}
 use native.Mathlib.Omega.{arith}
@@ -26,14 +27,14 @@ element-copy-out-weight c = search needs
 
 -- src/acceptance.rt:39:9
 axes-place-requires : tie.Need-axes-place-requires
-axes-place-requires c κs = search needs
+axes-place-requires c κs = tt
 
 -- src/acceptance.rt:41:9
 axes-fit-requires : tie.Need-axes-fit-requires
 axes-fit-requires c κs =
     let o = c .before .before .before .before .before .before in
     let s = offered (o .pre .2) in
-    (cells-of (o .args .table .now) (o .args .reals .now) (o .args .counts .now) (o .args .w) s (o .args .depth) (o .args .number) (o .pre .0) (o .pre .2 .takes) (c .before .axes-place .result) (c .before .axes-place .ensures), o .pre .3)
+    (cells-of (o .args .table .now) (o .args .reals .now) (o .args .counts .now) (o .args .w) s (o .args .depth) (o .args .number) (o .pre .0) (o .pre .2 .takes) (c .before .axes-place .result) (placed (o .args .table .now) (o .args .w) (c .before .axes-place .ensures) (search needs)), o .pre .3)
 
 -- src/acceptance.rt:42:19
 add-r : tie.Need-add-r
@@ -72,10 +73,11 @@ returns c q =
     let o = c .before .before .before .before .before .before .before .before .before .before in
     let s = offered q in
     let place = c .before .before .before .before .before .axes-place in
+    let at = placed (o .args .table .now) (o .args .w) (place .ensures) (search needs) in
     let fit = c .before .before .before .axes-fit in (
-      ap₂ _&&_ (c .fits-with .ensures) (fit .ensures .0 ∙ fit-there (o .args .table .now) (o .args .reals .now) (o .args .counts .now) (o .args .w) s (o .args .depth) (o .args .number) (o .pre .0) (q .takes) (place .result) (place .ensures) (mul binary64 (getD (o .args .weights .now) (o .args .depth) nan) (o .args .evaluation)))
+      ap₂ _&&_ (c .fits-with .ensures) (fit .ensures .0 ∙ fit-there (o .args .table .now) (o .args .reals .now) (o .args .counts .now) (o .args .w) s (o .args .depth) (o .args .number) (o .pre .0) (q .takes) (place .result) at (mul binary64 (getD (o .args .weights .now) (o .args .depth) nan) (o .args .evaluation)))
           ∙ axes-told (o .args .table .now) (o .args .reals .now) (o .args .counts .now) (o .args .w) s (o .args .depth) (o .args .number) (o .pre .0) (q .takes) (o .args .evaluation),
-      axes-found (o .args .table .now) (o .args .reals .now) (o .args .counts .now) (o .args .w) s (o .args .depth) (o .args .number) (o .pre .0) (q .takes) (place .result) (place .ensures) (fit .last .1 .1 .1 .1 .1 .1 .0) (fit .ensures .1),
+      axes-found (o .args .table .now) (o .args .reals .now) (o .args .counts .now) (o .args .w) s (o .args .depth) (o .args .number) (o .pre .0) (q .takes) (place .result) at (fit .last .1 .1 .1 .1 .1 .1 .0) (fit .ensures .1),
     )
 
 pub axes-accept-spec : {M : Type 1} → statement M

@@ -1,3 +1,4 @@
+use Rattle.lent.proofs.Places.{placed}
 use Rattle.lent.proofs.Samples.{sound-stands, axes-made}
 use mathlib.Core.Path.{sym, subst}
 use Rattle.lent.specs.declared.AxesAt.{AxesAt}
@@ -12,11 +13,11 @@ use Rattle.ground.proofs.layout.axes_place.Reads as axes-place-reads
 
 -- src/sampling.rt:78:9
 axes-place-requires : tie.Need-axes-place-requires
-axes-place-requires c κs = search needs
+axes-place-requires c κs = tt
 
 -- src/sampling.rt:79:9
 draw-axes-requires : tie.Need-draw-axes-requires
-draw-axes-requires c κs = (subst (λ (g : AxesAt). Stands (c .before .before .before .before .before .before .args .reals .now) (c .before .before .before .before .before .before .args .counts .now) g) (sym (c .before .before .axes-place .ensures)) (sound-stands (c .before .before .before .before .before .before .args .table .now) (c .before .before .before .before .before .before .args .reals .now) (c .before .before .before .before .before .before .args .counts .now) (c .before .before .before .before .before .before .args .w) (c .before .before .before .before .before .before .pre .0) (c .before .before .before .before .before .before .pre .1)), c .before .before .before .before .before .before .pre .3)
+draw-axes-requires c κs = (subst (λ (g : AxesAt). Stands (c .before .before .before .before .before .before .args .reals .now) (c .before .before .before .before .before .before .args .counts .now) g) (sym (placed (c .before .before .before .before .before .before .args .table .now) (c .before .before .before .before .before .before .args .w) (c .before .before .axes-place .ensures) (search needs))) (sound-stands (c .before .before .before .before .before .before .args .table .now) (c .before .before .before .before .before .before .args .reals .now) (c .before .before .before .before .before .before .args .counts .now) (c .before .before .before .before .before .before .args .w) (c .before .before .before .before .before .before .pre .0) (c .before .before .before .before .before .before .pre .1)), c .before .before .before .before .before .before .pre .3)
 
 -- src/sampling.rt:80:5
 mul-weights : tie.Need-mul-weights
@@ -32,8 +33,8 @@ add-t15 c = search needs
 
 -- src/sampling.rt:63:1
 returns : tie.Need-returns
-returns c = let s = subst (λ (g : AxesAt). Stands (c .before .before .before .before .before .before .before .before .args .reals .now) (c .before .before .before .before .before .before .before .before .args .counts .now) g) (sym (c .before .before .before .before .axes-place .ensures)) (sound-stands (c .before .before .before .before .before .before .before .before .args .table .now) (c .before .before .before .before .before .before .before .before .args .reals .now) (c .before .before .before .before .before .before .before .before .args .counts .now) (c .before .before .before .before .before .before .before .before .args .w) (c .before .before .before .before .before .before .before .before .pre .0) (c .before .before .before .before .before .before .before .before .pre .1)) in
-    axes-made (c .before .before .before .before .before .before .before .before .args .table .now) (c .before .before .before .before .before .before .before .before .args .reals .now) (c .before .before .before .before .before .before .before .before .args .counts .now) (c .before .before .before .before .before .before .before .before .args .w) (c .before .before .before .before .before .before .before .before .args .depth) (c .before .before .before .before .before .before .before .before .args .start) (c .before .draw-axes .result) (c .before .before .before .before .axes-place .result) (c .before .before .before .before .before .before .before .before .args .weights .now) (c .before .before .before .before .before .before .before .before .args .coordinates .now) (c .before .draw-axes .last .1 .1 .1 .1 .0) (c .before .before .before .before .axes-place .ensures) (s .0) (c .before .draw-axes .ensures)
+returns c = let s = subst (λ (g : AxesAt). Stands (c .before .before .before .before .before .before .before .before .args .reals .now) (c .before .before .before .before .before .before .before .before .args .counts .now) g) (sym (placed (c .before .before .before .before .before .before .before .before .args .table .now) (c .before .before .before .before .before .before .before .before .args .w) (c .before .before .before .before .axes-place .ensures) (search needs))) (sound-stands (c .before .before .before .before .before .before .before .before .args .table .now) (c .before .before .before .before .before .before .before .before .args .reals .now) (c .before .before .before .before .before .before .before .before .args .counts .now) (c .before .before .before .before .before .before .before .before .args .w) (c .before .before .before .before .before .before .before .before .pre .0) (c .before .before .before .before .before .before .before .before .pre .1)) in
+    axes-made (c .before .before .before .before .before .before .before .before .args .table .now) (c .before .before .before .before .before .before .before .before .args .reals .now) (c .before .before .before .before .before .before .before .before .args .counts .now) (c .before .before .before .before .before .before .before .before .args .w) (c .before .before .before .before .before .before .before .before .args .depth) (c .before .before .before .before .before .before .before .before .args .start) (c .before .draw-axes .result) (c .before .before .before .before .axes-place .result) (c .before .before .before .before .before .before .before .before .args .weights .now) (c .before .before .before .before .before .before .before .before .args .coordinates .now) (c .before .draw-axes .last .1 .1 .1 .1 .0) (placed (c .before .before .before .before .before .before .before .before .args .table .now) (c .before .before .before .before .before .before .before .before .args .w) (c .before .before .before .before .axes-place .ensures) (search needs)) (s .0) (c .before .draw-axes .ensures)
 
 pub draw-from-axes-spec : {M : Type 1} → statement M
 draw-from-axes-spec =

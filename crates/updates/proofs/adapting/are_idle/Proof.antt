@@ -105,7 +105,7 @@ add-load-2 c = omega (arith, c .before .before .before .before .before .before .
 
 -- src/adapting.rt:137:39
 load-requires : tie.Need-load-requires Inv-loop μ-loop
-load-requires c κs = (omega (arith, c .before .before .before .before .before .before .before .before .before .pre, c .loop-test .taken), omega (arith, c .before .before .before .before .before .before .before .before .before .pre, c .loop-test .taken))
+load-requires c κs = tt
 
 -- src/adapting.rt:137:21
 is-idle-requires : tie.Need-is-idle-requires Inv-loop μ-loop

@@ -105,7 +105,7 @@ add-load-2 c = omega (arith, c .before .before .before .before .before .before .
 
 -- src/adapting.rt:175:36
 load-requires : tie.Need-load-requires Inv-loop μ-loop
-load-requires c κs = (omega (arith, c .before .before .before .before .before .before .before .before .before .before .pre .0, c .loop-test .taken), omega (arith, c .before .before .before .before .before .before .before .before .before .before .pre .0, c .loop-test .taken))
+load-requires c κs = tt
 
 -- src/adapting.rt:175:19
 raw-of-requires : tie.Need-raw-of-requires Inv-loop μ-loop

@@ -7,8 +7,8 @@ use Rattle.updates.proofs.adapting.lay_chances.Tie as tie
 use Rattle.updates.proofs.adapting.lay_chances.Reads as reads
 use Rattle.updates.proofs.adapting.lay_chances.Lts as lts
 use Rattle.updates.proofs.adapting.find_raws.Reads as find-raws-reads
-use Rattle.ground.proofs.layout.double.Reads as double-reads
-use Rattle.ground.proofs.parts.put_reals.Reads as put-reals-reads
+use Rattle.answers.proofs.double.Reads as double-reads
+use Rattle.updates.proofs.parts.put_reals.Reads as put-reals-reads
 use Rattle.recut.proofs.adapt.Reads as adapt-reads
 
 -- src/adapting.rt:200:5
@@ -29,7 +29,7 @@ shared-slice-read-double c = search needs
 
 -- src/adapting.rt:201:34
 double-requires : tie.Need-double-requires
-double-requires c κs = ratio-real _ (c .before .before .before .before .before .before .before .before .before .before .before .pre .0 .ratio)
+double-requires c κs = tt
 
 -- src/adapting.rt:201:9
 adapt-requires : tie.Need-adapt-requires

@@ -12,7 +12,7 @@ use Rattle.ground.proofs.accounts.store.Reads as store-reads
 
 -- src/adapting.rt:36:11
 load-requires : tie.Need-load-requires
-load-requires c κs = search needs
+load-requires c κs = tt
 
 -- src/adapting.rt:36:11
 update-iter-requires : tie.Need-update-iter-requires
@@ -24,7 +24,7 @@ enum-known-a c = search needs
 
 -- src/adapting.rt:38:13
 store-requires : tie.Need-store-requires
-store-requires c κs = search needs
+store-requires c κs = tt
 
 -- src/adapting.rt:44:32
 enum-told : tie.Need-enum-told

@@ -9,8 +9,8 @@ use Rattle.updates.proofs.updating.update_over.Tie as tie
 use Rattle.updates.proofs.updating.update_over.Reads as reads
 use Rattle.updates.proofs.updating.update_over.Lts as lts
 use Rattle.updates.proofs.adapting.update_grid.Reads as update-grid-reads
-use Rattle.ground.proofs.parts.copy_counts.Reads as copy-counts-reads
-use Rattle.ground.proofs.parts.copy_reals.Reads as copy-reals-reads
+use Rattle.updates.proofs.parts.copy_counts.Reads as copy-counts-reads
+use Rattle.updates.proofs.parts.copy_reals.Reads as copy-reals-reads
 
 -- src/updating.rt:37:5
 copy-reals-requires : tie.Need-copy-reals-requires

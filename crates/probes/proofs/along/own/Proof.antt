@@ -3,11 +3,11 @@ use lib.ListN.{length}
 use mathlib.Core.Path.{_∙_}
 use Rattle.lent.proofs.Laid.{laid-axes, laid-bins, laid-head}
 use Rattle.lent.proofs.States.{own-axes, own-bins}
-use Rattle.ground.proofs.state.own.Statement.{statement}
-use Rattle.ground.proofs.state.own.Tie as tie
-use Rattle.ground.proofs.state.own.Reads as reads
-use Rattle.ground.proofs.state.own.Lts as lts
+use Rattle.probes.proofs.along.own.Statement.{statement}
+use Rattle.probes.proofs.along.own.Tie as tie
+use Rattle.probes.proofs.along.own.Reads as reads
+use Rattle.probes.proofs.along.own.Lts as lts
 use Rattle.ground.proofs.accounts.load.Reads as load-reads
 
 -- src/state.rt:46:8
 shared-slice-read-if1 : tie.Need-shared-slice-read-if1
@@ -23,7 +23,7 @@ shared-slice-read-load-2 c = let q = (laid-axes 4 (c .before .before .before .be
 
 -- src/state.rt:47:9
 load-requires : tie.Need-load-requires
-load-requires c κs = let q = (laid-axes 4 (c .before .before .before .before .before .before .before .args .table .now) (length (c .before .before .before .before .before .before .before .args .reals .now)) (length (c .before .before .before .before .before .before .before .args .counts .now)) 0 (c .before .before .before .before .before .before .before .pre) (c .before .before .if1 .taken)) in (omega arith, omega arith)
+load-requires c κs = tt
 
 -- src/state.rt:47:9
 returns : tie.Need-returns
@@ -39,7 +39,7 @@ shared-slice-read-load-4 c = let q = (laid-bins 4 (c .before .before .before .be
 
 -- src/state.rt:49:5
 load-requires-2 : tie.Need-load-requires-2
-load-requires-2 c κs = let q = (laid-bins 4 (c .before .before .before .before .before .before .before .args .table .now) (length (c .before .before .before .before .before .before .before .args .reals .now)) (length (c .before .before .before .before .before .before .before .args .counts .now)) 0 (c .before .before .before .before .before .before .before .pre) (c .before .before .if1 .left) .bins) in (omega arith, omega arith)
+load-requires-2 c κs = tt
 
 -- src/state.rt:42:1
 returns-2 : tie.Need-returns-2

@@ -3,10 +3,10 @@ use mathlib.Core.Path.{refl}
 use Rattle.lent.specs.Layout.{axisReals, axisCounts}
 use Rattle.lent.specs.Onward.{onward}
 use borrow.Author.Needs.{needs}
-use Rattle.ground.proofs.onward.after_first.Statement.{statement}
-use Rattle.ground.proofs.onward.after_first.Tie as tie
-use Rattle.ground.proofs.onward.after_first.Reads as reads
-use Rattle.ground.proofs.onward.after_first.Lts as lts
+use Rattle.probes.proofs.onward.after_first.Statement.{statement}
+use Rattle.probes.proofs.onward.after_first.Tie as tie
+use Rattle.probes.proofs.onward.after_first.Reads as reads
+use Rattle.probes.proofs.onward.after_first.Lts as lts
 
 -- src/onward.rt:14:14
 sub-r : tie.Need-sub-r
