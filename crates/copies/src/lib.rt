@@ -1,6 +1,7 @@
 // Grids laid in lent memory: fresh from a plan, or as a copy.
 mod copying;
 mod founding;
+mod laying;
 
 ghost use mathlib.Core.Path.{_≡_};
 ghost use Rattle.plan.specs.Paper.{gives, planRead, paperRead};

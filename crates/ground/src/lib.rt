@@ -9,4 +9,5 @@ pub mod laying;
 pub mod layout;
 pub mod onward;
 pub mod parts;
+mod room;
 pub mod state;
