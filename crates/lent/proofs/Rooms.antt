@@ -15,6 +15,7 @@ use Rattle.real.proofs.Truth.{both}
 use Rattle.lent.specs.Layout.{axisReals, axisCounts, roomyAxes}
 use Rattle.lent.specs.Memory.{Memory}
 use Rattle.lent.specs.Laid.{Roomy, roomy, whereRoomy, waitlessAt, waitlessOf, emptyAt, emptyOf}
+use Rattle.lent.specs.Judged.{axesFit, AllUpto, allUpto, axesFitOf}
 
 -- ---- axes
 
@@ -65,3 +66,38 @@ waitless-known m n r c s h = where-known m n r c (waitlessAt m r c n) s h
 pub empty-known : (m n r c recuts : ℕ) (s : Memory) → Roomy m n r c (s .reals) (s .counts) → emptyOf m r c n recuts s ≡ emptyAt m r c n recuts s
 unfolding emptyOf
 empty-known m n r c recuts s h = where-known m n r c (emptyAt m r c n recuts) s h
+
+-- ---- numbers of bins
+
+pub upto-on : (m : ℕ) (vs : List ℕ) (i : ℕ) (ok : Bool) → i < length vs
+    → ((ok && (leb 1 (getD vs i 0) && leb (getD vs i 0) m)) && allUpto m (drop (i + 1) vs)) ≡ (ok && allUpto m (drop i vs))
+unfolding allUpto
+upto-on m vs i ok h = rw (and-assoc, add-one, drop-cons vs i 0 h)
+
+pub upto-out : (m : ℕ) (vs : List ℕ) (i : ℕ) (ok : Bool) → length vs ≤ i → (ok && allUpto m (drop i vs)) ≡ ok
+unfolding allUpto
+upto-out m vs i ok h = ap (λ (l : List ℕ). ok && allUpto m l) (drop-of-length-le vs h) ∙ and-true ok
+
+pub upto-had : (m : ℕ) (ns : List ℕ) → allUpto m ns ≡ true → AllUpto m ns
+unfolding allUpto AllUpto
+upto-had m [] e i h = absurd (omega arith)
+upto-had m (n ∷ ns) e zero h =
+    let a = both (leb 1 n && leb n m) _ e in
+    let b = both (leb 1 n) (leb n m) (a .0) in
+    (leb-true 1 n (b .0), leb-true n m (b .1))
+upto-had m (n ∷ ns) e (suc i) h = upto-had m ns (both (leb 1 n && leb n m) _ e .1) i (omega arith)
+
+upto-has : (m : ℕ) (ns : List ℕ) → AllUpto m ns → allUpto m ns ≡ true
+unfolding allUpto AllUpto
+upto-has m [] a = refl
+upto-has m (n ∷ ns) a =
+    let h = a 0 (omega arith) in
+    rw (le-leb 1 n (h .0), le-leb n m (h .1)) (upto-has m ns (λ i k. a (suc i) (omega arith)))
+
+-- ---- axes that fit
+
+module _ (numbers : List ℕ) (m : ℕ) (reals : List Float) (counts : List ℕ) (k r c : ℕ) where
+  pub fit-known : m ≤ 1024 → k ≤ 8 → AllUpto m numbers → r + k * axisReals m ≤ length reals → c + k * axisCounts m ≤ length counts
+      → axesFitOf numbers m reals counts k r c ≡ axesFit numbers m reals counts k r c
+  unfolding axesFitOf
+  fit-known most few upto room places = rw (axes-have m k r c (length reals) (length counts) most few room places, upto-has m numbers upto)
