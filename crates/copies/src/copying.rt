@@ -89,7 +89,7 @@ pub fn copy_grid(
     ensures { λ n. ⌜ cloneEnd n (memory (now («to_reals» .exit)) (now («to_counts» .exit))) ≡
         clonedBy (now (table .entry)) (memory (now (reals .entry)) (now (counts .entry))) (memory (now («to_reals» .entry)) (now («to_counts» .entry))) needs ⌝ }
 {
-    let refused = state::judged_to(table, reals, counts, to_reals.len(), to_counts.len(), needs);
+    let refused = state::fault_to(table, reals, counts, to_reals.len(), to_counts.len());
     if refused != 0 {
         return refused;
     }

@@ -5,9 +5,9 @@ ghost use lib.ListN.{length, getD};
 ghost use Rattle.lent.specs.Memory.{memory};
 ghost use Rattle.lent.specs.Tree.{AxesLaid, BinsLaid, Laid};
 ghost use Rattle.lent.specs.Founded.{laidAxes, laidOwn, laidChild, laidChildren, laidGrid};
+use crate::laying;
 use accumulator::StatisticsAccumulator;
 use ground::accounts;
-use ground::laying;
 use ground::layout;
 
 // An axes grid: a fresh own accumulator, and axes of even bins.

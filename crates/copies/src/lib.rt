@@ -1,6 +1,7 @@
 // Grids laid in lent memory: fresh from a plan, or as a copy.
 mod copying;
 mod founding;
+mod laying;
 mod onward;
 mod parts;
 

@@ -25,7 +25,7 @@ fn axes_grid_fits(table: &[u64], reals: &[f64], counts: &[u64], w: usize) -> boo
     let g = layout::place_there(table, w);
     let first = w + 11;
     let last = first + table[w + 8] as usize;
-    let fit = judging::axes_fit(reals, counts, g, table[w + 3], &table[first..last]);
+    let fit = judging::axes_fit_there(reals, counts, g, table[w + 3], &table[first..last]);
     let own = accounts::is_sound(reals, counts, table[w + 9] as usize, table[w + 10] as usize);
     fit & own
 }

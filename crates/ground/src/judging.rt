@@ -4,7 +4,8 @@ ghost use mathlib.Core.List.{_∷_};
 ghost use Prim.Native.Nat.{_+_, _*_, _≤_};
 ghost use lib.ListN.{length};
 ghost use Rattle.model.specs.Sound.{listed};
-ghost use Rattle.lent.specs.Judged.{realsFit, countsFit, axisFits, axesFit, AllUpto};
+ghost use Rattle.lent.specs.Judged.{realsFit, countsFit, axisFits, axesFit, AllUpto, allUpto, axesFitOf};
+use crate::room;
 use lent::AxesAt;
 
 // Whether n is the plan's bin number or a value of its bin evolution.
@@ -72,8 +73,14 @@ fn axis_fits(
     doubles & whole
 }
 
-// Whether every axis is well formed.
-pub fn axes_fit(reals: &[f64], counts: &[u64], g: AxesAt, bins: u64, values: &[u64]) -> bool
+// Whether every axis is well formed, of axes that there is room for.
+pub(crate) fn axes_fit_there(
+    reals: &[f64],
+    counts: &[u64],
+    g: AxesAt,
+    bins: u64,
+    values: &[u64],
+) -> bool
     requires { ⌜ (g .most ≤ 1024) × AllUpto (g .most) (bins ∷ now values) × (g .reals + g .axes * (6 * g .most + 1) ≤ length (now reals)) × (g .counts + g .axes * (3 * g .most + 2) ≤ length (now counts)) ⌝ }
     ensures { λ o. ⌜ o ≡ axesFit (bins ∷ now (values .entry)) (g .most) (now (reals .entry)) (now (counts .entry)) (g .axes) (g .reals) (g .counts) ⌝ }
 {
@@ -88,4 +95,29 @@ pub fn axes_fit(reals: &[f64], counts: &[u64], g: AxesAt, bins: u64, values: &[u
         done += 1;
     }
     ok
+}
+
+// Whether the plan's bin number and the values of its bin evolution are from 1 to `most`.
+fn are_upto(most: usize, bins: u64, values: &[u64]) -> bool
+    ensures { λ o. ⌜ o ≡ allUpto most (bins ∷ now (values .entry)) ⌝ }
+{
+    let top = most as u64;
+    let mut ok = (1 <= bins) & (bins <= top);
+    let mut i = 0;
+    while i < values.len() {
+        ok = ok & ((1 <= values[i]) & (values[i] <= top));
+        i += 1;
+    }
+    ok
+}
+
+// Whether there is room for the axes and for each number of bins, and every axis is well formed.
+pub fn axes_fit(reals: &[f64], counts: &[u64], g: AxesAt, bins: u64, values: &[u64]) -> bool
+    ensures { λ o. ⌜ o ≡ axesFitOf (bins ∷ now (values .entry)) (g .most) (now (reals .entry)) (now (counts .entry)) (g .axes) (g .reals) (g .counts) ⌝ }
+{
+    let room = room::has_axes(reals.len(), counts.len(), g.most, g.axes, g.reals, g.counts);
+    if !(room & are_upto(g.most, bins, values)) {
+        return false;
+    }
+    axes_fit_there(reals, counts, g, bins, values)
 }

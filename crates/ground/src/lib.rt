@@ -8,4 +8,5 @@ pub mod judging;
 pub mod laying;
 pub mod layout;
 pub mod parts;
+mod room;
 pub mod state;

@@ -2,7 +2,7 @@
 ghost use mathlib.Core.Path.{_≡_};
 ghost use Rattle.plan.specs.Paper.{gives};
 ghost use Rattle.plan.specs.Calls.{sizesOf};
-ghost use Rattle.lent.specs.State.{judgedBy, judgedTo, stateFault, bothJudged, secondBy, pairFault};
+ghost use Rattle.lent.specs.State.{judgedBy, judgedTo, stateFault, faultTo, bothJudged, secondBy, pairFault};
 use crate::judge;
 use plan::Needs;
 use plan::Sized;
@@ -25,7 +25,7 @@ fn judged(table: &[u64], reals: &[f64], counts: &[u64], needs: Needs) -> u64
 }
 
 // The same with a destination of so many reals and counts, which is judged behind the source's room and before its state.
-pub fn judged_to(
+fn judged_to(
     table: &[u64],
     reals: &[f64],
     counts: &[u64],
@@ -60,6 +60,16 @@ pub fn fault(table: &[u64], reals: &[f64], counts: &[u64]) -> u64
 {
     match plan::sizes(table) {
         Sized::Plan(needs) => judged(table, reals, counts, needs),
+        Sized::Refused(_) => 12,
+    }
+}
+
+// The same with a destination of so many reals and counts.
+pub fn fault_to(table: &[u64], reals: &[f64], counts: &[u64], places: usize, tallies: usize) -> u64
+    ensures { λ n. ⌜ n ≡ faultTo (now (table .entry)) (now (reals .entry)) (now (counts .entry)) places tallies ⌝ }
+{
+    match plan::sizes(table) {
+        Sized::Plan(needs) => judged_to(table, reals, counts, places, tallies, needs),
         Sized::Refused(_) => 12,
     }
 }

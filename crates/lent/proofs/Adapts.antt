@@ -15,10 +15,12 @@ use Rattle.recut.specs.Chances.{allChances, adaptedTo}
 use Rattle.plan.specs.Numbers.{wordsAt}
 use Rattle.lent.specs.declared.Rule.{Rule}
 use Rattle.lent.specs.declared.AxesAt.{AxesAt}
+use Rattle.lent.specs.Layout.{axisReals, axisCounts}
 use Rattle.lent.specs.Drawn.{Stands}
-use Rattle.lent.specs.Judged.{axesFit, AllUpto}
+use Rattle.lent.specs.Judged.{axesFit, AllUpto, axesFitOf}
 use Rattle.lent.proofs.Judges.{fit-stands}
 use Rattle.lent.proofs.Sounds.{numbers-upto}
+use Rattle.lent.proofs.Rooms.{fit-known}
 use Rattle.lent.proofs.Renewals.{within-all}
 use Rattle.accumulator.specs.declared.StatisticsAccumulator.{StatisticsAccumulator}
 use Rattle.accumulator.specs.declared.Updated.{Updated}
@@ -139,20 +141,20 @@ module _ (table : List ℕ) (s : Memory) (w n : ℕ) where
 -- ---- an axes grid
 
 module _ (table : List ℕ) (rate : Float) (w : ℕ) (s : Memory) (laid : AxesLaid table (length (s .reals)) (length (s .counts)) w) (g : AxesAt) (p : g ≡ axesPlace table w) (vs : List ℕ)
-    (q : vs ≡ wordsAt table (w + 11) (getD table (w + 8) 0)) (ok : Bool) (f : ok ≡ axesFit (getD table (w + 3) 0 ∷ vs) (g .most) (s .reals) (s .counts) (g .axes) (g .reals) (g .counts)) where
+    (q : vs ≡ wordsAt table (w + 11) (getD table (w + 8) 0)) (ok : Bool) (f : ok ≡ axesFitOf (getD table (w + 3) 0 ∷ vs) (g .most) (s .reals) (s .counts) (g .axes) (g .reals) (g .counts)) where
   abbrev listed-bins : List ℕ
   listed-bins = getD table (w + 3) 0 ∷ wordsAt table (w + 11) (getD table (w + 8) 0)
 
+  upto : AllUpto (getD table (w + 7) 0) listed-bins
+  upto = numbers-upto table (length (s .reals)) (length (s .counts)) w laid
+
   fits : ok ≡ axesFit listed-bins (getD table (w + 7) 0) (s .reals) (s .counts) (getD table (w + 2) 0) (getD table (w + 9) 0 + 14) (getD table (w + 10) 0 + 7)
-  unfolding axesPlace
-  fits = f ∙ rw (p, q)
+  unfolding axesPlace axisReals axisCounts
+  fits = f ∙ rw (p, q) (fit-known listed-bins (getD table (w + 7) 0) (s .reals) (s .counts) (getD table (w + 2) 0) (getD table (w + 9) 0 + 14) (getD table (w + 10) 0 + 7) (laid .most) (laid .axes) upto (laid .room) (laid .places))
 
   pub axes-unfit : not ok ≡ true → finding true false s ≡ axesUpdated table rate w s
   unfolding axesUpdated
   axes-unfit n = rw (failed fits n)
-
-  upto : AllUpto (getD table (w + 7) 0) listed-bins
-  upto = numbers-upto table (length (s .reals)) (length (s .counts)) w laid
 
   pub axes-ready : (rule : Rule) → not ok ≡ false → rule ≡ ruleAt table w → Stands (s .reals) (s .counts) g × Within (g .most) rule vs
   unfolding axesPlace ruleAt AllUpto

@@ -22,6 +22,7 @@ pub mod Changes
 pub mod Empties
 pub mod Updates
 pub mod Judges
+pub mod Rooms
 pub mod Sounds
 pub mod Samples
 pub mod Paths

@@ -19,7 +19,7 @@ use Rattle.model.specs.Sound.{sound}
 use Rattle.real.specs.Paper.{Paper, gives, refuses}
 use Rattle.lent.specs.Memory.{recordAt}
 use Rattle.lent.specs.Tree.{axesGridAt, headAt, Laid}
-use Rattle.lent.specs.State.{rootOf, ownOf, judgedBy, faultBy, stateFault, bothJudged, secondBy, firstBy, pairFault}
+use Rattle.lent.specs.State.{rootOf, ownOf, judgedBy, judgedTo, faultBy, stateFault, faultToBy, faultTo, bothJudged, secondBy, firstBy, pairFault}
 use Rattle.lent.specs.Calls.{onState}
 use Rattle.lent.proofs.Laid.{root-laid}
 use Rattle.lent.proofs.Sounds.{node-axes, node-bins}
@@ -69,6 +69,21 @@ sizes-planned table r n e q = sym e ∙ sym (ap paperSized q)
 pub fault-strayed : (table : List ℕ) (reals : List Float) (counts : List ℕ) (r : Sized) (n : ℕ) → paperSized r ≡ sizesOf table → sized.Refused n ≡ r → 12 ≡ stateFault table reals counts
 unfolding stateFault faultBy paperSized
 fault-strayed table reals counts r n e q = ap (λ (p : plan.Paper Needs). faultBy table reals counts p) (ap paperSized q ∙ e)
+
+-- with a destination
+module _ (table : List ℕ) (reals : List Float) (counts : List ℕ) (R C : ℕ) where
+  pub fault-to-planned : (r : Sized) (n : Needs) (k : ℕ) → paperSized r ≡ sizesOf table → sized.Plan n ≡ r → k ≡ judgedTo table reals counts R C n → k ≡ faultTo table reals counts R C
+  unfolding faultTo faultToBy
+  fault-to-planned r n k e q j = j ∙ ap (faultToBy table reals counts R C) (sym (sizes-planned table r n e q))
+
+  pub fault-to-strayed : (r : Sized) (n : ℕ) → paperSized r ≡ sizesOf table → sized.Refused n ≡ r → 12 ≡ faultTo table reals counts R C
+  unfolding faultTo faultToBy paperSized
+  fault-to-strayed r n e q = ap (faultToBy table reals counts R C) (ap paperSized q ∙ e)
+
+  -- where the plan's needs are known already
+  pub fault-to-known : (n : Needs) → sizesOf table ≡ plan.gives n → faultTo table reals counts R C ≡ judgedTo table reals counts R C n
+  unfolding faultTo faultToBy
+  fault-to-known n e = ap (faultToBy table reals counts R C) e
 
 -- ---- two states
 

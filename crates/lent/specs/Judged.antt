@@ -1,7 +1,7 @@
 -- Judging an axes grid in lent memory (12), column by column.
 use Prim.Native.Nat.{ℕ, zero, suc, _+_, _*_, _^_, _≤_, _<_}
 use mathlib.Core.Bool.{Bool, true, false, _&&_, cond}
-use mathlib.Core.List.{List}
+use mathlib.Core.List.{List, [], _∷_}
 use lib.Dec.{leb}
 use lib.ListN.{length, getD}
 use lib.Ieee.{Float}
@@ -11,7 +11,7 @@ use Rattle.axis.specs.Scans.{allBounded}
 use Rattle.accumulator.specs.Record as account
 use Rattle.model.specs.Grid.{Bin, Bins, Child}
 use Rattle.model.specs.Sound.{chance, listed, formedBins, formedChild, keptBins, keptChild}
-use Rattle.lent.specs.Layout.{stretch, axisReals, axisCounts}
+use Rattle.lent.specs.Layout.{stretch, axisReals, axisCounts, roomyAxes}
 
 -- the doubles of an axis that holds n bins: edges that rise from 0 to 1, finite importances, sums and squares
 unfoldable pub realsFit : ℕ → ℕ → ℕ → List Float → Bool
@@ -37,6 +37,16 @@ axesFit numbers m reals counts (suc k) r c = axisFits numbers m reals counts r c
 -- each of a plan's bin numbers is from 1 to m
 unfoldable pub AllUpto : ℕ → List ℕ → Type 0
 AllUpto m ns = (i : ℕ) → i < length ns → (1 ≤ getD ns i 0) × (getD ns i 0 ≤ m)
+
+-- the same as a test
+unfoldable pub allUpto : ℕ → List ℕ → Bool
+allUpto m [] = true
+allUpto m (n ∷ ns) = (leb 1 n && leb n m) && allUpto m ns
+
+-- axes that memory has room for, with numbers that they have room for, and that fit
+unfoldable pub axesFitOf : List ℕ → ℕ → List Float → List ℕ → ℕ → ℕ → ℕ → Bool
+axesFitOf numbers m reals counts k r c =
+    cond (roomyAxes m k r c (length reals) (length counts) && allUpto m numbers) (axesFit numbers m reals counts k r c) false
 
 -- ---- the tree
 

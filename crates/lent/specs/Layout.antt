@@ -1,7 +1,9 @@
 -- Reading an axes grid out of lent memory (docs/DESIGN.md, "Lent memory"). An axis's columns stand one after the other, each with
 -- room for its largest number of bins, m; of each the bins now held are read.
 use Prim.Native.Nat.{ℕ, zero, suc, _+_, _*_}
+use mathlib.Core.Bool.{Bool, _&&_}
 use mathlib.Core.List.{List, [], _∷_}
+use lib.Dec.{leb}
 use lib.ListN.{take, drop, getD}
 use lib.Ieee.{Float, nan}
 use Rattle.accumulator.specs.declared.StatisticsAccumulator.{StatisticsAccumulator}
@@ -19,6 +21,10 @@ axisReals m = 6 * m + 1
 
 unfoldable pub axisCounts : ℕ → ℕ
 axisCounts m = 3 * m + 2
+
+-- R reals and C counts have room for k axes of at most m bins from r and c on: no more axes and bins than a plan may have
+unfoldable pub roomyAxes : ℕ → ℕ → ℕ → ℕ → ℕ → ℕ → Bool
+roomyAxes m k r c R C = leb m 1024 && (leb k 8 && (leb (r + k * axisReals m) R && leb (c + k * axisCounts m) C))
 
 -- a bin's record out of its six fields: nothing else of it can differ from zero
 unfoldable pub binRecord : Float → Float → Float → Float → ℕ → ℕ → StatisticsAccumulator

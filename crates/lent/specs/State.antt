@@ -47,6 +47,15 @@ faultBy table reals counts (plan.refusesAt k at) = 12
 unfoldable pub stateFault : List ℕ → List Float → List ℕ → ℕ
 stateFault table reals counts = faultBy table reals counts (sizesOf table)
 
+-- the same with a destination
+unfoldable pub faultToBy : List ℕ → List Float → List ℕ → ℕ → ℕ → plan.Paper Needs → ℕ
+faultToBy table reals counts R C (plan.gives n) = judgedTo table reals counts R C n
+faultToBy table reals counts R C (plan.refuses k) = 12
+faultToBy table reals counts R C (plan.refusesAt k at) = 12
+
+unfoldable pub faultTo : List ℕ → List Float → List ℕ → ℕ → ℕ → ℕ
+faultTo table reals counts R C = faultToBy table reals counts R C (sizesOf table)
+
 -- ---- two states: of both the table (12), then of both the room (10), then of both the state (12)
 
 unfoldable pub bothJudged : List ℕ → List Float → List ℕ → Needs → List ℕ → List Float → List ℕ → Needs → ℕ

@@ -62,14 +62,7 @@ pub fn update_state(
     ensures { λ n. ⌜ stateEnd n (memory (now (reals .exit)) (now (counts .exit))) ≡
         updatedBy (now (table .entry)) «bins_rate» «axes_rate» (length (now («spare_reals» .entry))) (length (now («spare_counts» .entry))) (memory (now (reals .entry)) (now (counts .entry))) needs ⌝ }
 {
-    let refused = state::judged_to(
-        table,
-        reals,
-        counts,
-        spare_reals.len(),
-        spare_counts.len(),
-        needs,
-    );
+    let refused = state::fault_to(table, reals, counts, spare_reals.len(), spare_counts.len());
     if refused != 0 {
         return refused;
     }

@@ -5,9 +5,11 @@ use lib.ListN.{length, getD}
 use Rattle.lent.specs.Layout.{axisReals, axisCounts}
 use Rattle.lent.specs.Memory.{memory}
 use Rattle.lent.specs.Drawn.{Stands}
+use Rattle.lent.specs.Laid.{Roomy}
 use Rattle.lent.specs.Cleared.{clearedMemory}
 use Rattle.lent.proofs.Same.{Same, same-refl}
 use Rattle.lent.proofs.First.{first, stands-on, one-less, counts-left, reals-left}
+use Rattle.lent.proofs.Rooms.{waitless-known}
 use Rattle.lent.proofs.Copies.{cleared-next, cleared-done, cleared-apart}
 use Rattle.copies.proofs.copying.clear_axes.Statement.{statement}
 use Rattle.copies.proofs.copying.clear_axes.Tie as tie
@@ -38,8 +40,7 @@ slice-read-held c = let n = first (c .before .before .before .before .before .be
 
 -- src/copying.rt:21:9
 clear-waiting-requires : tie.Need-clear-waiting-requires Inv-loop μ-loop
-unfolding axisReals axisCounts
-clear-waiting-requires c κs = let n = first (c .before .before .before .before .before .before .before .before .args .reals .now) (c .before .before .before .before .before .before .before .before .args .counts .now) (c .before .before .before .before .before .loop .left) (c .before .before .before .if1 .taken) (c .before .before .before .before .before .loop .inv .0) in let held : getD (c .before .before .before .before .before .loop .counts) (c .before .before .before .before .before .loop .left .counts) 0 ≡ getD (c .before .before .before .before .before .before .before .before .args .counts .now) (c .before .before .before .before .before .loop .left .counts) 0 = c .before .before .before .before .before .loop .inv .2 .cells (c .before .before .before .before .before .loop .left .counts) (omega arith) (omega arith) in let size = c .before .before .before .before .before .loop .inv .2 .size in (omega arith, n .few, omega (arith, c .before .before .before .before .before .loop .inv .1), omega arith)
+clear-waiting-requires c κs = tt
 
 -- src/copying.rt:22:9
 after-first-requires : tie.Need-after-first-requires Inv-loop μ-loop
@@ -52,12 +53,15 @@ loop-less c = omega (arith, one-less (c .before .before .before .before .before 
 
 -- src/copying.rt:16:5
 loop-again : tie.Need-loop-again Inv-loop μ-loop
+unfolding axisReals axisCounts
 loop-again c = let n = first (c .before .before .before .before .before .before .before .before .before .before .before .before .before .before .args .reals .now) (c .before .before .before .before .before .before .before .before .before .before .before .before .before .before .args .counts .now) (c .before .before .before .before .before .before .before .before .before .before .before .loop .left) (c .before .before .before .before .before .before .before .before .before .if1 .taken) (c .before .before .before .before .before .before .before .before .before .before .before .loop .inv .0) in let held : getD (c .before .before .before .before .before .before .before .before .before .before .before .loop .counts) (c .before .before .before .before .before .before .before .before .before .before .before .loop .left .counts) 0 ≡ getD (c .before .before .before .before .before .before .before .before .before .before .before .before .before .before .args .counts .now) (c .before .before .before .before .before .before .before .before .before .before .before .loop .left .counts) 0 = c .before .before .before .before .before .before .before .before .before .before .before .loop .inv .2 .cells (c .before .before .before .before .before .before .before .before .before .before .before .loop .left .counts) (omega arith) (omega arith) in let size = c .before .before .before .before .before .before .before .before .before .before .before .loop .inv .2 .size in
-    let a = cleared-apart (c .before .before .before .before .before .before .before .before .before .before .before .loop .left .most) (c .before .before .before .before .before .before .before .before .before .before .before .loop .left .reals) (c .before .before .before .before .before .before .before .before .before .before .before .loop .left .counts) (getD (c .before .before .before .before .before .before .before .before .before .before .before .loop .counts) (c .before .before .before .before .before .before .before .before .before .before .before .loop .left .counts) 0) (memory (c .before .before .before .before .before .before .before .before .before .before .before .loop .reals) (c .before .before .before .before .before .before .before .before .before .before .before .loop .counts)) (memory (c .before .before .before .before .before .clear-waiting .last .0) (c .before .before .before .before .before .clear-waiting .last .1 .0)) (omega arith) (record { room = omega (arith, c .before .before .before .before .before .before .before .before .before .before .before .loop .inv .1); places = omega arith }) (c .before .before .before .before .before .clear-waiting .ensures) in (
+    let roomy : Roomy (c .before .before .before .before .before .before .before .before .before .before .before .loop .left .most) (getD (c .before .before .before .before .before .before .before .before .before .before .before .loop .counts) (c .before .before .before .before .before .before .before .before .before .before .before .loop .left .counts) 0) (c .before .before .before .before .before .before .before .before .before .before .before .loop .left .reals) (c .before .before .before .before .before .before .before .before .before .before .before .loop .left .counts) (c .before .before .before .before .before .before .before .before .before .before .before .loop .reals) (c .before .before .before .before .before .before .before .before .before .before .before .loop .counts) = (omega arith, n .few, omega (arith, c .before .before .before .before .before .before .before .before .before .before .before .loop .inv .1), omega arith) in
+    let made = c .before .before .before .before .before .clear-waiting .ensures ∙ waitless-known (c .before .before .before .before .before .before .before .before .before .before .before .loop .left .most) (getD (c .before .before .before .before .before .before .before .before .before .before .before .loop .counts) (c .before .before .before .before .before .before .before .before .before .before .before .loop .left .counts) 0) (c .before .before .before .before .before .before .before .before .before .before .before .loop .left .reals) (c .before .before .before .before .before .before .before .before .before .before .before .loop .left .counts) (memory (c .before .before .before .before .before .before .before .before .before .before .before .loop .reals) (c .before .before .before .before .before .before .before .before .before .before .before .loop .counts)) roomy in
+    let a = cleared-apart (c .before .before .before .before .before .before .before .before .before .before .before .loop .left .most) (c .before .before .before .before .before .before .before .before .before .before .before .loop .left .reals) (c .before .before .before .before .before .before .before .before .before .before .before .loop .left .counts) (getD (c .before .before .before .before .before .before .before .before .before .before .before .loop .counts) (c .before .before .before .before .before .before .before .before .before .before .before .loop .left .counts) 0) (memory (c .before .before .before .before .before .before .before .before .before .before .before .loop .reals) (c .before .before .before .before .before .before .before .before .before .before .before .loop .counts)) (memory (c .before .before .before .before .before .clear-waiting .last .0) (c .before .before .before .before .before .clear-waiting .last .1 .0)) (omega arith) (record { room = omega (arith, c .before .before .before .before .before .before .before .before .before .before .before .loop .inv .1); places = omega arith }) made in (
       stands-on (c .before .before .before .before .before .before .before .before .before .before .before .before .before .before .args .reals .now) (c .before .before .before .before .before .before .before .before .before .before .before .before .before .before .args .counts .now) (c .before .before .before .before .before .before .before .before .before .before .before .loop .left) (c .after-first .result) (c .before .before .before .before .before .before .before .before .before .if1 .taken) (c .before .before .before .before .before .before .before .before .before .before .before .loop .inv .0) (c .after-first .ensures),
       reals-left (c .before .before .before .before .before .before .before .before .before .before .before .loop .left .most) (c .before .before .before .before .before .before .before .before .before .before .before .loop .left .reals) (c .before .before .before .before .before .before .before .before .before .before .before .loop .left .counts) (memory (c .before .before .before .before .before .before .before .before .before .before .before .loop .reals) (c .before .before .before .before .before .before .before .before .before .before .before .loop .counts)) (memory (c .before .before .before .before .before .clear-waiting .last .0) (c .before .before .before .before .before .clear-waiting .last .1 .0)) a ∙ c .before .before .before .before .before .before .before .before .before .before .before .loop .inv .1,
       counts-left (c .before .before .before .before .before .before .before .before .before .before .before .loop .left) (c .after-first .result) (length (c .before .before .before .before .before .before .before .before .before .before .before .before .before .before .args .counts .now)) (memory (c .before .before .before .before .before .before .before .before .before .before .before .loop .reals) (c .before .before .before .before .before .before .before .before .before .before .before .loop .counts)) (memory (c .before .before .before .before .before .clear-waiting .last .0) (c .before .before .before .before .before .clear-waiting .last .1 .0)) (c .before .before .before .before .before .before .before .before .before .before .before .before .before .before .args .counts .now) (c .after-first .ensures) a (c .before .before .before .before .before .before .before .before .before .before .before .loop .inv .2),
-      cleared-next (c .before .before .before .before .before .before .before .before .before .before .before .loop .left) (c .after-first .result) (getD (c .before .before .before .before .before .before .before .before .before .before .before .loop .counts) (c .before .before .before .before .before .before .before .before .before .before .before .loop .left .counts) 0) (memory (c .before .before .before .before .before .before .before .before .before .before .before .loop .reals) (c .before .before .before .before .before .before .before .before .before .before .before .loop .counts)) (memory (c .before .before .before .before .before .clear-waiting .last .0) (c .before .before .before .before .before .clear-waiting .last .1 .0)) (c .before .before .before .before .before .before .before .before .before .if1 .taken) (c .after-first .ensures) refl (c .before .before .before .before .before .clear-waiting .ensures) ∙ c .before .before .before .before .before .before .before .before .before .before .before .loop .inv .3,
+      cleared-next (c .before .before .before .before .before .before .before .before .before .before .before .loop .left) (c .after-first .result) (getD (c .before .before .before .before .before .before .before .before .before .before .before .loop .counts) (c .before .before .before .before .before .before .before .before .before .before .before .loop .left .counts) 0) (memory (c .before .before .before .before .before .before .before .before .before .before .before .loop .reals) (c .before .before .before .before .before .before .before .before .before .before .before .loop .counts)) (memory (c .before .before .before .before .before .clear-waiting .last .0) (c .before .before .before .before .before .clear-waiting .last .1 .0)) (c .before .before .before .before .before .before .before .before .before .if1 .taken) (c .after-first .ensures) refl made ∙ c .before .before .before .before .before .before .before .before .before .before .before .loop .inv .3,
     )
 
 -- src/copying.rt:11:1

@@ -11,7 +11,7 @@ use Rattle.copies.proofs.founding.lay_axes_grid.Reads as reads
 use Rattle.copies.proofs.founding.lay_axes_grid.Lts as lts
 use Rattle.accumulator.proofs.StatisticsAccumulator.new.Reads as new-reads
 use Rattle.ground.proofs.accounts.store.Reads as store-reads
-use Rattle.ground.proofs.laying.lay_axes.Reads as lay-axes-reads
+use Rattle.copies.proofs.laying.lay_axes.Reads as lay-axes-reads
 use Rattle.ground.proofs.layout.axes_place.Reads as axes-place-reads
 
 -- src/founding.rt:18:9

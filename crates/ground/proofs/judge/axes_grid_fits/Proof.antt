@@ -11,7 +11,6 @@ use Rattle.ground.proofs.judge.axes_grid_fits.Tie as tie
 use Rattle.ground.proofs.judge.axes_grid_fits.Reads as reads
 use Rattle.ground.proofs.judge.axes_grid_fits.Lts as lts
 use Rattle.ground.proofs.accounts.is_sound.Reads as is-sound-reads
-use Rattle.ground.proofs.judging.axes_fit.Reads as axes-fit-reads
 use Rattle.ground.proofs.layout.place_there.Reads as place-there-reads
 
 -- src/judge.rt:25:9
@@ -39,37 +38,37 @@ add-last-2 : tie.Need-add-last-2
 add-last-2 c = search needs
 
 -- src/judge.rt:28:57
-add-axes-fit : tie.Need-add-axes-fit
-add-axes-fit c = search needs
+add-axes-fit-there : tie.Need-add-axes-fit-there
+add-axes-fit-there c = search needs
 
 -- src/judge.rt:28:51
-mul-axes-fit : tie.Need-mul-axes-fit
-mul-axes-fit c = search needs
+mul-axes-fit-there : tie.Need-mul-axes-fit-there
+mul-axes-fit-there c = search needs
 
 -- src/judge.rt:28:51
-shared-slice-read-axes-fit : tie.Need-shared-slice-read-axes-fit
-shared-slice-read-axes-fit c = search needs
+shared-slice-read-axes-fit-there : tie.Need-shared-slice-read-axes-fit-there
+shared-slice-read-axes-fit-there c = search needs
 
 -- src/judge.rt:28:65
-mul-axes-fit-2 : tie.Need-mul-axes-fit-2
-mul-axes-fit-2 c = search needs
+mul-axes-fit-there-2 : tie.Need-mul-axes-fit-there-2
+mul-axes-fit-there-2 c = search needs
 
 -- src/judge.rt:28:65
-sub-axes-fit : tie.Need-sub-axes-fit
-sub-axes-fit c = search needs
+sub-axes-fit-there : tie.Need-sub-axes-fit-there
+sub-axes-fit-there c = search needs
 
 -- src/judge.rt:28:65
-part-axes-fit-start : tie.Need-part-axes-fit-start
-part-axes-fit-start c = search needs
+part-axes-fit-there-start : tie.Need-part-axes-fit-there-start
+part-axes-fit-there-start c = search needs
 
 -- src/judge.rt:28:65
-part-axes-fit-end : tie.Need-part-axes-fit-end
-part-axes-fit-end c = search needs
+part-axes-fit-there-end : tie.Need-part-axes-fit-there-end
+part-axes-fit-there-end c = search needs
 
 -- src/judge.rt:28:9
-axes-fit-requires : tie.Need-axes-fit-requires
+axes-fit-there-requires : tie.Need-axes-fit-there-requires
 unfolding axesPlace
-axes-fit-requires c κs = rw (c .before .before .before .place-there .ensures, (part ((c .before .before .before .before .before .before .before .args .w) + 11) (getD (c .before .before .before .before .before .before .before .args .table .now) ((c .before .before .before .before .before .before .before .args .w) + 8) 0) (c .before .before .before .before .before .before .before .args .table .now) ∙ words-stretch (c .before .before .before .before .before .before .before .args .table .now) ((c .before .before .before .before .before .before .before .args .w) + 11) (getD (c .before .before .before .before .before .before .before .args .table .now) ((c .before .before .before .before .before .before .before .args .w) + 8) 0) (omega (arith, c .before .before .before .before .before .before .before .pre .head)))) (c .before .before .before .before .before .before .before .pre .most, numbers-upto (c .before .before .before .before .before .before .before .args .table .now) (length (c .before .before .before .before .before .before .before .args .reals .now)) (length (c .before .before .before .before .before .before .before .args .counts .now)) (c .before .before .before .before .before .before .before .args .w) (c .before .before .before .before .before .before .before .pre), c .before .before .before .before .before .before .before .pre .room, c .before .before .before .before .before .before .before .pre .places)
+axes-fit-there-requires c κs = rw (c .before .before .before .place-there .ensures, (part ((c .before .before .before .before .before .before .before .args .w) + 11) (getD (c .before .before .before .before .before .before .before .args .table .now) ((c .before .before .before .before .before .before .before .args .w) + 8) 0) (c .before .before .before .before .before .before .before .args .table .now) ∙ words-stretch (c .before .before .before .before .before .before .before .args .table .now) ((c .before .before .before .before .before .before .before .args .w) + 11) (getD (c .before .before .before .before .before .before .before .args .table .now) ((c .before .before .before .before .before .before .before .args .w) + 8) 0) (omega (arith, c .before .before .before .before .before .before .before .pre .head)))) (c .before .before .before .before .before .before .before .pre .most, numbers-upto (c .before .before .before .before .before .before .before .args .table .now) (length (c .before .before .before .before .before .before .before .args .reals .now)) (length (c .before .before .before .before .before .before .before .args .counts .now)) (c .before .before .before .before .before .before .before .args .w) (c .before .before .before .before .before .before .before .pre), c .before .before .before .before .before .before .before .pre .room, c .before .before .before .before .before .before .before .pre .places)
 
 -- src/judge.rt:29:55
 add-is-sound : tie.Need-add-is-sound
@@ -102,7 +101,7 @@ is-sound-requires c κs = search needs
 -- src/judge.rt:21:1
 returns : tie.Need-returns
 unfolding axesPlace
-returns c = rw (c .before .before .before .axes-fit .ensures, c .is-sound .ensures, c .before .before .before .before .before .before .before .place-there .ensures, (part ((c .before .before .before .before .before .before .before .before .before .before .before .args .w) + 11) (getD (c .before .before .before .before .before .before .before .before .before .before .before .args .table .now) ((c .before .before .before .before .before .before .before .before .before .before .before .args .w) + 8) 0) (c .before .before .before .before .before .before .before .before .before .before .before .args .table .now) ∙ words-stretch (c .before .before .before .before .before .before .before .before .before .before .before .args .table .now) ((c .before .before .before .before .before .before .before .before .before .before .before .args .w) + 11) (getD (c .before .before .before .before .before .before .before .before .before .before .before .args .table .now) ((c .before .before .before .before .before .before .before .before .before .before .before .args .w) + 8) 0) (omega (arith, c .before .before .before .before .before .before .before .before .before .before .before .pre .head)))) (sound-axes (c .before .before .before .before .before .before .before .before .before .before .before .args .table .now) (c .before .before .before .before .before .before .before .before .before .before .before .args .reals .now) (c .before .before .before .before .before .before .before .before .before .before .before .args .counts .now) (c .before .before .before .before .before .before .before .before .before .before .before .args .w) (c .before .before .before .before .before .before .before .before .before .before .before .pre))
+returns c = rw (c .before .before .before .axes-fit-there .ensures, c .is-sound .ensures, c .before .before .before .before .before .before .before .place-there .ensures, (part ((c .before .before .before .before .before .before .before .before .before .before .before .args .w) + 11) (getD (c .before .before .before .before .before .before .before .before .before .before .before .args .table .now) ((c .before .before .before .before .before .before .before .before .before .before .before .args .w) + 8) 0) (c .before .before .before .before .before .before .before .before .before .before .before .args .table .now) ∙ words-stretch (c .before .before .before .before .before .before .before .before .before .before .before .args .table .now) ((c .before .before .before .before .before .before .before .before .before .before .before .args .w) + 11) (getD (c .before .before .before .before .before .before .before .before .before .before .before .args .table .now) ((c .before .before .before .before .before .before .before .before .before .before .before .args .w) + 8) 0) (omega (arith, c .before .before .before .before .before .before .before .before .before .before .before .pre .head)))) (sound-axes (c .before .before .before .before .before .before .before .before .before .before .before .args .table .now) (c .before .before .before .before .before .before .before .before .before .before .before .args .reals .now) (c .before .before .before .before .before .before .before .before .before .before .before .args .counts .now) (c .before .before .before .before .before .before .before .before .before .before .before .args .w) (c .before .before .before .before .before .before .before .before .before .before .before .pre))
 
 pub axes-grid-fits-spec : {M : Type 1} → statement M
 axes-grid-fits-spec =
@@ -114,14 +113,14 @@ axes-grid-fits-spec =
     mul-last
     shared-slice-read-last
     add-last-2
-    add-axes-fit
-    mul-axes-fit
-    shared-slice-read-axes-fit
-    mul-axes-fit-2
-    sub-axes-fit
-    part-axes-fit-start
-    part-axes-fit-end
-    axes-fit-requires
+    add-axes-fit-there
+    mul-axes-fit-there
+    shared-slice-read-axes-fit-there
+    mul-axes-fit-there-2
+    sub-axes-fit-there
+    part-axes-fit-there-start
+    part-axes-fit-there-end
+    axes-fit-there-requires
     add-is-sound
     mul-is-sound
     shared-slice-read-is-sound

@@ -1,87 +1,49 @@
-use mathlib.Core.Path.{_≡_, sym, ap, _∙_}
-use mathlib.Core.Bool.{Bool, _&&_}
+-- The test is the definition's own: failed, the answer is no; passed, the axes are there to be judged.
+use mathlib.Core.Path.{_≡_, ap₂}
+use mathlib.Core.Bool.{true, _&&_}
 use mathlib.Core.List.{_∷_}
-use Prim.Native.Nat.{_+_, _-_, _*_, _≤_}
-use native.Mathlib.Omega.{arith}
 use lib.ListN.{length}
-use Rattle.lent.specs.Judged.{axesFit}
-use Rattle.lent.proofs.Judges.{room-next, fit-on, fit-out}
+use Rattle.real.proofs.Truth.{both, failed, passed}
+use Rattle.lent.specs.Layout.{axisReals, axisCounts, roomyAxes}
+use Rattle.lent.specs.Judged.{allUpto, axesFitOf}
+use Rattle.lent.proofs.Rooms.{axes-had, upto-had}
+use borrow.Author.Needs.{needs}
 use Rattle.ground.proofs.judging.axes_fit.Statement.{statement}
 use Rattle.ground.proofs.judging.axes_fit.Tie as tie
 use Rattle.ground.proofs.judging.axes_fit.Reads as reads
 use Rattle.ground.proofs.judging.axes_fit.Lts as lts
-use Rattle.ground.proofs.judging.axis_fits.Reads as axis-fits-reads
+use Rattle.ground.proofs.judging.are_upto.Reads as are-upto-reads
+use Rattle.ground.proofs.judging.axes_fit_there.Reads as axes-fit-there-reads
+use Rattle.ground.proofs.room.has_axes.Reads as has-axes-reads
 
-abbrev Inv-loop : tie.InvT-loop
-Inv-loop reals counts g bins values ok₀ at₀ place₀ done₀ ok at place done = (done ≤ g .axes) × (at + (g .axes - done) * (6 * g .most + 1) ≤ length reals) × (place + (g .axes - done) * (3 * g .most + 2) ≤ length counts)
-    × ((ok && axesFit (bins ∷ values) (g .most) reals counts (g .axes - done) at place) ≡ axesFit (bins ∷ values) (g .most) reals counts (g .axes) (g .reals) (g .counts))
+has-axes-requires : tie.Need-has-axes-requires
+has-axes-requires c κs = search needs
 
-abbrev μ-loop : tie.MeasureT-loop
-μ-loop reals counts g bins values ok₀ at₀ place₀ done₀ ok at place done = g .axes - done
+are-upto-requires : tie.Need-are-upto-requires
+are-upto-requires c κs = search needs
 
--- src/judging.rt:76:5
-loop-holds : tie.Need-loop-holds Inv-loop μ-loop
-loop-holds c = let e : (c .before .before .before .args .g .axes) - 0 ≡ (c .before .before .before .args .g .axes) = omega arith in (omega arith, rw e (c .before .before .before .pre .2), rw e (c .before .before .before .pre .3), rw e)
+returns : tie.Need-returns
+unfolding axesFitOf
+returns c = rw (failed (ap₂ _&&_ (c .before .before .has-axes .ensures) (c .before .are-upto .ensures)) (c .if1 .taken))
 
--- src/judging.rt:77:19
-axis-fits-requires : tie.Need-axis-fits-requires Inv-loop μ-loop
-axis-fits-requires c κs = let a = room-next (c .before .before .before .before .before .before .args .g .axes) (c .before .before .loop .done) (6 * (c .before .before .before .before .before .before .args .g .most) + 1) (c .before .before .loop .at) (length (c .before .before .before .before .before .before .args .reals .now)) (c .if1 .taken) ((c .before .before .loop .inv) .1) in let b = room-next (c .before .before .before .before .before .before .args .g .axes) (c .before .before .loop .done) (3 * (c .before .before .before .before .before .before .args .g .most) + 2) (c .before .before .loop .place) (length (c .before .before .before .before .before .before .args .counts .now)) (c .if1 .taken) ((c .before .before .loop .inv) .2) in (c .before .before .before .before .before .before .pre .0, c .before .before .before .before .before .before .pre .1, a .0, b .0)
+there : (c : tie.Else1)
+    → (roomyAxes (c .before .before .before .before .before .before .args .g .most) (c .before .before .before .before .before .before .args .g .axes) (c .before .before .before .before .before .before .args .g .reals) (c .before .before .before .before .before .before .args .g .counts) (length (c .before .before .before .before .before .before .args .reals .now)) (length (c .before .before .before .before .before .before .args .counts .now))
+    && allUpto (c .before .before .before .before .before .before .args .g .most) (c .before .before .before .before .before .before .args .bins ∷ c .before .before .before .before .before .before .args .values .now)) ≡ true
+there c = passed (ap₂ _&&_ (c .before .before .has-axes .ensures) (c .before .are-upto .ensures)) (c .if1 .left)
 
--- src/judging.rt:78:20
-mul-at : tie.Need-mul-at Inv-loop μ-loop
-mul-at c = let a = room-next (c .before .before .before .before .before .before .before .before .args .g .axes) (c .before .before .before .before .loop .done) (6 * (c .before .before .before .before .before .before .before .before .args .g .most) + 1) (c .before .before .before .before .loop .at) (length (c .before .before .before .before .before .before .before .before .args .reals .now)) (c .before .before .if1 .taken) ((c .before .before .before .before .loop .inv) .1) in let b = room-next (c .before .before .before .before .before .before .before .before .args .g .axes) (c .before .before .before .before .loop .done) (3 * (c .before .before .before .before .before .before .before .before .args .g .most) + 2) (c .before .before .before .before .loop .place) (length (c .before .before .before .before .before .before .before .before .args .counts .now)) (c .before .before .if1 .taken) ((c .before .before .before .before .loop .inv) .2) in omega arith
+axes-fit-there-requires : tie.Need-axes-fit-there-requires
+unfolding axisReals axisCounts
+axes-fit-there-requires c κs =
+    let start = c .before .before .before .before .before .before .args in
+    let e = both _ _ (there c) in
+    let room = axes-had (start .g .most) (start .g .axes) (start .g .reals) (start .g .counts) (length (start .reals .now)) (length (start .counts .now)) (e .0) in
+    (room .0, upto-had (start .g .most) (start .bins ∷ start .values .now) (e .1), room .2, room .3)
 
--- src/judging.rt:78:20
-add-at : tie.Need-add-at Inv-loop μ-loop
-add-at c = let a = room-next (c .before .before .before .before .before .before .before .before .args .g .axes) (c .before .before .before .before .loop .done) (6 * (c .before .before .before .before .before .before .before .before .args .g .most) + 1) (c .before .before .before .before .loop .at) (length (c .before .before .before .before .before .before .before .before .args .reals .now)) (c .before .before .if1 .taken) ((c .before .before .before .before .loop .inv) .1) in let b = room-next (c .before .before .before .before .before .before .before .before .args .g .axes) (c .before .before .before .before .loop .done) (3 * (c .before .before .before .before .before .before .before .before .args .g .most) + 2) (c .before .before .before .before .loop .place) (length (c .before .before .before .before .before .before .before .before .args .counts .now)) (c .before .before .if1 .taken) ((c .before .before .before .before .loop .inv) .2) in omega arith
-
--- src/judging.rt:78:14
-add-at-2 : tie.Need-add-at-2 Inv-loop μ-loop
-add-at-2 c = let a = room-next (c .before .before .before .before .before .before .before .before .args .g .axes) (c .before .before .before .before .loop .done) (6 * (c .before .before .before .before .before .before .before .before .args .g .most) + 1) (c .before .before .before .before .loop .at) (length (c .before .before .before .before .before .before .before .before .args .reals .now)) (c .before .before .if1 .taken) ((c .before .before .before .before .loop .inv) .1) in let b = room-next (c .before .before .before .before .before .before .before .before .args .g .axes) (c .before .before .before .before .loop .done) (3 * (c .before .before .before .before .before .before .before .before .args .g .most) + 2) (c .before .before .before .before .loop .place) (length (c .before .before .before .before .before .before .before .before .args .counts .now)) (c .before .before .if1 .taken) ((c .before .before .before .before .loop .inv) .2) in omega arith
-
--- src/judging.rt:79:26
-mul-place : tie.Need-mul-place Inv-loop μ-loop
-mul-place c = let a = room-next (c .before .before .before .before .before .before .before .before .before .args .g .axes) (c .before .before .before .before .before .loop .done) (6 * (c .before .before .before .before .before .before .before .before .before .args .g .most) + 1) (c .before .before .before .before .before .loop .at) (length (c .before .before .before .before .before .before .before .before .before .args .reals .now)) (c .before .before .before .if1 .taken) ((c .before .before .before .before .before .loop .inv) .1) in let b = room-next (c .before .before .before .before .before .before .before .before .before .args .g .axes) (c .before .before .before .before .before .loop .done) (3 * (c .before .before .before .before .before .before .before .before .before .args .g .most) + 2) (c .before .before .before .before .before .loop .place) (length (c .before .before .before .before .before .before .before .before .before .args .counts .now)) (c .before .before .before .if1 .taken) ((c .before .before .before .before .before .loop .inv) .2) in omega arith
-
--- src/judging.rt:79:26
-add-place : tie.Need-add-place Inv-loop μ-loop
-add-place c = let a = room-next (c .before .before .before .before .before .before .before .before .before .args .g .axes) (c .before .before .before .before .before .loop .done) (6 * (c .before .before .before .before .before .before .before .before .before .args .g .most) + 1) (c .before .before .before .before .before .loop .at) (length (c .before .before .before .before .before .before .before .before .before .args .reals .now)) (c .before .before .before .if1 .taken) ((c .before .before .before .before .before .loop .inv) .1) in let b = room-next (c .before .before .before .before .before .before .before .before .before .args .g .axes) (c .before .before .before .before .before .loop .done) (3 * (c .before .before .before .before .before .before .before .before .before .args .g .most) + 2) (c .before .before .before .before .before .loop .place) (length (c .before .before .before .before .before .before .before .before .before .args .counts .now)) (c .before .before .before .if1 .taken) ((c .before .before .before .before .before .loop .inv) .2) in omega arith
-
--- src/judging.rt:79:17
-add-place-2 : tie.Need-add-place-2 Inv-loop μ-loop
-add-place-2 c = let a = room-next (c .before .before .before .before .before .before .before .before .before .args .g .axes) (c .before .before .before .before .before .loop .done) (6 * (c .before .before .before .before .before .before .before .before .before .args .g .most) + 1) (c .before .before .before .before .before .loop .at) (length (c .before .before .before .before .before .before .before .before .before .args .reals .now)) (c .before .before .before .if1 .taken) ((c .before .before .before .before .before .loop .inv) .1) in let b = room-next (c .before .before .before .before .before .before .before .before .before .args .g .axes) (c .before .before .before .before .before .loop .done) (3 * (c .before .before .before .before .before .before .before .before .before .args .g .most) + 2) (c .before .before .before .before .before .loop .place) (length (c .before .before .before .before .before .before .before .before .before .args .counts .now)) (c .before .before .before .if1 .taken) ((c .before .before .before .before .before .loop .inv) .2) in omega arith
-
--- src/judging.rt:80:9
-add-done : tie.Need-add-done Inv-loop μ-loop
-add-done c = omega (arith, c .before .before .before .if1 .taken)
-
--- src/judging.rt:76:5
-loop-less : tie.Need-loop-less Inv-loop μ-loop
-loop-less c = omega (arith, c .before .before .before .if1 .taken)
-
--- src/judging.rt:76:5
-loop-again : tie.Need-loop-again Inv-loop μ-loop
-loop-again c = let a = room-next (c .before .before .before .before .before .before .before .before .before .args .g .axes) (c .before .before .before .before .before .loop .done) (6 * (c .before .before .before .before .before .before .before .before .before .args .g .most) + 1) (c .before .before .before .before .before .loop .at) (length (c .before .before .before .before .before .before .before .before .before .args .reals .now)) (c .before .before .before .if1 .taken) ((c .before .before .before .before .before .loop .inv) .1) in let b = room-next (c .before .before .before .before .before .before .before .before .before .args .g .axes) (c .before .before .before .before .before .loop .done) (3 * (c .before .before .before .before .before .before .before .before .before .args .g .most) + 2) (c .before .before .before .before .before .loop .place) (length (c .before .before .before .before .before .before .before .before .before .args .counts .now)) (c .before .before .before .if1 .taken) ((c .before .before .before .before .before .loop .inv) .2) in (omega (arith, c .before .before .before .if1 .taken), a .1, b .1, ap (λ (b : Bool). ((c .before .before .before .before .before .loop .ok) && b) && axesFit (c .before .before .before .before .before .before .before .before .before .args .bins ∷ c .before .before .before .before .before .before .before .before .before .args .values .now) (c .before .before .before .before .before .before .before .before .before .args .g .most) (c .before .before .before .before .before .before .before .before .before .args .reals .now) (c .before .before .before .before .before .before .before .before .before .args .counts .now) ((c .before .before .before .before .before .before .before .before .before .args .g .axes) - ((c .before .before .before .before .before .loop .done) + 1)) ((c .before .before .before .before .before .loop .at) + (6 * (c .before .before .before .before .before .before .before .before .before .args .g .most) + 1)) ((c .before .before .before .before .before .loop .place) + (3 * (c .before .before .before .before .before .before .before .before .before .args .g .most) + 2))) (c .before .before .axis-fits .ensures) ∙ fit-on (c .before .before .before .before .before .before .before .before .before .args .bins ∷ c .before .before .before .before .before .before .before .before .before .args .values .now) (c .before .before .before .before .before .before .before .before .before .args .g .most) (c .before .before .before .before .before .before .before .before .before .args .reals .now) (c .before .before .before .before .before .before .before .before .before .args .counts .now) (c .before .before .before .before .before .before .before .before .before .args .g .axes) (c .before .before .before .before .before .loop .done) (c .before .before .before .before .before .loop .at) (c .before .before .before .before .before .loop .place) (c .before .before .before .before .before .loop .ok) (c .before .before .before .if1 .taken) ∙ (c .before .before .before .before .before .loop .inv) .3)
-
--- src/judging.rt:68:1
-returns : tie.Need-returns Inv-loop μ-loop
-returns c = sym (fit-out (c .before .before .before .before .before .before .args .bins ∷ c .before .before .before .before .before .before .args .values .now) (c .before .before .before .before .before .before .args .g .most) (c .before .before .before .before .before .before .args .reals .now) (c .before .before .before .before .before .before .args .counts .now) (c .before .before .before .before .before .before .args .g .axes) (c .before .before .loop .done) (c .before .before .loop .at) (c .before .before .loop .place) (c .before .before .loop .ok) (c .if1 .left)) ∙ (c .before .before .loop .inv) .3
+returns-2 : tie.Need-returns-2
+unfolding axesFitOf
+returns-2 c = rw (there (c .before)) (c .axes-fit-there .ensures)
 
 pub axes-fit-spec : {M : Type 1} → statement M
 axes-fit-spec =
     tie.close
-    (tie.spec
-    Inv-loop
-    μ-loop
-    loop-holds
-    axis-fits-requires
-    mul-at
-    add-at
-    add-at-2
-    mul-place
-    add-place
-    add-place-2
-    add-done
-    loop-less
-    loop-again
-    returns)
+    (tie.spec has-axes-requires are-upto-requires returns axes-fit-there-requires returns-2)

@@ -1,53 +1,24 @@
--- `laying::clear_waiting` meets its contract: four columns one after the other.
-use native.Mathlib.Omega.{arith}
-use Rattle.lent.specs.Layout.{axisReals, axisCounts}
-use Rattle.lent.specs.Laid.{waitlessAt}
+-- The test is the definition's own, so each way is one of its cases.
+use Rattle.real.proofs.Truth.{failed, passed}
+use Rattle.lent.specs.Laid.{whereRoomy, waitlessOf}
+use Rattle.lent.proofs.Rooms.{roomy-had}
 use borrow.Author.Needs.{needs}
 use Rattle.ground.proofs.laying.clear_waiting.Statement.{statement}
 use Rattle.ground.proofs.laying.clear_waiting.Tie as tie
+use Rattle.ground.proofs.laying.clear_waiting.Reads as reads
+use Rattle.ground.proofs.laying.clear_waiting.Lts as lts
+use Rattle.ground.proofs.laying.clear_waiting_there.Reads as clear-waiting-there-reads
+use Rattle.ground.proofs.room.is_roomy.Reads as is-roomy-reads
 
-mul-clear-reals-from : tie.Need-mul-clear-reals-from
-mul-clear-reals-from c = search needs
+is-roomy-requires : tie.Need-is-roomy-requires
+is-roomy-requires c κs = search needs
 
-add-clear-reals-from : tie.Need-add-clear-reals-from
-add-clear-reals-from c = search needs
+returns : tie.Need-returns
+unfolding waitlessOf whereRoomy
+returns c = rw (failed (c .before .is-roomy .ensures) (c .if1 .taken))
 
-add-clear-reals-from-2 : tie.Need-add-clear-reals-from-2
-add-clear-reals-from-2 c = search needs
-
-clear-reals-from-requires : tie.Need-clear-reals-from-requires
-unfolding axisReals axisCounts
-clear-reals-from-requires c κs = omega arith
-
-mul-clear-reals-from-2 : tie.Need-mul-clear-reals-from-2
-mul-clear-reals-from-2 c = search needs
-
-add-clear-reals-from-3 : tie.Need-add-clear-reals-from-3
-add-clear-reals-from-3 c = search needs
-
-add-clear-reals-from-4 : tie.Need-add-clear-reals-from-4
-add-clear-reals-from-4 c = search needs
-
-clear-reals-from-requires-2 : tie.Need-clear-reals-from-requires-2
-unfolding axisReals axisCounts
-clear-reals-from-requires-2 c κs = omega arith
-
-add-clear-counts-from : tie.Need-add-clear-counts-from
-add-clear-counts-from c = search needs
-
-clear-counts-from-requires : tie.Need-clear-counts-from-requires
-unfolding axisReals axisCounts
-clear-counts-from-requires c κs = omega arith
-
-add-clear-counts-from-2 : tie.Need-add-clear-counts-from-2
-add-clear-counts-from-2 c = search needs
-
-add-clear-counts-from-3 : tie.Need-add-clear-counts-from-3
-add-clear-counts-from-3 c = search needs
-
-clear-counts-from-requires-2 : tie.Need-clear-counts-from-requires-2
-unfolding axisReals axisCounts
-clear-counts-from-requires-2 c κs = omega arith
+clear-waiting-there-requires : tie.Need-clear-waiting-there-requires
+clear-waiting-there-requires c κs = roomy-had _ _ _ _ (c .before .before .before .before .before .before .args .reals .now) (c .before .before .before .before .before .before .args .counts .now) (passed (c .before .before .before .is-roomy .ensures) (c .before .before .if1 .left))
 
 same-length : tie.Need-same-length
 same-length c = search needs
@@ -55,27 +26,17 @@ same-length c = search needs
 same-length-2 : tie.Need-same-length-2
 same-length-2 c = search needs
 
-returns : tie.Need-returns
-unfolding waitlessAt
-returns c = rw (c .before .before .before .before .before .before .before .before .before .before .clear-reals-from2 .ensures, c .before .before .before .before .before .before .before .before .before .before .before .before .before .before .clear-reals-from .ensures, c .before .before .clear-counts-from2 .ensures, c .before .before .before .before .before .before .clear-counts-from .ensures)
+returns-2 : tie.Need-returns-2
+unfolding waitlessOf whereRoomy
+returns-2 c = rw (passed (c .before .before .before .before .before .before .before .before .is-roomy .ensures) (c .before .before .before .before .before .before .before .if1 .left)) (c .before .before .before .before .clear-waiting-there .ensures)
 
 pub clear-waiting-spec : {M : Type 1} → statement M
 clear-waiting-spec =
     tie.close
     (tie.spec
-    mul-clear-reals-from
-    add-clear-reals-from
-    add-clear-reals-from-2
-    clear-reals-from-requires
-    mul-clear-reals-from-2
-    add-clear-reals-from-3
-    add-clear-reals-from-4
-    clear-reals-from-requires-2
-    add-clear-counts-from
-    clear-counts-from-requires
-    add-clear-counts-from-2
-    add-clear-counts-from-3
-    clear-counts-from-requires-2
+    is-roomy-requires
+    returns
+    clear-waiting-there-requires
     same-length
     same-length-2
-    returns)
+    returns-2)

@@ -1,60 +1,42 @@
--- `laying::empty_axis` meets its contract: two stages, then the two numbers at the head of the counts.
-use native.Mathlib.Omega.{arith}
-use Rattle.lent.specs.Layout.{axisReals, axisCounts}
-use mathlib.Core.Path.{ap, _∙_}
-use lib.ListN.{length-set}
-use Rattle.lent.specs.Laid.{headedAt, forgottenAt, emptyAt}
+-- The test is the definition's own, so each way is one of its cases.
+use Rattle.real.proofs.Truth.{failed, passed}
+use Rattle.lent.specs.Laid.{whereRoomy, emptyOf}
+use Rattle.lent.proofs.Rooms.{roomy-had}
 use borrow.Author.Needs.{needs}
 use Rattle.ground.proofs.laying.empty_axis.Statement.{statement}
 use Rattle.ground.proofs.laying.empty_axis.Tie as tie
+use Rattle.ground.proofs.laying.empty_axis.Reads as reads
+use Rattle.ground.proofs.laying.empty_axis.Lts as lts
+use Rattle.ground.proofs.laying.empty_axis_there.Reads as empty-axis-there-reads
+use Rattle.ground.proofs.room.is_roomy.Reads as is-roomy-reads
 
-clear-waiting-requires : tie.Need-clear-waiting-requires
-clear-waiting-requires c κs = search needs
+is-roomy-requires : tie.Need-is-roomy-requires
+is-roomy-requires c κs = search needs
 
-forget-requires : tie.Need-forget-requires
-forget-requires c κs = search needs
+returns : tie.Need-returns
+unfolding emptyOf whereRoomy
+returns c = rw (failed (c .before .is-roomy .ensures) (c .if1 .taken))
 
-mul-counts : tie.Need-mul-counts
-mul-counts c = search needs
-
-slice-write-counts : tie.Need-slice-write-counts
-unfolding axisReals axisCounts
-slice-write-counts c = omega arith
-
-add-counts : tie.Need-add-counts
-add-counts c = search needs
-
-mul-counts-2 : tie.Need-mul-counts-2
-mul-counts-2 c = search needs
-
-slice-write-counts-2 : tie.Need-slice-write-counts-2
-unfolding axisReals axisCounts
-slice-write-counts-2 c = simp length-set (omega arith)
+empty-axis-there-requires : tie.Need-empty-axis-there-requires
+empty-axis-there-requires c κs = roomy-had _ _ _ _ (c .before .before .before .before .before .before .args .reals .now) (c .before .before .before .before .before .before .args .counts .now) (passed (c .before .before .before .is-roomy .ensures) (c .before .before .if1 .left))
 
 same-length : tie.Need-same-length
 same-length c = search needs
 
 same-length-2 : tie.Need-same-length-2
-unfolding axisReals axisCounts
-same-length-2 c = simp length-set (search needs)
+same-length-2 c = search needs
 
-returns : tie.Need-returns
-unfolding emptyAt headedAt
-returns c =
-    let start = c .before .before .before .before .before .before .before .before .before .before .before .before .before .before .before .before in
-    ap (headedAt (start .args .c) (start .args .n) (start .args .recuts)) (c .before .before .before .before .forget .ensures ∙ ap (forgottenAt (start .args .most) (start .args .r) (start .args .c) (start .args .n)) (c .before .before .before .before .before .before .before .before .before .before .before .clear-waiting .ensures))
+returns-2 : tie.Need-returns-2
+unfolding emptyOf whereRoomy
+returns-2 c = rw (passed (c .before .before .before .before .before .before .before .before .is-roomy .ensures) (c .before .before .before .before .before .before .before .if1 .left)) (c .before .before .before .before .empty-axis-there .ensures)
 
 pub empty-axis-spec : {M : Type 1} → statement M
 empty-axis-spec =
     tie.close
     (tie.spec
-    clear-waiting-requires
-    forget-requires
-    mul-counts
-    slice-write-counts
-    add-counts
-    mul-counts-2
-    slice-write-counts-2
+    is-roomy-requires
+    returns
+    empty-axis-there-requires
     same-length
     same-length-2
-    returns)
+    returns-2)

@@ -4,9 +4,8 @@ use Prim.Native.Nat.{_+_}
 use native.Mathlib.Omega.{arith}
 use lib.ListN.{length, getD, take, drop}
 use Rattle.lent.specs.Memory.{memory}
-use Rattle.lent.specs.Tree.{axesPlace}
 use Rattle.lent.proofs.Judges.{part}
-use Rattle.lent.proofs.Sounds.{words-stretch, numbers-upto}
+use Rattle.lent.proofs.Sounds.{words-stretch}
 use Rattle.lent.proofs.Adapts.{axes-unfit, axes-ready, axes-updated}
 use borrow.Author.Needs.{needs}
 use Rattle.updates.proofs.adapting.update_axes_grid.Statement.{statement}
@@ -74,8 +73,7 @@ part-axes-fit-end c = search needs
 
 -- src/adapting.rt:78:9
 axes-fit-requires : tie.Need-axes-fit-requires
-unfolding axesPlace
-axes-fit-requires c κs = rw (placed (c .before .before .before .before .before .before .before .before .before .args .table .now) (c .before .before .before .before .before .before .before .before .before .args .w) (c .before .before .before .before .before .axes-place .ensures) (search needs), (part (c .before .before .before .before .before .before .before .before .before .args .w + 11) (getD (c .before .before .before .before .before .before .before .before .before .args .table .now) (c .before .before .before .before .before .before .before .before .before .args .w + 8) 0) (c .before .before .before .before .before .before .before .before .before .args .table .now) ∙ words-stretch (c .before .before .before .before .before .before .before .before .before .args .table .now) (c .before .before .before .before .before .before .before .before .before .args .w + 11) (getD (c .before .before .before .before .before .before .before .before .before .args .table .now) (c .before .before .before .before .before .before .before .before .before .args .w + 8) 0) (omega (arith, c .before .before .before .before .before .before .before .before .before .pre .head)))) (c .before .before .before .before .before .before .before .before .before .pre .most, numbers-upto (c .before .before .before .before .before .before .before .before .before .args .table .now) (length (c .before .before .before .before .before .before .before .before .before .args .reals .now)) (length (c .before .before .before .before .before .before .before .before .before .args .counts .now)) (c .before .before .before .before .before .before .before .before .before .args .w) (c .before .before .before .before .before .before .before .before .before .pre), c .before .before .before .before .before .before .before .before .before .pre .room, c .before .before .before .before .before .before .before .before .before .pre .places)
+axes-fit-requires c κs = tt
 
 -- src/adapting.rt:79:9
 same-length : tie.Need-same-length

@@ -2,6 +2,9 @@
 use native.Mathlib.Omega.{arith}
 use Rattle.lent.specs.Layout.{axisReals, axisCounts}
 use Rattle.lent.specs.Memory.{memory}
+use mathlib.Core.Path.{_∙_}
+use lib.ListN.{length}
+use Rattle.lent.proofs.Rooms.{empty-known}
 use Rattle.lent.proofs.Renewals.{adapt-8, adapt-kept, adapt-reset, adapt-on}
 use borrow.Author.Needs.{needs}
 use Rattle.updates.proofs.renewal.adapt.Statement.{statement}
@@ -49,7 +52,7 @@ unfolding axisReals axisCounts
 slice-read-recuts c = omega arith
 
 empty-axis-requires : tie.Need-empty-axis-requires
-empty-axis-requires c κs = search needs
+empty-axis-requires c κs = tt
 
 same-length-5 : tie.Need-same-length-5
 same-length-5 c = search needs
@@ -63,7 +66,7 @@ same-length-7 c = search needs
 returns-3 : tie.Need-returns-3
 returns-3 c =
     let start = c .before .before .before .before .before .before .before .before .before .before .before .before .before .before .before .before .before .before .before .before in
-    adapt-reset (start .args .rule) (start .args .values .now) (start .args .rate) (start .args .most) (start .args .r) (start .args .c) (start .args .importances .now) (start .args .counters .now) (memory (start .args .reals .now) (start .args .counts .now)) (c .before .before .before .before .before .before .before .before .before .before .before .before .may-be-kept .result) (c .before .before .before .before .before .before .before .before .before .before .before .before .may-be-kept .ensures) (c .before .before .before .before .before .before .before .before .before .before .before .if1 .left) (c .before .before .before .before .before .before .before .before .before .before .reaches .result) (c .before .before .before .before .before .before .before .before .before .before .reaches .ensures) _ (c .before .before .before .before .before .before .before .before .before .if2 .left) (c .before .before .before .before .before .before .before .before .if3 .taken) (c .before .before .before .before .empty-axis .ensures)
+    adapt-reset (start .args .rule) (start .args .values .now) (start .args .rate) (start .args .most) (start .args .r) (start .args .c) (start .args .importances .now) (start .args .counters .now) (memory (start .args .reals .now) (start .args .counts .now)) (c .before .before .before .before .before .before .before .before .before .before .before .before .may-be-kept .result) (c .before .before .before .before .before .before .before .before .before .before .before .before .may-be-kept .ensures) (c .before .before .before .before .before .before .before .before .before .before .before .if1 .left) (c .before .before .before .before .before .before .before .before .before .before .reaches .result) (c .before .before .before .before .before .before .before .before .before .before .reaches .ensures) _ (c .before .before .before .before .before .before .before .before .before .if2 .left) (c .before .before .before .before .before .before .before .before .if3 .taken) (c .before .before .before .before .empty-axis .ensures ∙ empty-known (start .args .most) (length (start .args .importances .now)) (start .args .r) (start .args .c) _ (memory (start .args .reals .now) (start .args .counts .now)) (search needs))
 
 recut-axis-requires : tie.Need-recut-axis-requires
 recut-axis-requires c κs = search needs

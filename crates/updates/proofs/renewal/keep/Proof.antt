@@ -6,6 +6,7 @@ use lib.ListN.{length}
 use Rattle.lent.specs.Memory.{memory}
 use Rattle.lent.specs.Laid.{waitlessAt}
 use Rattle.lent.specs.Renewed.{keptAt}
+use Rattle.lent.proofs.Rooms.{waitless-known}
 use borrow.Author.Needs.{needs}
 use Rattle.updates.proofs.renewal.keep.Statement.{statement}
 use Rattle.updates.proofs.renewal.keep.Tie as tie
@@ -34,7 +35,7 @@ unfolding axisReals axisCounts
 put-counts-requires c κs = omega arith
 
 clear-waiting-requires : tie.Need-clear-waiting-requires
-clear-waiting-requires c κs = search needs
+clear-waiting-requires c κs = tt
 
 same-length : tie.Need-same-length
 same-length c = search needs
@@ -46,7 +47,7 @@ returns : tie.Need-returns
 unfolding keptAt
 returns c =
     let start = c .before .before .before .before .before .before .before .before .before .before .before .before .before .before .before .before .before .before .before in
-    c .before .before .before .before .clear-waiting .ensures ∙ ap (waitlessAt (start .args .most) (start .args .r) (start .args .c) (length (start .args .importances .now))) (ap₂ memory (c .before .before .before .before .before .before .before .before .before .before .before .before .before .put-reals .ensures) (c .before .before .before .before .before .before .before .before .before .put-counts .ensures))
+    c .before .before .before .before .clear-waiting .ensures ∙ waitless-known (start .args .most) (length (start .args .importances .now)) (start .args .r) (start .args .c) _ (search needs) ∙ ap (waitlessAt (start .args .most) (start .args .r) (start .args .c) (length (start .args .importances .now))) (ap₂ memory (c .before .before .before .before .before .before .before .before .before .before .before .before .before .put-reals .ensures) (c .before .before .before .before .before .before .before .before .before .put-counts .ensures))
 
 pub keep-spec : {M : Type 1} → statement M
 keep-spec =

@@ -1,6 +1,8 @@
 -- `renewal::recut_into` meets its contract: a refusal leaves memory alone; else the cut edges are put, and the axis is emptied.
 use native.Mathlib.Omega.{arith}
 use Rattle.lent.specs.Layout.{axisReals, axisCounts}
+use mathlib.Core.Path.{_∙_}
+use Rattle.lent.proofs.Rooms.{empty-known}
 use Rattle.lent.proofs.Renewals.{into-refused, into-done}
 use borrow.Author.Needs.{needs}
 use Rattle.updates.proofs.renewal.recut_into.Statement.{statement}
@@ -39,7 +41,7 @@ unfolding axisReals axisCounts
 put-reals-requires c κs = omega (arith, c .before .before .before .before .before .before .before .before .renew .kept .1 .1 .1 .1 .0, c .before .before .before .before .before .before .before .before .before .before .before .before .before .before .before .before .before .before .pre)
 
 empty-axis-requires : tie.Need-empty-axis-requires
-empty-axis-requires c κs = search needs
+empty-axis-requires c κs = tt
 
 same-length : tie.Need-same-length
 same-length c = search needs
@@ -72,7 +74,7 @@ returns-2 : tie.Need-returns-2
 returns-2 c =
     let start = c .before .before .before .before .before .before .before .before .before .before .before .before .before .before .before .before .before .before .before .before .before .before .before .before .before .before .before .before in
     let renew = c .before .before .before .before .before .before .before .before .before .before .before .before .before .before .before .before .before .before .renew in
-    into-done (start .args .most) (start .args .r) (start .args .c) (start .args .n) (start .args .recuts) (start .args .importances .now) (start .args .counters .now) (start .args .rate) (start .args .reals .now) (start .args .counts .now) (renew .result) _ _ (start .pre .2) (renew .ensures) _ _ (c .before .before .before .before .before .before .before .before .before .before .before .before .enum-told .given .1) (renew .kept .1 .1 .1 .1 .0) (c .before .before .before .before .before .before .before .before .before .put-reals .ensures) (c .before .before .before .before .empty-axis .ensures)
+    into-done (start .args .most) (start .args .r) (start .args .c) (start .args .n) (start .args .recuts) (start .args .importances .now) (start .args .counters .now) (start .args .rate) (start .args .reals .now) (start .args .counts .now) (renew .result) _ _ (start .pre .2) (renew .ensures) _ _ (c .before .before .before .before .before .before .before .before .before .before .before .before .enum-told .given .1) (renew .kept .1 .1 .1 .1 .0) (c .before .before .before .before .before .before .before .before .before .put-reals .ensures) (c .before .before .before .before .empty-axis .ensures ∙ empty-known (start .args .most) (start .args .n) (start .args .r) (start .args .c) (start .args .recuts) _ (search needs))
 
 pub recut-into-spec : {M : Type 1} → statement M
 recut-into-spec =

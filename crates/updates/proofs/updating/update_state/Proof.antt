@@ -1,6 +1,9 @@
 use mathlib.Core.Path.{_≡_, sym, _∙_}
 use native.Mathlib.Omega.{arith}
+use lib.ListN.{length}
 use Rattle.lent.specs.Memory.{memory}
+use Rattle.lent.specs.State.{judgedTo}
+use Rattle.lent.proofs.States.{fault-to-known}
 use Rattle.lent.proofs.Clones.{ready}
 use Rattle.lent.proofs.Spares.{update-refused, update-unrated, update-made, front-ready}
 use borrow.Author.Needs.{needs}
@@ -8,13 +11,17 @@ use Rattle.updates.proofs.updating.update_state.Statement.{statement}
 use Rattle.updates.proofs.updating.update_state.Tie as tie
 use Rattle.updates.proofs.updating.update_state.Reads as reads
 use Rattle.updates.proofs.updating.update_state.Lts as lts
-use Rattle.ground.proofs.state.judged_to.Reads as judged-to-reads
+use Rattle.ground.proofs.state.fault_to.Reads as fault-to-reads
 use Rattle.updates.proofs.updating.is_rate.Reads as is-rate-reads
 use Rattle.updates.proofs.updating.update_over.Reads as update-over-reads
 
 -- src/updating.rt:74:9
-judged-to-requires : tie.Need-judged-to-requires
-judged-to-requires c κs = search needs
+fault-to-requires : tie.Need-fault-to-requires
+fault-to-requires c κs = search needs
+
+-- the caller has read the plan's needs already
+planned : (c : tie.After-fault-to) → c .fault-to .result ≡ judgedTo (c .before .before .before .before .before .before .before .before .args .table .now) (c .before .before .before .before .before .before .before .before .args .reals .now) (c .before .before .before .before .before .before .before .before .args .counts .now) (length (c .before .before .before .before .before .before .before .before .args .spare-reals .now)) (length (c .before .before .before .before .before .before .before .before .args .spare-counts .now)) (c .before .before .before .before .before .before .before .before .args .needs)
+planned c = c .fault-to .ensures ∙ fault-to-known (c .before .before .before .before .before .before .before .before .args .table .now) (c .before .before .before .before .before .before .before .before .args .reals .now) (c .before .before .before .before .before .before .before .before .args .counts .now) (length (c .before .before .before .before .before .before .before .before .args .spare-reals .now)) (length (c .before .before .before .before .before .before .before .before .args .spare-counts .now)) (c .before .before .before .before .before .before .before .before .args .needs) (c .before .before .before .before .before .before .before .before .pre)
 
 -- src/updating.rt:83:9
 same-length : tie.Need-same-length
@@ -26,7 +33,7 @@ same-length-2 c = search needs
 
 -- src/updating.rt:83:9
 returns : tie.Need-returns
-returns c = update-refused (c .before .before .before .before .before .before .before .before .before .args .table .now) (c .before .before .before .before .before .before .before .before .before .args .bins-rate) (c .before .before .before .before .before .before .before .before .before .args .axes-rate) (memory (c .before .before .before .before .before .before .before .before .before .args .reals .now) (c .before .before .before .before .before .before .before .before .before .args .counts .now)) (memory (c .before .before .before .before .before .before .before .before .before .args .spare-reals .now) (c .before .before .before .before .before .before .before .before .before .args .spare-counts .now)) (c .before .before .before .before .before .before .before .before .before .args .needs) (c .before .judged-to .result) (c .before .judged-to .ensures) (c .if1 .taken)
+returns c = update-refused (c .before .before .before .before .before .before .before .before .before .args .table .now) (c .before .before .before .before .before .before .before .before .before .args .bins-rate) (c .before .before .before .before .before .before .before .before .before .args .axes-rate) (memory (c .before .before .before .before .before .before .before .before .before .args .reals .now) (c .before .before .before .before .before .before .before .before .before .args .counts .now)) (memory (c .before .before .before .before .before .before .before .before .before .args .spare-reals .now) (c .before .before .before .before .before .before .before .before .before .args .spare-counts .now)) (c .before .before .before .before .before .before .before .before .before .args .needs) (c .before .fault-to .result) (planned (c .before)) (c .if1 .taken)
 
 -- src/updating.rt:85:10
 is-rate-requires : tie.Need-is-rate-requires
@@ -46,7 +53,7 @@ same-length-4 c = search needs
 
 -- src/updating.rt:86:9
 returns-2 : tie.Need-returns-2
-returns-2 c = update-unrated (c .before .before .before .before .before .before .before .before .before .before .before .before .args .table .now) (c .before .before .before .before .before .before .before .before .before .before .before .before .args .bins-rate) (c .before .before .before .before .before .before .before .before .before .before .before .before .args .axes-rate) (memory (c .before .before .before .before .before .before .before .before .before .before .before .before .args .reals .now) (c .before .before .before .before .before .before .before .before .before .before .before .before .args .counts .now)) (memory (c .before .before .before .before .before .before .before .before .before .before .before .before .args .spare-reals .now) (c .before .before .before .before .before .before .before .before .before .before .before .before .args .spare-counts .now)) (c .before .before .before .before .before .before .before .before .before .before .before .before .args .needs) (c .before .before .before .before .judged-to .result) (c .before .before .before .before .judged-to .ensures) (c .before .before .before .if1 .left) (c .before .before .is-rate .result) (c .before .is-rate2 .result) (c .before .before .is-rate .ensures) (c .before .is-rate2 .ensures) (c .if2 .taken)
+returns-2 c = update-unrated (c .before .before .before .before .before .before .before .before .before .before .before .before .args .table .now) (c .before .before .before .before .before .before .before .before .before .before .before .before .args .bins-rate) (c .before .before .before .before .before .before .before .before .before .before .before .before .args .axes-rate) (memory (c .before .before .before .before .before .before .before .before .before .before .before .before .args .reals .now) (c .before .before .before .before .before .before .before .before .before .before .before .before .args .counts .now)) (memory (c .before .before .before .before .before .before .before .before .before .before .before .before .args .spare-reals .now) (c .before .before .before .before .before .before .before .before .before .before .before .before .args .spare-counts .now)) (c .before .before .before .before .before .before .before .before .before .before .before .before .args .needs) (c .before .before .before .before .fault-to .result) (planned (c .before .before .before .before)) (c .before .before .before .if1 .left) (c .before .before .is-rate .result) (c .before .is-rate2 .result) (c .before .before .is-rate .ensures) (c .before .is-rate2 .ensures) (c .if2 .taken)
 
 -- src/updating.rt:92:9
 sub-update-over : tie.Need-sub-update-over
@@ -58,7 +65,7 @@ part-update-over-start c = search needs
 
 -- src/updating.rt:92:9
 part-update-over-end : tie.Need-part-update-over-end
-part-update-over-end c = let r = (ready (c .before .before .before .before .before .before .before .before .before .before .before .before .args .table .now) (memory (c .before .before .before .before .before .before .before .before .before .before .before .before .args .reals .now) (c .before .before .before .before .before .before .before .before .before .before .before .before .args .counts .now)) (memory (c .before .before .before .before .before .before .before .before .before .before .before .before .args .spare-reals .now) (c .before .before .before .before .before .before .before .before .before .before .before .before .args .spare-counts .now)) (c .before .before .before .before .before .before .before .before .before .before .before .before .args .needs) (sym (c .before .before .before .before .judged-to .ensures) ∙ c .before .before .before .if1 .left)) in omega (arith, r .reals)
+part-update-over-end c = let r = (ready (c .before .before .before .before .before .before .before .before .before .before .before .before .args .table .now) (memory (c .before .before .before .before .before .before .before .before .before .before .before .before .args .reals .now) (c .before .before .before .before .before .before .before .before .before .before .before .before .args .counts .now)) (memory (c .before .before .before .before .before .before .before .before .before .before .before .before .args .spare-reals .now) (c .before .before .before .before .before .before .before .before .before .before .before .before .args .spare-counts .now)) (c .before .before .before .before .before .before .before .before .before .before .before .before .args .needs) (sym (planned (c .before .before .before .before)) ∙ c .before .before .before .if1 .left)) in omega (arith, r .reals)
 
 -- src/updating.rt:93:9
 sub-update-over-2 : tie.Need-sub-update-over-2
@@ -70,7 +77,7 @@ part-update-over-start-2 c = search needs
 
 -- src/updating.rt:93:9
 part-update-over-end-2 : tie.Need-part-update-over-end-2
-part-update-over-end-2 c = let r = (ready (c .before .before .before .before .before .before .before .before .before .before .before .before .before .args .table .now) (memory (c .before .before .before .before .before .before .before .before .before .before .before .before .before .args .reals .now) (c .before .before .before .before .before .before .before .before .before .before .before .before .before .args .counts .now)) (memory (c .before .before .before .before .before .before .before .before .before .before .before .before .before .args .spare-reals .now) (c .before .before .before .before .before .before .before .before .before .before .before .before .before .args .spare-counts .now)) (c .before .before .before .before .before .before .before .before .before .before .before .before .before .args .needs) (sym (c .before .before .before .before .before .judged-to .ensures) ∙ c .before .before .before .before .if1 .left)) in omega (arith, r .counts)
+part-update-over-end-2 c = let r = (ready (c .before .before .before .before .before .before .before .before .before .before .before .before .before .args .table .now) (memory (c .before .before .before .before .before .before .before .before .before .before .before .before .before .args .reals .now) (c .before .before .before .before .before .before .before .before .before .before .before .before .before .args .counts .now)) (memory (c .before .before .before .before .before .before .before .before .before .before .before .before .before .args .spare-reals .now) (c .before .before .before .before .before .before .before .before .before .before .before .before .before .args .spare-counts .now)) (c .before .before .before .before .before .before .before .before .before .before .before .before .before .args .needs) (sym (planned (c .before .before .before .before .before)) ∙ c .before .before .before .before .if1 .left)) in omega (arith, r .counts)
 
 -- src/updating.rt:94:9
 sub-update-over-3 : tie.Need-sub-update-over-3
@@ -82,7 +89,7 @@ part-update-over-start-3 c = search needs
 
 -- src/updating.rt:94:9
 part-update-over-end-3 : tie.Need-part-update-over-end-3
-part-update-over-end-3 c = let r = (ready (c .before .before .before .before .before .before .before .before .before .before .before .before .before .before .args .table .now) (memory (c .before .before .before .before .before .before .before .before .before .before .before .before .before .before .args .reals .now) (c .before .before .before .before .before .before .before .before .before .before .before .before .before .before .args .counts .now)) (memory (c .before .before .before .before .before .before .before .before .before .before .before .before .before .before .args .spare-reals .now) (c .before .before .before .before .before .before .before .before .before .before .before .before .before .before .args .spare-counts .now)) (c .before .before .before .before .before .before .before .before .before .before .before .before .before .before .args .needs) (sym (c .before .before .before .before .before .before .judged-to .ensures) ∙ c .before .before .before .before .before .if1 .left)) in omega (arith, r .places)
+part-update-over-end-3 c = let r = (ready (c .before .before .before .before .before .before .before .before .before .before .before .before .before .before .args .table .now) (memory (c .before .before .before .before .before .before .before .before .before .before .before .before .before .before .args .reals .now) (c .before .before .before .before .before .before .before .before .before .before .before .before .before .before .args .counts .now)) (memory (c .before .before .before .before .before .before .before .before .before .before .before .before .before .before .args .spare-reals .now) (c .before .before .before .before .before .before .before .before .before .before .before .before .before .before .args .spare-counts .now)) (c .before .before .before .before .before .before .before .before .before .before .before .before .before .before .args .needs) (sym (planned (c .before .before .before .before .before .before)) ∙ c .before .before .before .before .before .if1 .left)) in omega (arith, r .places)
 
 -- src/updating.rt:95:9
 sub-update-over-4 : tie.Need-sub-update-over-4
@@ -94,11 +101,11 @@ part-update-over-start-4 c = search needs
 
 -- src/updating.rt:95:9
 part-update-over-end-4 : tie.Need-part-update-over-end-4
-part-update-over-end-4 c = let r = (ready (c .before .before .before .before .before .before .before .before .before .before .before .before .before .before .before .args .table .now) (memory (c .before .before .before .before .before .before .before .before .before .before .before .before .before .before .before .args .reals .now) (c .before .before .before .before .before .before .before .before .before .before .before .before .before .before .before .args .counts .now)) (memory (c .before .before .before .before .before .before .before .before .before .before .before .before .before .before .before .args .spare-reals .now) (c .before .before .before .before .before .before .before .before .before .before .before .before .before .before .before .args .spare-counts .now)) (c .before .before .before .before .before .before .before .before .before .before .before .before .before .before .before .args .needs) (sym (c .before .before .before .before .before .before .before .judged-to .ensures) ∙ c .before .before .before .before .before .before .if1 .left)) in omega (arith, r .tallies)
+part-update-over-end-4 c = let r = (ready (c .before .before .before .before .before .before .before .before .before .before .before .before .before .before .before .args .table .now) (memory (c .before .before .before .before .before .before .before .before .before .before .before .before .before .before .before .args .reals .now) (c .before .before .before .before .before .before .before .before .before .before .before .before .before .before .before .args .counts .now)) (memory (c .before .before .before .before .before .before .before .before .before .before .before .before .before .before .before .args .spare-reals .now) (c .before .before .before .before .before .before .before .before .before .before .before .before .before .before .before .args .spare-counts .now)) (c .before .before .before .before .before .before .before .before .before .before .before .before .before .before .before .args .needs) (sym (planned (c .before .before .before .before .before .before .before)) ∙ c .before .before .before .before .before .before .if1 .left)) in omega (arith, r .tallies)
 
 -- src/updating.rt:90:5
 update-over-requires : tie.Need-update-over-requires
-update-over-requires c κs = front-ready (c .before .before .before .before .before .before .before .before .before .before .before .before .before .before .before .before .args .table .now) (memory (c .before .before .before .before .before .before .before .before .before .before .before .before .before .before .before .before .args .reals .now) (c .before .before .before .before .before .before .before .before .before .before .before .before .before .before .before .before .args .counts .now)) (memory (c .before .before .before .before .before .before .before .before .before .before .before .before .before .before .before .before .args .spare-reals .now) (c .before .before .before .before .before .before .before .before .before .before .before .before .before .before .before .before .args .spare-counts .now)) (c .before .before .before .before .before .before .before .before .before .before .before .before .before .before .before .before .args .needs) (λ i. omega (arith, c .before .before .before .before .before .before .before .before .before .before .before .before .before .before .before .shared-slice-known .given i)) (c .before .before .before .before .before .before .before .before .before .before .before .before .before .before .before .before .pre) (ready (c .before .before .before .before .before .before .before .before .before .before .before .before .before .before .before .before .args .table .now) (memory (c .before .before .before .before .before .before .before .before .before .before .before .before .before .before .before .before .args .reals .now) (c .before .before .before .before .before .before .before .before .before .before .before .before .before .before .before .before .args .counts .now)) (memory (c .before .before .before .before .before .before .before .before .before .before .before .before .before .before .before .before .args .spare-reals .now) (c .before .before .before .before .before .before .before .before .before .before .before .before .before .before .before .before .args .spare-counts .now)) (c .before .before .before .before .before .before .before .before .before .before .before .before .before .before .before .before .args .needs) (sym (c .before .before .before .before .before .before .before .before .judged-to .ensures) ∙ c .before .before .before .before .before .before .before .if1 .left))
+update-over-requires c κs = front-ready (c .before .before .before .before .before .before .before .before .before .before .before .before .before .before .before .before .args .table .now) (memory (c .before .before .before .before .before .before .before .before .before .before .before .before .before .before .before .before .args .reals .now) (c .before .before .before .before .before .before .before .before .before .before .before .before .before .before .before .before .args .counts .now)) (memory (c .before .before .before .before .before .before .before .before .before .before .before .before .before .before .before .before .args .spare-reals .now) (c .before .before .before .before .before .before .before .before .before .before .before .before .before .before .before .before .args .spare-counts .now)) (c .before .before .before .before .before .before .before .before .before .before .before .before .before .before .before .before .args .needs) (λ i. omega (arith, c .before .before .before .before .before .before .before .before .before .before .before .before .before .before .before .shared-slice-known .given i)) (c .before .before .before .before .before .before .before .before .before .before .before .before .before .before .before .before .pre) (ready (c .before .before .before .before .before .before .before .before .before .before .before .before .before .before .before .before .args .table .now) (memory (c .before .before .before .before .before .before .before .before .before .before .before .before .before .before .before .before .args .reals .now) (c .before .before .before .before .before .before .before .before .before .before .before .before .before .before .before .before .args .counts .now)) (memory (c .before .before .before .before .before .before .before .before .before .before .before .before .before .before .before .before .args .spare-reals .now) (c .before .before .before .before .before .before .before .before .before .before .before .before .before .before .before .before .args .spare-counts .now)) (c .before .before .before .before .before .before .before .before .before .before .before .before .before .before .before .before .args .needs) (sym (planned (c .before .before .before .before .before .before .before .before)) ∙ c .before .before .before .before .before .before .before .if1 .left))
 
 -- src/updating.rt:60:1
 same-length-5 : tie.Need-same-length-5
@@ -118,13 +125,13 @@ same-length-8 c = search needs
 
 -- src/updating.rt:60:1
 returns-3 : tie.Need-returns-3
-returns-3 c = update-made (c .before .before .before .before .before .before .before .before .before .before .before .before .before .before .before .before .before .before .before .before .before .before .before .before .before .args .table .now) (c .before .before .before .before .before .before .before .before .before .before .before .before .before .before .before .before .before .before .before .before .before .before .before .before .before .args .bins-rate) (c .before .before .before .before .before .before .before .before .before .before .before .before .before .before .before .before .before .before .before .before .before .before .before .before .before .args .axes-rate) (memory (c .before .before .before .before .before .before .before .before .before .before .before .before .before .before .before .before .before .before .before .before .before .before .before .before .before .args .reals .now) (c .before .before .before .before .before .before .before .before .before .before .before .before .before .before .before .before .before .before .before .before .before .before .before .before .before .args .counts .now)) (memory (c .before .before .before .before .before .before .before .before .before .before .before .before .before .before .before .before .before .before .before .before .before .before .before .before .before .args .spare-reals .now) (c .before .before .before .before .before .before .before .before .before .before .before .before .before .before .before .before .before .before .before .before .before .before .before .before .before .args .spare-counts .now)) (c .before .before .before .before .before .before .before .before .before .before .before .before .before .before .before .before .before .before .before .before .before .before .before .before .before .args .needs) (c .before .before .before .before .before .before .before .before .before .before .before .before .before .before .before .before .before .judged-to .result) (c .before .before .before .before .before .before .before .before .before .before .before .before .before .before .before .before .before .judged-to .ensures) (c .before .before .before .before .before .before .before .before .before .before .before .before .before .before .before .before .if1 .left) (c .before .before .before .before .before .before .before .before .before .before .before .before .before .before .before .is-rate .result) (c .before .before .before .before .before .before .before .before .before .before .before .before .before .before .is-rate2 .result) (c .before .before .before .before .before .before .before .before .before .before .before .before .before .before .before .is-rate .ensures) (c .before .before .before .before .before .before .before .before .before .before .before .before .before .before .is-rate2 .ensures) (c .before .before .before .before .before .before .before .before .update-over .result) (c .before .before .before .before .before .before .before .before .update-over .last .1 .0) (c .before .before .before .before .before .before .before .before .update-over .last .1 .1 .0) (c .before .before .before .before .before .before .before .before .before .before .before .before .before .if2 .left) (c .before .before .before .before .before .before .before .before .update-over .ensures)
+returns-3 c = update-made (c .before .before .before .before .before .before .before .before .before .before .before .before .before .before .before .before .before .before .before .before .before .before .before .before .before .args .table .now) (c .before .before .before .before .before .before .before .before .before .before .before .before .before .before .before .before .before .before .before .before .before .before .before .before .before .args .bins-rate) (c .before .before .before .before .before .before .before .before .before .before .before .before .before .before .before .before .before .before .before .before .before .before .before .before .before .args .axes-rate) (memory (c .before .before .before .before .before .before .before .before .before .before .before .before .before .before .before .before .before .before .before .before .before .before .before .before .before .args .reals .now) (c .before .before .before .before .before .before .before .before .before .before .before .before .before .before .before .before .before .before .before .before .before .before .before .before .before .args .counts .now)) (memory (c .before .before .before .before .before .before .before .before .before .before .before .before .before .before .before .before .before .before .before .before .before .before .before .before .before .args .spare-reals .now) (c .before .before .before .before .before .before .before .before .before .before .before .before .before .before .before .before .before .before .before .before .before .before .before .before .before .args .spare-counts .now)) (c .before .before .before .before .before .before .before .before .before .before .before .before .before .before .before .before .before .before .before .before .before .before .before .before .before .args .needs) (c .before .before .before .before .before .before .before .before .before .before .before .before .before .before .before .before .before .fault-to .result) (planned (c .before .before .before .before .before .before .before .before .before .before .before .before .before .before .before .before .before)) (c .before .before .before .before .before .before .before .before .before .before .before .before .before .before .before .before .if1 .left) (c .before .before .before .before .before .before .before .before .before .before .before .before .before .before .before .is-rate .result) (c .before .before .before .before .before .before .before .before .before .before .before .before .before .before .is-rate2 .result) (c .before .before .before .before .before .before .before .before .before .before .before .before .before .before .before .is-rate .ensures) (c .before .before .before .before .before .before .before .before .before .before .before .before .before .before .is-rate2 .ensures) (c .before .before .before .before .before .before .before .before .update-over .result) (c .before .before .before .before .before .before .before .before .update-over .last .1 .0) (c .before .before .before .before .before .before .before .before .update-over .last .1 .1 .0) (c .before .before .before .before .before .before .before .before .before .before .before .before .before .if2 .left) (c .before .before .before .before .before .before .before .before .update-over .ensures)
 
 pub update-state-spec : {M : Type 1} → statement M
 update-state-spec =
     tie.close
     (tie.spec
-    judged-to-requires
+    fault-to-requires
     same-length
     same-length-2
     returns

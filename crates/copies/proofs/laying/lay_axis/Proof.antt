@@ -4,9 +4,10 @@ use Rattle.lent.specs.Layout.{axisReals, axisCounts}
 use mathlib.Core.Path.{ap, _∙_}
 use Rattle.lent.specs.Laid.{emptyAt, edgedAt, layAt}
 use Rattle.lent.proofs.Lays.{laid-even}
+use Rattle.lent.proofs.Rooms.{empty-known}
 use borrow.Author.Needs.{needs}
-use Rattle.ground.proofs.laying.lay_axis.Statement.{statement}
-use Rattle.ground.proofs.laying.lay_axis.Tie as tie
+use Rattle.copies.proofs.laying.lay_axis.Statement.{statement}
+use Rattle.copies.proofs.laying.lay_axis.Tie as tie
 
 add-places : tie.Need-add-places
 add-places c = search needs
@@ -31,7 +32,7 @@ lay-even-requires : tie.Need-lay-even-requires
 lay-even-requires c κs = search needs
 
 empty-axis-requires : tie.Need-empty-axis-requires
-empty-axis-requires c κs = search needs
+empty-axis-requires c κs = tt
 
 same-length : tie.Need-same-length
 same-length c = search needs
@@ -43,7 +44,7 @@ returns : tie.Need-returns
 unfolding layAt edgedAt axisReals axisCounts
 returns c =
     let start = c .before .before .before .before .before .before .before .before .before .before .before .before .before in
-    c .before .before .before .before .empty-axis .ensures ∙ ap (emptyAt (start .args .most) (start .args .r) (start .args .c) (start .args .n) 0) (laid-even (start .args .r) (start .args .n) _ (start .args .reals .now) (start .args .counts .now) (omega (arith, start .pre)) (c .before .before .before .before .before .before .before .before .before .lay-even .ensures))
+    c .before .before .before .before .empty-axis .ensures ∙ empty-known (start .args .most) (start .args .n) (start .args .r) (start .args .c) 0 _ (search needs) ∙ ap (emptyAt (start .args .most) (start .args .r) (start .args .c) (start .args .n) 0) (laid-even (start .args .r) (start .args .n) _ (start .args .reals .now) (start .args .counts .now) (omega (arith, start .pre)) (c .before .before .before .before .before .before .before .before .before .lay-even .ensures))
 
 pub lay-axis-spec : {M : Type 1} → statement M
 lay-axis-spec =

@@ -8,8 +8,8 @@ use lib.ListN.{length, replicate}
 use Rattle.lent.specs.Memory.{memory, overAxes}
 use Rattle.lent.specs.Laid.{layAt}
 use Rattle.lent.proofs.Lays.{room-next, over-next, over-done}
-use Rattle.ground.proofs.laying.lay_axes.Statement.{statement}
-use Rattle.ground.proofs.laying.lay_axes.Tie as tie
+use Rattle.copies.proofs.laying.lay_axes.Statement.{statement}
+use Rattle.copies.proofs.laying.lay_axes.Tie as tie
 
 abbrev Inv-loop : tie.InvT-loop
 Inv-loop reals₀ counts₀ g n r₀ c₀ done₀ reals counts r c done =
