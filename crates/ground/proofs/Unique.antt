@@ -8,6 +8,20 @@ use denote.Triple.Clauses.{AtExit}
 use denote.Ref.{now}
 use lib.Ieee.{Float}
 use Rattle.lent.specs.Memory.{Memory}
+use Rattle.lent.specs.declared.AxesAt.{AxesAt}
+use Rattle.accumulator.specs.declared.StatisticsAccumulator.{StatisticsAccumulator}
+use Rattle.ground.proofs.layout.axes_place.Kinds as axes-place
+use Rattle.ground.proofs.layout.axes_place.Reads as axes-place-reads
+use Rattle.ground.proofs.accounts.load.Kinds as load
+use Rattle.ground.proofs.accounts.load.Reads as load-reads
+use Rattle.ground.proofs.accounts.store.Kinds as store
+use Rattle.ground.proofs.accounts.store.Reads as store-reads
+use Rattle.ground.proofs.accounts.clear.Kinds as clear
+use Rattle.ground.proofs.accounts.clear.Reads as clear-reads
+use Rattle.ground.proofs.parts.set_reals.Kinds as set-reals
+use Rattle.ground.proofs.parts.set_reals.Reads as set-reals-reads
+use Rattle.ground.proofs.parts.set_counts.Kinds as set-counts
+use Rattle.ground.proofs.parts.set_counts.Reads as set-counts-reads
 use Rattle.ground.proofs.floors.floored.Kinds as floored
 use Rattle.ground.proofs.floors.floored.Reads as floored-reads
 use Rattle.ground.proofs.state.fault.Kinds as fault
@@ -76,3 +90,49 @@ pub empty-axis-unique : (κs : Lfts 2) (a : Dens κs empty-axis.ps) (r r′ : Un
 empty-axis-unique κs a r r′ s s′ p q =
     let e = p ∙ sym q in
     (ap (λ (x : Memory). x .reals) e, ap (λ (x : Memory). x .counts) e)
+
+pub axes-place-total : (κs : Lfts 1) (a : Dens κs axes-place.ps) → axes-place-reads.Pre κs a
+axes-place-total κs a = tt
+
+pub axes-place-unique : (κs : Lfts 1) (a : Dens κs axes-place.ps) (r r′ : AxesAt) (s s′ : AtExit (endedOf 1 axes-place.ps axes-place.r) κs)
+    → axes-place-reads.Post κs a r s → axes-place-reads.Post κs a r′ s′ → r ≡ r′
+axes-place-unique κs a r r′ s s′ p q = p ∙ sym q
+
+pub load-total : (κs : Lfts 2) (a : Dens κs load.ps) → load-reads.Pre κs a
+load-total κs a = tt
+
+pub load-unique : (κs : Lfts 2) (a : Dens κs load.ps) (r r′ : StatisticsAccumulator) (s s′ : AtExit (endedOf 2 load.ps load.r) κs)
+    → load-reads.Post κs a r s → load-reads.Post κs a r′ s′ → r ≡ r′
+load-unique κs a r r′ s s′ p q = p ∙ sym q
+
+pub store-total : (κs : Lfts 2) (a : Dens κs store.ps) → store-reads.Pre κs a
+store-total κs a = tt
+
+pub store-unique : (κs : Lfts 2) (a : Dens κs store.ps) (r r′ : Unit {0}) (s s′ : AtExit (endedOf 2 store.ps store.r) κs)
+    → store-reads.Post κs a r s → store-reads.Post κs a r′ s′ → (now (s .0) ≡ now (s′ .0)) × (now (s .1 .0) ≡ now (s′ .1 .0))
+store-unique κs a r r′ s s′ p q =
+    let e = p ∙ sym q in
+    (ap (λ (x : Memory). x .reals) e, ap (λ (x : Memory). x .counts) e)
+
+pub clear-total : (κs : Lfts 2) (a : Dens κs clear.ps) → clear-reads.Pre κs a
+clear-total κs a = tt
+
+pub clear-unique : (κs : Lfts 2) (a : Dens κs clear.ps) (r r′ : Unit {0}) (s s′ : AtExit (endedOf 2 clear.ps clear.r) κs)
+    → clear-reads.Post κs a r s → clear-reads.Post κs a r′ s′ → (now (s .0) ≡ now (s′ .0)) × (now (s .1 .0) ≡ now (s′ .1 .0))
+clear-unique κs a r r′ s s′ p q =
+    let e = p ∙ sym q in
+    (ap (λ (x : Memory). x .reals) e, ap (λ (x : Memory). x .counts) e)
+
+pub set-reals-total : (κs : Lfts 2) (a : Dens κs set-reals.ps) → set-reals-reads.Pre κs a
+set-reals-total κs a = tt
+
+pub set-reals-unique : (κs : Lfts 2) (a : Dens κs set-reals.ps) (r r′ : Unit {0}) (s s′ : AtExit (endedOf 2 set-reals.ps set-reals.r) κs)
+    → set-reals-reads.Post κs a r s → set-reals-reads.Post κs a r′ s′ → now (s .0) ≡ now (s′ .0)
+set-reals-unique κs a r r′ s s′ p q = p ∙ sym q
+
+pub set-counts-total : (κs : Lfts 2) (a : Dens κs set-counts.ps) → set-counts-reads.Pre κs a
+set-counts-total κs a = tt
+
+pub set-counts-unique : (κs : Lfts 2) (a : Dens κs set-counts.ps) (r r′ : Unit {0}) (s s′ : AtExit (endedOf 2 set-counts.ps set-counts.r) κs)
+    → set-counts-reads.Post κs a r s → set-counts-reads.Post κs a r′ s′ → now (s .0) ≡ now (s′ .0)
+set-counts-unique κs a r r′ s s′ p q = p ∙ sym q

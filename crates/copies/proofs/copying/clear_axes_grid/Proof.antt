@@ -1,5 +1,6 @@
+use Rattle.lent.specs.Tree.{axesPlace}
 use Rattle.lent.proofs.Places.{placed}
-use mathlib.Core.Path.{sym, subst}
+use mathlib.Core.Path.{_≡_, sym, subst}
 use Rattle.lent.specs.declared.AxesAt.{AxesAt}
 use Rattle.lent.specs.Memory.{memory}
 use Rattle.lent.specs.Drawn.{Stands}
@@ -12,6 +13,10 @@ use Rattle.copies.proofs.copying.clear_axes_grid.Lts as lts
 use Rattle.ground.proofs.accounts.clear.Reads as clear-reads
 use Rattle.copies.proofs.copying.clear_axes.Reads as clear-axes-reads
 use Rattle.ground.proofs.layout.axes_place.Reads as axes-place-reads
+
+-- where the axes stand
+there : (c : tie.After-axes-place) → c .axes-place .result ≡ axesPlace (c .before .before .before .before .args .table .now) (c .before .before .before .before .args .w)
+there c = placed (c .before .before .before .before .args .table .now) (c .before .before .before .before .args .w) (c .axes-place .ensures) (search needs)
 
 -- src/copying.rt:44:9
 axes-place-requires : tie.Need-axes-place-requires
@@ -43,7 +48,7 @@ shared-slice-read-c c = search needs
 
 -- src/copying.rt:47:5
 clear-axes-requires : tie.Need-clear-axes-requires
-clear-axes-requires c κs = subst (λ (g : AxesAt). Stands (c .before .before .before .before .before .before .before .before .args .reals .now) (c .before .before .before .before .before .before .before .before .args .counts .now) g) (sym (placed (c .before .before .before .before .before .before .before .before .args .table .now) (c .before .before .before .before .before .before .before .before .args .w) (c .before .before .before .before .axes-place .ensures) (search needs))) (c .before .before .before .before .before .before .before .before .pre .1)
+clear-axes-requires c κs = subst (λ (g : AxesAt). Stands (c .before .before .before .before .before .before .before .before .args .reals .now) (c .before .before .before .before .before .before .before .before .args .counts .now) g) (sym (there (c .before .before .before .before))) (c .before .before .before .before .before .before .before .before .pre .1)
 
 -- src/copying.rt:48:5
 clear-requires : tie.Need-clear-requires
@@ -59,7 +64,7 @@ same-length-2 c = search needs
 
 -- src/copying.rt:40:1
 returns : tie.Need-returns
-returns c = axes-emptied (c .before .before .before .before .before .before .before .before .before .before .before .before .before .before .before .before .before .before .before .before .args .table .now) (c .before .before .before .before .before .before .before .before .before .before .before .before .before .before .before .before .before .before .before .before .args .w) (c .before .before .before .before .before .before .before .before .before .before .before .before .before .before .before .before .axes-place .result) (memory (c .before .before .before .before .before .before .before .before .before .before .before .before .before .before .before .before .before .before .before .before .args .reals .now) (c .before .before .before .before .before .before .before .before .before .before .before .before .before .before .before .before .before .before .before .before .args .counts .now)) (memory (c .before .before .before .before .before .before .before .before .before .before .before .clear-axes .last .0) (c .before .before .before .before .before .before .before .before .before .before .before .clear-axes .last .1 .0)) (memory (c .before .before .before .before .clear .last .0) (c .before .before .before .before .clear .last .1 .0)) (placed (c .before .before .before .before .before .before .before .before .before .before .before .before .before .before .before .before .before .before .before .before .args .table .now) (c .before .before .before .before .before .before .before .before .before .before .before .before .before .before .before .before .before .before .before .before .args .w) (c .before .before .before .before .before .before .before .before .before .before .before .before .before .before .before .before .axes-place .ensures) (search needs)) (c .before .before .before .before .before .before .before .before .before .before .before .clear-axes .ensures) (c .before .before .before .before .clear .ensures)
+returns c = axes-emptied (c .before .before .before .before .before .before .before .before .before .before .before .before .before .before .before .before .before .before .before .before .args .table .now) (c .before .before .before .before .before .before .before .before .before .before .before .before .before .before .before .before .before .before .before .before .args .w) (c .before .before .before .before .before .before .before .before .before .before .before .before .before .before .before .before .axes-place .result) (memory (c .before .before .before .before .before .before .before .before .before .before .before .before .before .before .before .before .before .before .before .before .args .reals .now) (c .before .before .before .before .before .before .before .before .before .before .before .before .before .before .before .before .before .before .before .before .args .counts .now)) (memory (c .before .before .before .before .before .before .before .before .before .before .before .clear-axes .last .0) (c .before .before .before .before .before .before .before .before .before .before .before .clear-axes .last .1 .0)) (memory (c .before .before .before .before .clear .last .0) (c .before .before .before .before .clear .last .1 .0)) (there (c .before .before .before .before .before .before .before .before .before .before .before .before .before .before .before .before)) (c .before .before .before .before .before .before .before .before .before .before .before .clear-axes .ensures) (c .before .before .before .before .clear .ensures)
 
 pub clear-axes-grid-spec : {M : Type 1} → statement M
 clear-axes-grid-spec =

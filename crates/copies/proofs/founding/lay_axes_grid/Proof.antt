@@ -1,9 +1,10 @@
+use Rattle.lent.specs.Tree.{axesPlace}
 use Rattle.lent.proofs.Places.{placed}
 use native.Mathlib.Omega.{arith}
 use lib.ListN.{length}
 use Rattle.lent.specs.Memory.{memory}
 use Rattle.lent.proofs.Founds.{axes-room, axes-founded}
-use mathlib.Core.Path.{_∙_}
+use mathlib.Core.Path.{_≡_, _∙_}
 use borrow.Author.Needs.{needs}
 use Rattle.copies.proofs.founding.lay_axes_grid.Statement.{statement}
 use Rattle.copies.proofs.founding.lay_axes_grid.Tie as tie
@@ -13,6 +14,10 @@ use Rattle.accumulator.proofs.StatisticsAccumulator.new.Reads as new-reads
 use Rattle.ground.proofs.accounts.store.Reads as store-reads
 use Rattle.copies.proofs.laying.lay_axes.Reads as lay-axes-reads
 use Rattle.ground.proofs.layout.axes_place.Reads as axes-place-reads
+
+-- where the axes stand
+there : (c : tie.After-axes-place) → c .axes-place .result ≡ axesPlace (c .before .before .before .before .args .table .now) (c .before .before .before .before .args .w)
+there c = placed (c .before .before .before .before .args .table .now) (c .before .before .before .before .args .w) (c .axes-place .ensures) (search needs)
 
 -- src/founding.rt:18:9
 axes-place-requires : tie.Need-axes-place-requires
@@ -64,7 +69,7 @@ store-requires c κs = tt
 
 -- src/founding.rt:23:5
 lay-axes-requires : tie.Need-lay-axes-requires
-lay-axes-requires c κs = axes-room (c .before .before .before .before .before .before .before .before .before .before .before .before .before .before .before .before .before .args .table .now) (length (c .before .before .before .before .before .before .before .before .before .before .before .before .before .before .before .before .before .args .reals .now)) (length (c .before .before .before .before .before .before .before .before .before .before .before .before .before .before .before .before .before .args .counts .now)) (length (c .before .before .before .before .before .before .store .last .0)) (length (c .before .before .before .before .before .before .store .last .1 .0)) (c .before .before .before .before .before .before .before .before .before .before .before .before .before .before .before .before .before .args .w) (c .before .before .before .before .before .before .before .before .before .before .before .before .before .axes-place .result) (c .before .before .before .before .before .before .before .before .before .before .before .before .before .before .before .before .before .pre) (c .before .before .before .before .before .before .store .kept .0) (c .before .before .before .before .before .before .store .kept .1 .0) (placed (c .before .before .before .before .before .before .before .before .before .before .before .before .before .before .before .before .before .args .table .now) (c .before .before .before .before .before .before .before .before .before .before .before .before .before .before .before .before .before .args .w) (c .before .before .before .before .before .before .before .before .before .before .before .before .before .axes-place .ensures) (search needs))
+lay-axes-requires c κs = axes-room (c .before .before .before .before .before .before .before .before .before .before .before .before .before .before .before .before .before .args .table .now) (length (c .before .before .before .before .before .before .before .before .before .before .before .before .before .before .before .before .before .args .reals .now)) (length (c .before .before .before .before .before .before .before .before .before .before .before .before .before .before .before .before .before .args .counts .now)) (length (c .before .before .before .before .before .before .store .last .0)) (length (c .before .before .before .before .before .before .store .last .1 .0)) (c .before .before .before .before .before .before .before .before .before .before .before .before .before .before .before .before .before .args .w) (c .before .before .before .before .before .before .before .before .before .before .before .before .before .axes-place .result) (c .before .before .before .before .before .before .before .before .before .before .before .before .before .before .before .before .before .pre) (c .before .before .before .before .before .before .store .kept .0) (c .before .before .before .before .before .before .store .kept .1 .0) (there (c .before .before .before .before .before .before .before .before .before .before .before .before .before))
 
 -- src/founding.rt:14:1
 same-length : tie.Need-same-length
@@ -76,7 +81,7 @@ same-length-2 c = c .before .before .before .before .lay-axes .kept .1 .0 ∙ c 
 
 -- src/founding.rt:14:1
 returns : tie.Need-returns
-returns c = axes-founded (c .before .before .before .before .before .before .before .before .before .before .before .before .before .before .before .before .before .before .before .before .before .before .args .table .now) (c .before .before .before .before .before .before .before .before .before .before .before .before .before .before .before .before .before .before .before .before .before .before .args .w) (c .before .before .before .before .before .before .before .before .before .before .before .before .before .before .before .before .before .before .axes-place .result) (c .before .before .before .before .before .before .before .before .before .before .before .before .new .result) (memory (c .before .before .before .before .before .before .before .before .before .before .before .before .before .before .before .before .before .before .before .before .before .before .args .reals .now) (c .before .before .before .before .before .before .before .before .before .before .before .before .before .before .before .before .before .before .before .before .before .before .args .counts .now)) (memory (c .before .before .before .before .before .before .before .before .before .before .before .store .last .0) (c .before .before .before .before .before .before .before .before .before .before .before .store .last .1 .0)) (memory (c .before .before .before .before .lay-axes .last .0) (c .before .before .before .before .lay-axes .last .1 .0)) (placed (c .before .before .before .before .before .before .before .before .before .before .before .before .before .before .before .before .before .before .before .before .before .before .args .table .now) (c .before .before .before .before .before .before .before .before .before .before .before .before .before .before .before .before .before .before .before .before .before .before .args .w) (c .before .before .before .before .before .before .before .before .before .before .before .before .before .before .before .before .before .before .axes-place .ensures) (search needs)) (c .before .before .before .before .before .before .before .before .before .before .before .before .new .ensures) (c .before .before .before .before .before .before .before .before .before .before .before .store .ensures) (c .before .before .before .before .lay-axes .ensures)
+returns c = axes-founded (c .before .before .before .before .before .before .before .before .before .before .before .before .before .before .before .before .before .before .before .before .before .before .args .table .now) (c .before .before .before .before .before .before .before .before .before .before .before .before .before .before .before .before .before .before .before .before .before .before .args .w) (c .before .before .before .before .before .before .before .before .before .before .before .before .before .before .before .before .before .before .axes-place .result) (c .before .before .before .before .before .before .before .before .before .before .before .before .new .result) (memory (c .before .before .before .before .before .before .before .before .before .before .before .before .before .before .before .before .before .before .before .before .before .before .args .reals .now) (c .before .before .before .before .before .before .before .before .before .before .before .before .before .before .before .before .before .before .before .before .before .before .args .counts .now)) (memory (c .before .before .before .before .before .before .before .before .before .before .before .store .last .0) (c .before .before .before .before .before .before .before .before .before .before .before .store .last .1 .0)) (memory (c .before .before .before .before .lay-axes .last .0) (c .before .before .before .before .lay-axes .last .1 .0)) (there (c .before .before .before .before .before .before .before .before .before .before .before .before .before .before .before .before .before .before)) (c .before .before .before .before .before .before .before .before .before .before .before .before .new .ensures) (c .before .before .before .before .before .before .before .before .before .before .before .store .ensures) (c .before .before .before .before .lay-axes .ensures)
 
 pub lay-axes-grid-spec : {M : Type 1} → statement M
 lay-axes-grid-spec =

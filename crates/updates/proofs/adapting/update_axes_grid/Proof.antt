@@ -1,3 +1,4 @@
+use Rattle.lent.specs.Tree.{axesPlace}
 use Rattle.lent.proofs.Places.{placed}
 use mathlib.Core.Path.{_≡_, sym, _∙_}
 use Prim.Native.Nat.{_+_}
@@ -18,6 +19,10 @@ use Rattle.updates.proofs.adapting.update_account.Reads as update-accou
 use Rattle.ground.proofs.judging.axes_fit.Reads as axes-fit-reads
 use Rattle.ground.proofs.layout.axes_place.Reads as axes-place-reads
 use Rattle.updates.proofs.renewal.update_axes.Reads as update-axes-reads
+
+-- where the axes stand
+there : (c : tie.After-axes-place) → c .axes-place .result ≡ axesPlace (c .before .before .before .before .args .table .now) (c .before .before .before .before .args .w)
+there c = placed (c .before .before .before .before .args .table .now) (c .before .before .before .before .args .w) (c .axes-place .ensures) (search needs)
 
 -- src/adapting.rt:75:9
 axes-place-requires : tie.Need-axes-place-requires
@@ -85,7 +90,7 @@ same-length-2 c = search needs
 
 -- src/adapting.rt:79:9
 returns : tie.Need-returns
-returns c = axes-unfit (c .before .before .before .before .before .before .before .before .before .before .before .args .table .now) (c .before .before .before .before .before .before .before .before .before .before .before .args .rate) (c .before .before .before .before .before .before .before .before .before .before .before .args .w) (memory (c .before .before .before .before .before .before .before .before .before .before .before .args .reals .now) (c .before .before .before .before .before .before .before .before .before .before .before .args .counts .now)) (c .before .before .before .before .before .before .before .before .before .before .before .pre) (c .before .before .before .before .before .before .before .axes-place .result) (placed (c .before .before .before .before .before .before .before .before .before .before .before .args .table .now) (c .before .before .before .before .before .before .before .before .before .before .before .args .w) (c .before .before .before .before .before .before .before .axes-place .ensures) (search needs)) _ (part (c .before .before .before .before .before .before .before .before .before .before .before .args .w + 11) (getD (c .before .before .before .before .before .before .before .before .before .before .before .args .table .now) (c .before .before .before .before .before .before .before .before .before .before .before .args .w + 8) 0) (c .before .before .before .before .before .before .before .before .before .before .before .args .table .now) ∙ words-stretch (c .before .before .before .before .before .before .before .before .before .before .before .args .table .now) (c .before .before .before .before .before .before .before .before .before .before .before .args .w + 11) (getD (c .before .before .before .before .before .before .before .before .before .before .before .args .table .now) (c .before .before .before .before .before .before .before .before .before .before .before .args .w + 8) 0) (omega (arith, c .before .before .before .before .before .before .before .before .before .before .before .pre .head))) (c .before .axes-fit .result) (c .before .axes-fit .ensures) (c .if1 .taken)
+returns c = axes-unfit (c .before .before .before .before .before .before .before .before .before .before .before .args .table .now) (c .before .before .before .before .before .before .before .before .before .before .before .args .rate) (c .before .before .before .before .before .before .before .before .before .before .before .args .w) (memory (c .before .before .before .before .before .before .before .before .before .before .before .args .reals .now) (c .before .before .before .before .before .before .before .before .before .before .before .args .counts .now)) (c .before .before .before .before .before .before .before .before .before .before .before .pre) (c .before .before .before .before .before .before .before .axes-place .result) (there (c .before .before .before .before .before .before .before)) _ (part (c .before .before .before .before .before .before .before .before .before .before .before .args .w + 11) (getD (c .before .before .before .before .before .before .before .before .before .before .before .args .table .now) (c .before .before .before .before .before .before .before .before .before .before .before .args .w + 8) 0) (c .before .before .before .before .before .before .before .before .before .before .before .args .table .now) ∙ words-stretch (c .before .before .before .before .before .before .before .before .before .before .before .args .table .now) (c .before .before .before .before .before .before .before .before .before .before .before .args .w + 11) (getD (c .before .before .before .before .before .before .before .before .before .before .before .args .table .now) (c .before .before .before .before .before .before .before .before .before .before .before .args .w + 8) 0) (omega (arith, c .before .before .before .before .before .before .before .before .before .before .before .pre .head))) (c .before .axes-fit .result) (c .before .axes-fit .ensures) (c .if1 .taken)
 
 -- src/adapting.rt:84:55
 rule-at-requires : tie.Need-rule-at-requires
@@ -109,7 +114,7 @@ part-update-axes-end c = search needs
 
 -- src/adapting.rt:84:9
 update-axes-requires : tie.Need-update-axes-requires
-update-axes-requires c κs = axes-ready (c .before .before .before .before .before .before .before .before .before .before .before .before .before .before .before .args .table .now) (c .before .before .before .before .before .before .before .before .before .before .before .before .before .before .before .args .rate) (c .before .before .before .before .before .before .before .before .before .before .before .before .before .before .before .args .w) (memory (c .before .before .before .before .before .before .before .before .before .before .before .before .before .before .before .args .reals .now) (c .before .before .before .before .before .before .before .before .before .before .before .before .before .before .before .args .counts .now)) (c .before .before .before .before .before .before .before .before .before .before .before .before .before .before .before .pre) (c .before .before .before .before .before .before .before .before .before .before .before .axes-place .result) (placed (c .before .before .before .before .before .before .before .before .before .before .before .before .before .before .before .args .table .now) (c .before .before .before .before .before .before .before .before .before .before .before .before .before .before .before .args .w) (c .before .before .before .before .before .before .before .before .before .before .before .axes-place .ensures) (search needs)) _ (part (c .before .before .before .before .before .before .before .before .before .before .before .before .before .before .before .args .w + 11) (getD (c .before .before .before .before .before .before .before .before .before .before .before .before .before .before .before .args .table .now) (c .before .before .before .before .before .before .before .before .before .before .before .before .before .before .before .args .w + 8) 0) (c .before .before .before .before .before .before .before .before .before .before .before .before .before .before .before .args .table .now) ∙ words-stretch (c .before .before .before .before .before .before .before .before .before .before .before .before .before .before .before .args .table .now) (c .before .before .before .before .before .before .before .before .before .before .before .before .before .before .before .args .w + 11) (getD (c .before .before .before .before .before .before .before .before .before .before .before .before .before .before .before .args .table .now) (c .before .before .before .before .before .before .before .before .before .before .before .before .before .before .before .args .w + 8) 0) (omega (arith, c .before .before .before .before .before .before .before .before .before .before .before .before .before .before .before .pre .head))) (c .before .before .before .before .before .axes-fit .result) (c .before .before .before .before .before .axes-fit .ensures) (c .before .rule-at .result) (c .before .before .before .before .if1 .left) (c .before .rule-at .ensures)
+update-axes-requires c κs = axes-ready (c .before .before .before .before .before .before .before .before .before .before .before .before .before .before .before .args .table .now) (c .before .before .before .before .before .before .before .before .before .before .before .before .before .before .before .args .rate) (c .before .before .before .before .before .before .before .before .before .before .before .before .before .before .before .args .w) (memory (c .before .before .before .before .before .before .before .before .before .before .before .before .before .before .before .args .reals .now) (c .before .before .before .before .before .before .before .before .before .before .before .before .before .before .before .args .counts .now)) (c .before .before .before .before .before .before .before .before .before .before .before .before .before .before .before .pre) (c .before .before .before .before .before .before .before .before .before .before .before .axes-place .result) (there (c .before .before .before .before .before .before .before .before .before .before .before)) _ (part (c .before .before .before .before .before .before .before .before .before .before .before .before .before .before .before .args .w + 11) (getD (c .before .before .before .before .before .before .before .before .before .before .before .before .before .before .before .args .table .now) (c .before .before .before .before .before .before .before .before .before .before .before .before .before .before .before .args .w + 8) 0) (c .before .before .before .before .before .before .before .before .before .before .before .before .before .before .before .args .table .now) ∙ words-stretch (c .before .before .before .before .before .before .before .before .before .before .before .before .before .before .before .args .table .now) (c .before .before .before .before .before .before .before .before .before .before .before .before .before .before .before .args .w + 11) (getD (c .before .before .before .before .before .before .before .before .before .before .before .before .before .before .before .args .table .now) (c .before .before .before .before .before .before .before .before .before .before .before .before .before .before .before .args .w + 8) 0) (omega (arith, c .before .before .before .before .before .before .before .before .before .before .before .before .before .before .before .pre .head))) (c .before .before .before .before .before .axes-fit .result) (c .before .before .before .before .before .axes-fit .ensures) (c .before .rule-at .result) (c .before .before .before .before .if1 .left) (c .before .rule-at .ensures)
 
 -- src/adapting.rt:85:51
 add-update-account : tie.Need-add-update-account
@@ -153,7 +158,7 @@ same-length-4 c = search needs
 
 -- src/adapting.rt:65:1
 returns-2 : tie.Need-returns-2
-returns-2 c = axes-updated (c .before .before .before .before .before .before .before .before .before .before .before .before .before .before .before .before .before .before .before .before .before .before .before .before .before .before .before .before .before .before .args .table .now) (c .before .before .before .before .before .before .before .before .before .before .before .before .before .before .before .before .before .before .before .before .before .before .before .before .before .before .before .before .before .before .args .rate) (c .before .before .before .before .before .before .before .before .before .before .before .before .before .before .before .before .before .before .before .before .before .before .before .before .before .before .before .before .before .before .args .w) (memory (c .before .before .before .before .before .before .before .before .before .before .before .before .before .before .before .before .before .before .before .before .before .before .before .before .before .before .before .before .before .before .args .reals .now) (c .before .before .before .before .before .before .before .before .before .before .before .before .before .before .before .before .before .before .before .before .before .before .before .before .before .before .before .before .before .before .args .counts .now)) (c .before .before .before .before .before .before .before .before .before .before .before .before .before .before .before .before .before .before .before .before .before .before .before .before .before .before .before .before .before .before .pre) (c .before .before .before .before .before .before .before .before .before .before .before .before .before .before .before .before .before .before .before .before .before .before .before .before .before .before .axes-place .result) (placed (c .before .before .before .before .before .before .before .before .before .before .before .before .before .before .before .before .before .before .before .before .before .before .before .before .before .before .before .before .before .before .args .table .now) (c .before .before .before .before .before .before .before .before .before .before .before .before .before .before .before .before .before .before .before .before .before .before .before .before .before .before .before .before .before .before .args .w) (c .before .before .before .before .before .before .before .before .before .before .before .before .before .before .before .before .before .before .before .before .before .before .before .before .before .before .axes-place .ensures) (search needs)) _ (part (c .before .before .before .before .before .before .before .before .before .before .before .before .before .before .before .before .before .before .before .before .before .before .before .before .before .before .before .before .before .before .args .w + 11) (getD (c .before .before .before .before .before .before .before .before .before .before .before .before .before .before .before .before .before .before .before .before .before .before .before .before .before .before .before .before .before .before .args .table .now) (c .before .before .before .before .before .before .before .before .before .before .before .before .before .before .before .before .before .before .before .before .before .before .before .before .before .before .before .before .before .before .args .w + 8) 0) (c .before .before .before .before .before .before .before .before .before .before .before .before .before .before .before .before .before .before .before .before .before .before .before .before .before .before .before .before .before .before .args .table .now) ∙ words-stretch (c .before .before .before .before .before .before .before .before .before .before .before .before .before .before .before .before .before .before .before .before .before .before .before .before .before .before .before .before .before .before .args .table .now) (c .before .before .before .before .before .before .before .before .before .before .before .before .before .before .before .before .before .before .before .before .before .before .before .before .before .before .before .before .before .before .args .w + 11) (getD (c .before .before .before .before .before .before .before .before .before .before .before .before .before .before .before .before .before .before .before .before .before .before .before .before .before .before .before .before .before .before .args .table .now) (c .before .before .before .before .before .before .before .before .before .before .before .before .before .before .before .before .before .before .before .before .before .before .before .before .before .before .before .before .before .before .args .w + 8) 0) (omega (arith, c .before .before .before .before .before .before .before .before .before .before .before .before .before .before .before .before .before .before .before .before .before .before .before .before .before .before .before .before .before .before .pre .head))) (c .before .before .before .before .before .before .before .before .before .before .before .before .before .before .before .before .before .before .before .before .axes-fit .result) (c .before .before .before .before .before .before .before .before .before .before .before .before .before .before .before .before .before .before .before .before .axes-fit .ensures) (c .before .before .before .before .before .before .before .before .before .before .before .before .before .before .before .before .rule-at .result) (c .before .before .before .before .before .before .before .before .before .before .before .before .before .before .update-axes .result) (c .before .before .before .before .before .update-account .result) (c .either .result) (memory (c .before .before .before .before .before .before .before .before .before .before .before .before .before .before .update-axes .last .0) (c .before .before .before .before .before .before .before .before .before .before .before .before .before .before .update-axes .last .1 .0)) (memory (c .before .before .before .before .before .update-account .last .0) (c .before .before .before .before .before .update-account .last .1 .0)) (c .before .before .before .before .before .before .before .before .before .before .before .before .before .before .before .before .before .before .before .if1 .left) (c .before .before .before .before .before .before .before .before .before .before .before .before .before .before .before .before .rule-at .ensures) (c .before .before .before .before .before .before .before .before .before .before .before .before .before .before .update-axes .ensures) (c .before .before .before .before .before .update-account .ensures) (c .either .ensures)
+returns-2 c = axes-updated (c .before .before .before .before .before .before .before .before .before .before .before .before .before .before .before .before .before .before .before .before .before .before .before .before .before .before .before .before .before .before .args .table .now) (c .before .before .before .before .before .before .before .before .before .before .before .before .before .before .before .before .before .before .before .before .before .before .before .before .before .before .before .before .before .before .args .rate) (c .before .before .before .before .before .before .before .before .before .before .before .before .before .before .before .before .before .before .before .before .before .before .before .before .before .before .before .before .before .before .args .w) (memory (c .before .before .before .before .before .before .before .before .before .before .before .before .before .before .before .before .before .before .before .before .before .before .before .before .before .before .before .before .before .before .args .reals .now) (c .before .before .before .before .before .before .before .before .before .before .before .before .before .before .before .before .before .before .before .before .before .before .before .before .before .before .before .before .before .before .args .counts .now)) (c .before .before .before .before .before .before .before .before .before .before .before .before .before .before .before .before .before .before .before .before .before .before .before .before .before .before .before .before .before .before .pre) (c .before .before .before .before .before .before .before .before .before .before .before .before .before .before .before .before .before .before .before .before .before .before .before .before .before .before .axes-place .result) (there (c .before .before .before .before .before .before .before .before .before .before .before .before .before .before .before .before .before .before .before .before .before .before .before .before .before .before)) _ (part (c .before .before .before .before .before .before .before .before .before .before .before .before .before .before .before .before .before .before .before .before .before .before .before .before .before .before .before .before .before .before .args .w + 11) (getD (c .before .before .before .before .before .before .before .before .before .before .before .before .before .before .before .before .before .before .before .before .before .before .before .before .before .before .before .before .before .before .args .table .now) (c .before .before .before .before .before .before .before .before .before .before .before .before .before .before .before .before .before .before .before .before .before .before .before .before .before .before .before .before .before .before .args .w + 8) 0) (c .before .before .before .before .before .before .before .before .before .before .before .before .before .before .before .before .before .before .before .before .before .before .before .before .before .before .before .before .before .before .args .table .now) ∙ words-stretch (c .before .before .before .before .before .before .before .before .before .before .before .before .before .before .before .before .before .before .before .before .before .before .before .before .before .before .before .before .before .before .args .table .now) (c .before .before .before .before .before .before .before .before .before .before .before .before .before .before .before .before .before .before .before .before .before .before .before .before .before .before .before .before .before .before .args .w + 11) (getD (c .before .before .before .before .before .before .before .before .before .before .before .before .before .before .before .before .before .before .before .before .before .before .before .before .before .before .before .before .before .before .args .table .now) (c .before .before .before .before .before .before .before .before .before .before .before .before .before .before .before .before .before .before .before .before .before .before .before .before .before .before .before .before .before .before .args .w + 8) 0) (omega (arith, c .before .before .before .before .before .before .before .before .before .before .before .before .before .before .before .before .before .before .before .before .before .before .before .before .before .before .before .before .before .before .pre .head))) (c .before .before .before .before .before .before .before .before .before .before .before .before .before .before .before .before .before .before .before .before .axes-fit .result) (c .before .before .before .before .before .before .before .before .before .before .before .before .before .before .before .before .before .before .before .before .axes-fit .ensures) (c .before .before .before .before .before .before .before .before .before .before .before .before .before .before .before .before .rule-at .result) (c .before .before .before .before .before .before .before .before .before .before .before .before .before .before .update-axes .result) (c .before .before .before .before .before .update-account .result) (c .either .result) (memory (c .before .before .before .before .before .before .before .before .before .before .before .before .before .before .update-axes .last .0) (c .before .before .before .before .before .before .before .before .before .before .before .before .before .before .update-axes .last .1 .0)) (memory (c .before .before .before .before .before .update-account .last .0) (c .before .before .before .before .before .update-account .last .1 .0)) (c .before .before .before .before .before .before .before .before .before .before .before .before .before .before .before .before .before .before .before .if1 .left) (c .before .before .before .before .before .before .before .before .before .before .before .before .before .before .before .before .rule-at .ensures) (c .before .before .before .before .before .before .before .before .before .before .before .before .before .before .update-axes .ensures) (c .before .before .before .before .before .update-account .ensures) (c .either .ensures)
 
 pub update-axes-grid-spec : {M : Type 1} → statement M
 update-axes-grid-spec =
