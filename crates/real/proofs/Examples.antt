@@ -7,14 +7,13 @@ use lib.Dec.{eqb}
 use lib.Count.{trailingZeros}
 use lib.Ieee.{Float, binary64, ofBits, toBits, odd, size, span, climb, units, round, sum, add, sub, mul, div, neg, lt, le, eq, ofInt, ofFields, toUnsigned}
 use Rattle.real.specs.Norm.{normOf}
-use Rattle.real.specs.Whole.{wholeOf}
-use Rattle.real.specs.Count.{countOf}
-use Rattle.real.specs.Root.{rootOf, isqrt, squares}
-use Rattle.real.specs.Ln.{lnOf, unitsOf, exponentOf, mantissaOf, tailOf, logOf}
+use Rattle.doubles.specs.Whole.{wholeOf}
+use Rattle.doubles.specs.Count.{countOf}
+use Rattle.real.specs.Ln.{lnOf, unitsOf, exponentOf, mantissaOf, tailOf, logOf, turnedOf}
 use Rattle.real.specs.Power.{powerOf, kOf, scaledOf, inDomain, expOf, floorOf, ceilOf}
 
 data Row : Type 0 where
-  norm whole count root log : ℕ → ℕ → Row
+  norm whole count log : ℕ → ℕ → Row
   power : ℕ → ℕ → ℕ → Row
 
 unfoldable same : Float → ℕ → Bool
@@ -25,7 +24,6 @@ unfolding same
 holds (norm x r) = same (normOf (ofBits binary64 x)) r
 holds (whole x r) = eqb (wholeOf (ofBits binary64 x)) r
 holds (count n r) = same (countOf n) r
-holds (root x r) = same (rootOf (ofBits binary64 x)) r
 holds (log x r) = same (lnOf (ofBits binary64 x)) r
 holds (power y a r) = same (powerOf (ofBits binary64 y) (ofBits binary64 a)) r
 
@@ -41,17 +39,6 @@ table =
     ∷ whole 0x43f0000000000000 0xffffffffffffffff
     ∷ count 0xffffffffffffffff 0x43f0000000000000
     ∷ count 9007199254740993 0x4340000000000000
-    ∷ root 0x4000000000000000 0x3ff6a09e667f3bcd
-    ∷ root 0x3ff0000000000000 0x3ff0000000000000
-    ∷ root 0x1 0x1e60000000000000
-    ∷ root 0x7fefffffffffffff 0x5fefffffffffffff
-    ∷ root 0x3739a252b281 0x1fcdb9b6d15869b2
-    -- these roots lie just below the middle of two doubles
-    ∷ root 0x3ff0000000000001 0x3ff0000000000000
-    ∷ root 0x3fefffffffffffff 0x3fefffffffffffff
-    ∷ root 0x8000000000000000 0x8000000000000000
-    ∷ root 0xbff0000000000000 0x7ff8000000000000
-    ∷ root 0x7ff0000000000000 0x7ff0000000000000
     ∷ log 0x4000000000000000 0x3fe62e42fefa39ef
     ∷ log 0x3ff0000000000000 0x0
     ∷ log 0x1 0xc0874385446d71c3
@@ -65,5 +52,5 @@ table =
     ∷ []
 
 examples : all table ≡ true
-unfolding holds all table trailingZeros ofBits toBits odd size span climb units round sum add sub mul div neg lt le eq ofInt ofFields toUnsigned normOf wholeOf countOf rootOf isqrt squares lnOf unitsOf exponentOf mantissaOf tailOf logOf powerOf kOf scaledOf inDomain expOf floorOf ceilOf
+unfolding holds all table trailingZeros ofBits toBits odd size span climb units round sum add sub mul div neg lt le eq ofInt ofFields toUnsigned normOf wholeOf countOf lnOf unitsOf exponentOf mantissaOf tailOf logOf turnedOf powerOf kOf scaledOf inDomain expOf floorOf ceilOf
 examples = refl

@@ -9,14 +9,14 @@ use lib.Dec.{T, lit<, lit≤, ltb→lt}
 use lib.Ieee.{Float, nan, inf, fin, up, down, ofBits, lt, le, toUnsigned}
 use lib.Ieee.Fits.{up-pos, down-pos}
 use lib.Ieee.Positive.{positive, first-pos}
-use Rattle.real.specs.Numbers.{zero64}
-use Rattle.real.specs.Whole.{wholeOf}
-use Rattle.real.specs.Count.{countOf}
+use Rattle.doubles.specs.Numbers.{zero64}
+use Rattle.doubles.specs.Whole.{wholeOf}
+use Rattle.doubles.specs.Count.{countOf}
 use Rattle.real.specs.Power.{ceilOf, floorOf}
-use Rattle.real.specs.Bound.{Within}
-use Rattle.real.proofs.Order.{le-under}
-use Rattle.real.proofs.Fractions.{lt-values, values-lt}
-use Rattle.real.proofs.Wholes.{count-value, whole-is}
+use Rattle.doubles.specs.Bound.{Within}
+use Rattle.doubles.proofs.Order.{le-under}
+use Rattle.doubles.proofs.Fractions.{lt-values, values-lt}
+use Rattle.doubles.proofs.Wholes.{count-value, whole-is}
 
 below-1000 : (a d : ℕ) → 0 < d → a ≤ 999 * d → a / d < 1000
 below-1000 a d D h = div-lt-iff-lt-mul D .1 (lt-of-le-of-lt h (mul-lt-mul-of-pos-right (lit< tt) D))

@@ -11,10 +11,10 @@ use lib.Ieee.{Float, nan, inf, fin, binary64, down, size, minus, round, fits, of
 use lib.Ieee.Fits.{down-pos, round-fits}
 use lib.Ieee.Exact.{HasValue, round-exact}
 use lib.Ieee.Positive.{positive, num, den, den-pos, value→cross}
-use Rattle.real.specs.Digits.{Split}
+use Rattle.doubles.specs.Split.{Split}
 use Rattle.real.specs.Ln.{unitsOf, exponentOf, mantissaOf}
-use Rattle.real.proofs.Exact.{held, rescale}
-use Rattle.real.proofs.Bits.{bits-of, size-at}
+use Rattle.doubles.proofs.Exact.{held, rescale}
+use Rattle.doubles.proofs.Bits.{bits-of, size-at}
 
 -- a double is a whole number of units
 units-exact : (x : Float) → T (fits binary64 x) → T (positive x) → num x * 2 ^ 1074 ≡ unitsOf x * den x

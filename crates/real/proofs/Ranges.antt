@@ -15,18 +15,18 @@ use lib.Ieee.Bits.{ofBits-fits}
 use lib.Ieee.Digits.{size-lt, size-le}
 use lib.Ieee.Positive.{positive, num, den, den-pos, first-pos}
 use borrow.Author.Tests.{lt-ltb}
-use Rattle.real.specs.Numbers.{zero64, half64, one64, two64}
-use Rattle.real.specs.Bound.{Within}
-use Rattle.real.specs.Count.{countOf}
-use Rattle.real.specs.Ln.{ln2, turn, tailOf, logOf, lnOf, mantissaOf, exponentOf, unitsOf}
+use Rattle.doubles.specs.Numbers.{zero64, half64, one64, two64}
+use Rattle.doubles.specs.Bound.{Within}
+use Rattle.doubles.specs.Count.{countOf}
+use Rattle.real.specs.Ln.{ln2, turn, tailOf, logOf, turnedOf, lnOf, mantissaOf, exponentOf, unitsOf}
 use Rattle.real.specs.Power.{inDomain}
-use Rattle.real.proofs.Truth.{is, both}
-use Rattle.real.proofs.Order.{le-under}
-use Rattle.real.proofs.Bits.{split-of}
-use Rattle.real.proofs.Signs.{suc-minus, minus-pos, minus-neg}
-use Rattle.real.proofs.Rounding.{round-finite}
+use Rattle.doubles.proofs.Truth.{is, both}
+use Rattle.doubles.proofs.Order.{le-under}
+use Rattle.doubles.proofs.Bits.{split-of}
+use Rattle.doubles.proofs.Signs.{suc-minus, minus-pos, minus-neg}
+use Rattle.doubles.proofs.Rounding.{round-finite}
 use Rattle.real.proofs.Mantissa.{digits}
-use Rattle.real.proofs.Bounds.{Above, value-within, within-round, within-mul, within-add, within-sub, within-div, weaken, above-round, above-count}
+use Rattle.doubles.proofs.Bounds.{Above, value-within, within-round, within-mul, within-add, within-sub, within-div, weaken, above-round, above-count}
 
 -- ---- the constants
 one-within : Within one64 1
@@ -147,7 +147,7 @@ exponent-high y N w = subst (λ (z : ℤ). Within (ofInt binary64 z) N) (sym (su
 
 -- a bound N on the exponent gives one on the logarithm
 ln-bounded : (y : Float) (N : ℕ) → N ≤ 4000 → positive y ≡ true → 1075 ≤ size (unitsOf y) + N → suc (size (unitsOf y)) ≤ 1075 + N → Within (lnOf y) (N * 1 + 22)
-unfolding lnOf
+unfolding lnOf turnedOf
 ln-bounded y N s p a b =
     go (positive y) p (lt turn (mantissaOf y))
     (exponent-low y N (int-within (size (unitsOf y)) N s a (le-trans (le-suc (size (unitsOf y))) b)))

@@ -6,7 +6,6 @@ use contract.Lifetimes.{Lfts}
 use borrow.Fn.Kinds.{Dens, endedOf}
 use denote.Triple.Clauses.{AtExit}
 use lib.Ieee.{Float}
-use Rattle.real.specs.declared.RootPair.{RootPair}
 use Rattle.real.proofs.finite.Kinds as finite
 use Rattle.real.proofs.finite.Reads as finite-reads
 use Rattle.real.proofs.norm.Kinds as norm
@@ -17,10 +16,6 @@ use Rattle.real.proofs.whole.Kinds as whole
 use Rattle.real.proofs.whole.Reads as whole-reads
 use Rattle.real.proofs.count.Kinds as count
 use Rattle.real.proofs.count.Reads as count-reads
-use Rattle.real.proofs.sqrt.Kinds as sqrt
-use Rattle.real.proofs.sqrt.Reads as sqrt-reads
-use Rattle.real.proofs.sqrts.Kinds as sqrts
-use Rattle.real.proofs.sqrts.Reads as sqrts-reads
 use Rattle.real.proofs.ln.Kinds as ln
 use Rattle.real.proofs.ln.Reads as ln-reads
 use Rattle.real.proofs.power.Kinds as power
@@ -55,18 +50,6 @@ count-total κs a = tt
 
 pub count-unique : (κs : Lfts 0) (a : Dens κs count.ps) (r r′ : Float) (s s′ : AtExit (endedOf 0 count.ps count.r) κs) → count-reads.Post κs a r s → count-reads.Post κs a r′ s′ → r ≡ r′
 count-unique κs a r r′ s s′ p q = p ∙ sym q
-
-pub sqrt-total : (κs : Lfts 0) (a : Dens κs sqrt.ps) → sqrt-reads.Pre κs a
-sqrt-total κs a = tt
-
-pub sqrt-unique : (κs : Lfts 0) (a : Dens κs sqrt.ps) (r r′ : Float) (s s′ : AtExit (endedOf 0 sqrt.ps sqrt.r) κs) → sqrt-reads.Post κs a r s → sqrt-reads.Post κs a r′ s′ → r ≡ r′
-sqrt-unique κs a r r′ s s′ p q = p ∙ sym q
-
-pub sqrts-total : (κs : Lfts 0) (a : Dens κs sqrts.ps) → sqrts-reads.Pre κs a
-sqrts-total κs a = tt
-
-pub sqrts-unique : (κs : Lfts 0) (a : Dens κs sqrts.ps) (r r′ : RootPair) (s s′ : AtExit (endedOf 0 sqrts.ps sqrts.r) κs) → sqrts-reads.Post κs a r s → sqrts-reads.Post κs a r′ s′ → r ≡ r′
-sqrts-unique κs a r r′ s s′ p q = p ∙ sym q
 
 pub ln-total : (κs : Lfts 0) (a : Dens κs ln.ps) → ln-reads.Pre κs a
 ln-total κs a = tt

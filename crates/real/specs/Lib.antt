@@ -1,13 +1,3 @@
-pub mod Numbers
-pub mod Finite
 pub mod Norm
-pub mod Inverse
-pub mod Whole
-pub mod Count
-pub mod Digits
-pub mod Root
 pub mod Ln
 pub mod Power
-pub mod Bound
-pub mod Paper
-pub mod Total

@@ -4,8 +4,8 @@ use mathlib.Core.Bool.{false, cond}
 use lib.IntN.{ℤ, sucℤ}
 use lib.Ieee.{Float, nan, binary64, minus, size, round, add, sub, mul, div, lt, ofInt, ofBits}
 use lib.Ieee.Positive.{num, den, positive}
-use Rattle.real.specs.Numbers.{half64, one64, two64}
-use Rattle.real.specs.Count.{countOf}
+use Rattle.doubles.specs.Numbers.{half64, one64, two64}
+use Rattle.doubles.specs.Count.{countOf}
 
 -- LN2 has bits 3fe62e42fefa39ef
 abbrev pub ln2 : Float
@@ -37,11 +37,10 @@ logOf m e =
     let s = div binary64 (sub binary64 m one64) (add binary64 m one64) in
     add binary64 (mul binary64 e ln2) (mul binary64 (mul binary64 two64 s) (tailOf (mul binary64 s s) 10))
 
--- If m > 1.4140625, m is halved and 1 added to e. The logarithm of anything not finite and above 0 is NaN.
+-- If m > 1.4140625, m is halved and 1 added to e.
+unfoldable pub turnedOf : Float → ℤ → Float
+turnedOf m e = cond (lt turn m) (logOf (mul binary64 m half64) (ofInt binary64 (sucℤ e))) (logOf m (ofInt binary64 e))
+
+-- The logarithm of anything not finite and above 0 is NaN.
 unfoldable pub lnOf : Float → Float
-lnOf x =
-    let m = mantissaOf x in
-    let e = exponentOf x in
-    cond (positive x)
-    (cond (lt turn m) (logOf (mul binary64 m half64) (ofInt binary64 (sucℤ e))) (logOf m (ofInt binary64 e)))
-    nan
+lnOf x = cond (positive x) (turnedOf (mantissaOf x) (exponentOf x)) nan

@@ -3,8 +3,8 @@ use Prim.Native.Nat.{ℕ, zero, suc, _+_, _-_, _*_, _/_}
 use mathlib.Core.Bool.{Bool, true, false, cond, _&&_}
 use lib.IntN.{ℤ, pos, negℤ}
 use lib.Ieee.{Float, nan, inf, fin, binary64, up, down, add, sub, mul, div, le, ofInt, ofBits}
-use Rattle.real.specs.Numbers.{zero64, half64, one64, two64}
-use Rattle.real.specs.Count.{countOf}
+use Rattle.doubles.specs.Numbers.{zero64, half64, one64, two64}
+use Rattle.doubles.specs.Count.{countOf}
 use Rattle.real.specs.Ln.{ln2, lnOf}
 
 -- the least whole number not below the size of v

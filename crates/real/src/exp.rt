@@ -7,7 +7,7 @@ ghost use lib.Ieee.{fin, binary64, add, mul, minus};
 ghost use lib.Ieee.Positive.{positive};
 ghost use Rattle.real.specs.Ln.{ln2};
 ghost use Rattle.real.specs.Power.{ceilOf, expOf, inDomain};
-ghost use Rattle.real.specs.Bound.{Within};
+ghost use Rattle.doubles.specs.Bound.{Within};
 
 // Whether y is in [2^-10, 2] and a in [0, 10].
 pub fn in_domain(y: f64, a: f64) -> bool

@@ -1,20 +1,19 @@
 // Doubles: the kernels that every crate above leans on. Each answers every input, and its promise, one
-// equation with a definition of specs/, says which double it answers.
-mod digits;
+// equation with a definition, says which double it answers. The roots are the crate `root`'s.
 mod exp;
 mod log;
-mod root;
 
 ghost use mathlib.Core.Path.{_≡_};
-ghost use Rattle.real.specs.Finite.{finiteOf};
+ghost use Rattle.doubles.specs.Finite.{finiteOf};
 ghost use Rattle.real.specs.Norm.{normOf};
-ghost use Rattle.real.specs.Inverse.{invOf};
-ghost use Rattle.real.specs.Whole.{wholeOf};
-ghost use Rattle.real.specs.Count.{countOf};
-ghost use Rattle.real.specs.Root.{rootOf, rootsOf};
+ghost use Rattle.doubles.specs.Inverse.{invOf};
+ghost use Rattle.doubles.specs.Whole.{wholeOf};
+ghost use Rattle.doubles.specs.Count.{countOf};
 ghost use Rattle.real.specs.Ln.{lnOf};
 ghost use Rattle.real.specs.Power.{powerOf};
-ghost use lib.Ieee.Positive.{positive};
+pub use root::RootPair;
+pub use root::sqrt;
+pub use root::sqrts;
 
 // Whether x is neither a NaN nor an infinity.
 pub fn finite(x: f64) -> bool
@@ -62,62 +61,15 @@ pub fn count(n: u64) -> f64
     std::num::nearest_u64_to_f64(n)
 }
 
-// Whether x is finite and above 0.
-fn above_zero(x: f64) -> bool
-    ensures { λ r. ⌜ r ≡ positive x ⌝ }
-{
-    if 0.0 < x {
-        return x - x <= 0.0;
-    }
-    false
-}
-
-// The double nearest the true root, ties to even; NaN for a negative or a NaN, infinity for infinity;
-// a zero keeps its sign.
-pub fn sqrt(x: f64) -> f64
-    ensures { λ r. ⌜ r ≡ rootOf x ⌝ }
-{
-    if above_zero(x) {
-        return root::positive_root(x);
-    }
-    if 0.0 <= x {
-        return x;
-    }
-    0.0 / 0.0
-}
-
-// Two roots.
-pub struct RootPair {
-    pub first: f64,
-    pub second: f64,
-}
-
-// The roots of x and y, each as `sqrt` says, in less time than one after the other.
-pub fn sqrts(x: f64, y: f64) -> RootPair
-    ensures { λ r. ⌜ r ≡ rootsOf x y ⌝ }
-{
-    if above_zero(x) & above_zero(y) {
-        return root::positive_roots(x, y);
-    }
-    RootPair {
-        first: sqrt(x),
-        second: sqrt(y),
-    }
-}
-
 // The logarithm of x, every step one rounded operation; NaN for anything not finite and above 0.
 pub fn ln(x: f64) -> f64
     ensures { λ r. ⌜ r ≡ lnOf x ⌝ }
 {
-    if !above_zero(x) {
+    if !doubles::above_zero(x) {
         return 0.0 / 0.0;
     }
-    let p = digits::split(x);
-    let m = digits::mantissa(p.digits);
-    if 1.4140625 < m {
-        return log::series(m * 0.5, log::exponent(p.shift + 1));
-    }
-    log::series(m, log::exponent(p.shift))
+    let p = doubles::split(f64::to_bits(x));
+    log::turned(log::mantissa(p.digits), p.shift)
 }
 
 // The power y^a, every step one rounded operation; NaN for a y outside [2^-10, 2] or an a outside

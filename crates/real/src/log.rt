@@ -1,8 +1,16 @@
 // The parts of the logarithm.
 ghost use mathlib.Core.Path.{_≡_};
-ghost use Prim.Native.Nat.{_+_, _<_};
-ghost use lib.Ieee.{binary64, ofInt, minus};
-ghost use Rattle.real.specs.Ln.{logOf};
+ghost use Prim.Native.Nat.{_+_, _^_, _<_};
+ghost use lib.Ieee.{binary64, ofBits, ofInt, minus};
+ghost use Rattle.real.specs.Ln.{logOf, turnedOf};
+
+// Fifty-three digits as a number from 1 to below 2.
+pub fn mantissa(digits: u64) -> f64
+    requires { ⌜ digits < 2 ^ 53 ⌝ }
+    ensures { λ r. ⌜ r ≡ ofBits binary64 (digits + 0x3fe0_0000_0000_0000) ⌝ }
+{
+    f64::from_bits(digits + 0x3fe0_0000_0000_0000)
+}
 
 // The whole number k - 1074.
 pub fn exponent(k: u64) -> f64
@@ -29,4 +37,15 @@ pub fn series(m: f64, e: f64) -> f64
         n += 1;
     }
     e * 0.6931471805599453 + (2.0 * s) * c
+}
+
+// The logarithm of m * 2^(k - 1074) for an m from 1 to below 2, which is halved where that brings it nearer to 1.
+pub fn turned(m: f64, k: u64) -> f64
+    requires { ⌜ k < 2098 ⌝ }
+    ensures { λ r. ⌜ r ≡ turnedOf m (minus (k + 1) 1075) ⌝ }
+{
+    if 1.4140625 < m {
+        return series(m * 0.5, exponent(k + 1));
+    }
+    series(m, exponent(k))
 }

@@ -3,7 +3,7 @@ use borrow.Author.Needs.{needs}
 use mathlib.Core.Path.{refl}
 use lib.Dec.{le→leb}
 use lib.Ieee.{inFloat}
-use Rattle.real.specs.Count.{countOf}
+use Rattle.doubles.specs.Count.{countOf}
 use Rattle.real.proofs.count.Statement.{statement}
 use Rattle.real.proofs.count.Tie as tie
 

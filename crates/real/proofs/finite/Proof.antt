@@ -2,8 +2,8 @@
 use mathlib.Core.Path.{_≡_, refl}
 use mathlib.Core.Bool.{true, false, true≢false, false≢true}
 use lib.Ieee.{Float, nan, inf, fin, binary64, ofBits, div, neg, lt}
-use Rattle.real.specs.Numbers.{zero64, one64}
-use Rattle.real.specs.Finite.{finiteOf}
+use Rattle.doubles.specs.Numbers.{zero64, one64}
+use Rattle.doubles.specs.Finite.{finiteOf}
 use Rattle.real.proofs.finite.Statement.{statement}
 use Rattle.real.proofs.finite.Tie as tie
 

@@ -1,6 +1,6 @@
 -- `inv` is its definition. Assumes nothing.
 use mathlib.Core.Path.{refl}
-use Rattle.real.specs.Inverse.{invOf}
+use Rattle.doubles.specs.Inverse.{invOf}
 use Rattle.real.proofs.inv.Statement.{statement}
 use Rattle.real.proofs.inv.Tie as tie
 

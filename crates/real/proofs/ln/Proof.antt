@@ -1,16 +1,16 @@
 -- `ln` splits x as the definition does, and hands the parts on. Assumes nothing.
 use mathlib.Core.Path.{_≡_, sym, _∙_, subst}
 use Prim.Native.Nat.{ℕ, _+_}
-use native.Mathlib.Numerals.{add-one}
 use mathlib.Core.Bool.{true, false}
 use lib.Dec.{T}
-use lib.Ieee.{Float, binary64, fits, minus, ofBits, ofInt, lt, mul, div}
+use lib.Ieee.{Float, binary64, fits, minus, ofBits, div}
 use lib.Ieee.Positive.{positive}
 use borrow.Author.Needs.{needs}
-use Rattle.real.specs.Numbers.{zero64, half64}
-use Rattle.real.specs.Ln.{mantissaOf, exponentOf, logOf, lnOf, turn}
-use Rattle.real.proofs.Truth.{was, failed, passed}
-use Rattle.real.proofs.Signs.{suc-minus}
+use Rattle.doubles.specs.Numbers.{zero64}
+use Rattle.doubles.specs.Split.{Split}
+use Rattle.doubles.proofs.Truth.{was, failed, passed}
+use Rattle.doubles.proofs.Bits.{no-nan, splits}
+use Rattle.real.specs.Ln.{mantissaOf, exponentOf, turnedOf, lnOf}
 use Rattle.real.proofs.Mantissa.{mantissa-is, exponent-is}
 use Rattle.real.proofs.ln.Statement.{statement}
 use Rattle.real.proofs.ln.Tie as tie
@@ -19,34 +19,18 @@ no-ln : (x : Float) → positive x ≡ false → div binary64 zero64 zero64 ≡ 
 unfolding lnOf div ofBits
 no-ln x h = rw h
 
--- m is halved, and e one more
-halved : (x m e r : Float) (k : ℕ) → positive x ≡ true → m ≡ mantissaOf x → exponentOf x ≡ minus (k + 1) 1075 → lt turn m ≡ true
-    → e ≡ ofInt binary64 (minus (k + 1 + 1) 1075) → r ≡ logOf (mul binary64 m half64) e → r ≡ lnOf x
+parted : (x m r : Float) (d k : ℕ) → T (fits binary64 x) → positive x ≡ true → Split x d k → m ≡ ofBits binary64 (d + 0x3fe0_0000_0000_0000) → r ≡ turnedOf m (minus (k + 1) 1075) → r ≡ lnOf x
 unfolding lnOf
-halved x m e r k p i j l h s = s ∙ rw (p, ← i, l, j, suc-minus, h, add-one (k + 1))
+parted x m r d k f p s i h = h ∙ rw (p, i, mantissa-is x d k f (was p) s, exponent-is x d k f (was p) s)
 
-kept : (x m e r : Float) (k : ℕ) → positive x ≡ true → m ≡ mantissaOf x → exponentOf x ≡ minus (k + 1) 1075 → lt turn m ≡ false
-    → e ≡ ofInt binary64 (minus (k + 1) 1075) → r ≡ logOf m e → r ≡ lnOf x
-unfolding lnOf
-kept x m e r k p i j l h s = s ∙ rw (p, ← i, l, j, h)
+above : (c : tie.Else1) → positive (c .before .before .args .x) ≡ true
+above c = passed (c .before .above-zero .ensures) (c .if1 .left)
 
--- what is known once the mantissa is found
-record Found (x m : Float) (k : ℕ) : Type 0 where
-  above : positive x ≡ true
-  mantissa : m ≡ mantissaOf x
-  exponent : exponentOf x ≡ minus (k + 1) 1075
+held : (c : tie.Start) → T (fits binary64 (c .args .x))
+held c = subst T (sym (c .good .0 .1)) tt
 
-found : (c : tie.After-mantissa) → Found (c .before .before .before .before .args .x) (c .mantissa .result) (c .before .split .result .shift)
-found c =
-    let s = c .before .split in
-    let g = c .before .before .before .before in
-    let f : T (fits binary64 (g .args .x)) = subst T (sym (g .good .0 .1)) tt in
-    let p = passed (c .before .before .before .above-zero .ensures) (c .before .before .if1 .left) in
-    record {
-      above = p;
-      mantissa = c .mantissa .ensures ∙ mantissa-is (g .args .x) (s .result .digits) (s .result .shift) f (was p) (s .ensures);
-      exponent = exponent-is (g .args .x) (s .result .digits) (s .result .shift) f (was p) (s .ensures);
-    }
+split : (c : tie.After-split) → Split (c .before .before .before .args .x) (c .split .result .digits) (c .split .result .shift)
+split c = let s = c .before .before .before in splits (s .args .x) (c .split .result) (held s) (was (above (c .before))) (c .split .ensures)
 
 above-zero-requires : tie.Need-above-zero-requires
 above-zero-requires c κs = search needs
@@ -54,38 +38,23 @@ above-zero-requires c κs = search needs
 returns : tie.Need-returns
 returns c = no-ln (c .before .before .args .x) (failed (c .before .above-zero .ensures) (c .if1 .taken))
 
+float-to-bits-split : tie.Need-float-to-bits-split
+float-to-bits-split c = no-nan (c .before .before .args .x) (was (above c))
+
 split-requires : tie.Need-split-requires
-split-requires c κs = was (passed (c .before .above-zero .ensures) (c .if1 .left))
+split-requires c κs = search needs
 
 mantissa-requires : tie.Need-mantissa-requires
-mantissa-requires c κs = search needs
+mantissa-requires c κs = split c .short
 
-add-exponent : tie.Need-add-exponent
-add-exponent c = search needs
-
-exponent-requires : tie.Need-exponent-requires
-exponent-requires c κs = search needs
-
-series-requires : tie.Need-series-requires
-series-requires c κs = search needs
+turned-requires : tie.Need-turned-requires
+turned-requires c κs = split (c .before) .small
 
 returns-2 : tie.Need-returns-2
 returns-2 c =
-    let m = c .before .before .before .before in
-    let f = found m in
-    halved (m .before .before .before .before .args .x) _ _ _ (m .before .split .result .shift) (f .above) (f .mantissa) (f .exponent) (c .before .before .before .if2 .taken) (c .before .exponent .ensures) (c .series .ensures)
-
-exponent-requires-2 : tie.Need-exponent-requires-2
-exponent-requires-2 c κs = search needs
-
-series-requires-2 : tie.Need-series-requires-2
-series-requires-2 c κs = search needs
-
-returns-3 : tie.Need-returns-3
-returns-3 c =
-    let m = c .before .before .before in
-    let f = found m in
-    kept (m .before .before .before .before .args .x) _ _ _ (m .before .split .result .shift) (f .above) (f .mantissa) (f .exponent) (c .before .before .if2 .left) (c .before .exponent2 .ensures) (c .series2 .ensures)
+    let p = c .before .before in
+    let s = p .before .before .before in
+    parted (s .args .x) _ _ _ _ (held s) (above (p .before)) (split p) (c .before .mantissa .ensures) (c .turned .ensures)
 
 pub ln-spec : {M : Type 1} → statement M
 ln-spec =
@@ -93,12 +62,8 @@ ln-spec =
     (tie.spec
     above-zero-requires
     returns
+    float-to-bits-split
     split-requires
     mantissa-requires
-    add-exponent
-    exponent-requires
-    series-requires
-    returns-2
-    exponent-requires-2
-    series-requires-2
-    returns-3)
+    turned-requires
+    returns-2)

@@ -9,11 +9,11 @@ use lib.IntN.{ℤ, pos}
 use lib.Dec.{T, lit<}
 use lib.Ieee.{Float, nan, inf, fin, binary64, up, down, fits, ofBits, neg, add, sub, le}
 use lib.Ieee.Fits.{down-pos, neg-fits}
-use Rattle.real.specs.Numbers.{zero64}
+use Rattle.doubles.specs.Numbers.{zero64}
 use Rattle.real.specs.Norm.{normOf}
-use Rattle.real.proofs.Order.{le-under, under-le}
-use Rattle.real.proofs.Exact.{round-self}
-use Rattle.real.proofs.Rounding.{add-at, sub-at}
+use Rattle.doubles.proofs.Order.{le-under, under-le}
+use Rattle.doubles.proofs.Exact.{round-self}
+use Rattle.doubles.proofs.Rounding.{add-at, sub-at}
 use Rattle.real.proofs.norm.Statement.{statement}
 use Rattle.real.proofs.norm.Tie as tie
 

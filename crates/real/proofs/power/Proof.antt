@@ -9,15 +9,15 @@ use lib.Dec.{T, lt→ltb}
 use lib.Ieee.{Float, nan, inf, fin, binary64, minus, ofBits, ofInt, le, neg, add, sub, mul, div}
 use lib.Ieee.Positive.{positive}
 use borrow.Author.Needs.{needs}
-use Rattle.real.specs.Numbers.{zero64, half64}
-use Rattle.real.specs.Bound.{Within}
-use Rattle.real.specs.Count.{countOf}
+use Rattle.doubles.specs.Numbers.{zero64, half64}
+use Rattle.doubles.specs.Bound.{Within}
+use Rattle.doubles.specs.Count.{countOf}
 use Rattle.real.specs.Ln.{ln2, lnOf}
 use Rattle.real.specs.Power.{ceilOf, floorOf, expOf, kOf, inDomain, scaledOf, powerOf}
-use Rattle.real.proofs.Truth.{failed, passed}
-use Rattle.real.proofs.Order.{under-le}
-use Rattle.real.proofs.Signs.{minus-pos, minus-neg, neg-ofInt}
-use Rattle.real.proofs.Bounds.{within-neg}
+use Rattle.doubles.proofs.Truth.{failed, passed}
+use Rattle.doubles.proofs.Order.{under-le}
+use Rattle.doubles.proofs.Signs.{minus-pos, minus-neg, neg-ofInt}
+use Rattle.doubles.proofs.Bounds.{within-neg}
 use Rattle.real.proofs.Floors.{floor-is}
 use Rattle.real.proofs.Ranges.{exponent-within}
 use Rattle.real.proofs.power.Statement.{statement}

@@ -9,9 +9,9 @@ use lib.Dec.{T, lt→ltb}
 use lib.Ieee.{Float, nan, inf, fin, binary64, up, down, ofBits, lt, le, isNan, toUnsigned}
 use lib.Ieee.Fits.{down-pos}
 use borrow.Author.Tests.{ltb-false}
-use Rattle.real.specs.Numbers.{zero64}
-use Rattle.real.specs.Whole.{wholeOf}
-use Rattle.real.proofs.Order.{le-under, le-not-lt}
+use Rattle.doubles.specs.Numbers.{zero64}
+use Rattle.doubles.specs.Whole.{wholeOf}
+use Rattle.doubles.proofs.Order.{le-under, le-not-lt}
 use Rattle.real.proofs.whole.Statement.{statement}
 use Rattle.real.proofs.whole.Tie as tie
 

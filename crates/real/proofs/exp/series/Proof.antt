@@ -6,8 +6,8 @@ use native.Mathlib.Numerals.{add-one}
 use lib.Dec.{lit≤}
 use lib.Ieee.{Float, binary64, add, mul, div}
 use borrow.Author.Needs.{needs}
-use Rattle.real.specs.Numbers.{one64}
-use Rattle.real.specs.Count.{countOf}
+use Rattle.doubles.specs.Numbers.{one64}
+use Rattle.doubles.specs.Count.{countOf}
 use Rattle.real.specs.Power.{expOf}
 use Rattle.real.proofs.exp.series.Statement.{statement}
 use Rattle.real.proofs.exp.series.Tie as tie

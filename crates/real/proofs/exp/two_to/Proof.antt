@@ -11,8 +11,8 @@ use lib.Count.{trailingZeros}
 use lib.Ieee.{inf, fin, binary64, minus, odd, ofFields, ofBits, top, hid}
 use borrow.Author.Needs.{needs}
 use borrow.Author.Tests.{lt-leb, ne-eqb}
-use Rattle.real.proofs.Signs.{minus-shift}
-use Rattle.real.proofs.Bits.{no-nan-bits}
+use Rattle.doubles.proofs.Signs.{minus-shift}
+use Rattle.doubles.proofs.Bits.{no-nan-bits}
 use Rattle.real.proofs.exp.two_to.Statement.{statement}
 use Rattle.real.proofs.exp.two_to.Tie as tie
 

@@ -5,7 +5,7 @@ use native.Mathlib.Omega.{arith}
 use lib.IntN.{ℤ, pos}
 use lib.Ieee.{binary64, minus, neg, ofInt}
 use borrow.Author.Needs.{needs}
-use Rattle.real.proofs.Signs.{minus-pos, minus-neg, neg-ofInt}
+use Rattle.doubles.proofs.Signs.{minus-pos, minus-neg, neg-ofInt}
 use Rattle.real.proofs.log.exponent.Statement.{statement}
 use Rattle.real.proofs.log.exponent.Tie as tie
 

@@ -6,8 +6,8 @@ use native.Mathlib.Numerals.{add-one}
 use lib.Dec.{lit≤}
 use lib.Ieee.{Float, binary64, add, sub, mul, div, ofInt, ofBits}
 use borrow.Author.Needs.{needs}
-use Rattle.real.specs.Numbers.{one64, two64}
-use Rattle.real.specs.Count.{countOf}
+use Rattle.doubles.specs.Numbers.{one64, two64}
+use Rattle.doubles.specs.Count.{countOf}
 use Rattle.real.specs.Ln.{ln2, tailOf, logOf}
 use Rattle.real.proofs.log.series.Statement.{statement}
 use Rattle.real.proofs.log.series.Tie as tie

@@ -1,0 +1,5 @@
+pub mod Roots
+pub mod Judge
+pub mod Nearest
+pub mod Unique
+pub mod Examples

@@ -1,0 +1,3 @@
+pub mod Closeness
+pub mod Settled
+pub mod Unique

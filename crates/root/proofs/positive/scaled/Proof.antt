@@ -1,0 +1,28 @@
+-- `scaled`: no such bits are a NaN's. Assumes nothing.
+use Prim.Native.Nat.{ℕ, _+_, _-_, _*_, _^_, _≤_, _<_}
+use native.Mathlib.Omega.{arith}
+use borrow.Author.Needs.{needs}
+use Rattle.doubles.proofs.Bits.{no-nan-bits}
+use Rattle.root.proofs.positive.scaled.Statement.{statement}
+use Rattle.root.proofs.positive.scaled.Tie as tie
+
+top : (d o : ℕ) → d < 2 ^ 53 → (1022 - o) * 2 ^ 52 + d ≤ 2047 * 2 ^ 52
+top d o h = omega arith
+
+sub-result : tie.Need-sub-result
+sub-result c = search needs
+
+mul-result : tie.Need-mul-result
+mul-result c = search needs
+
+add-result : tie.Need-add-result
+add-result c = search needs
+
+float-from-bits-result : tie.Need-float-from-bits-result
+float-from-bits-result c = no-nan-bits _ (top (c .args .digits) (c .args .odd) (c .pre .0))
+
+returns : tie.Need-returns
+returns c = search needs
+
+pub scaled-spec : {M : Type 1} → statement M
+scaled-spec = tie.close (tie.spec sub-result mul-result add-result float-from-bits-result returns)
