@@ -15,7 +15,7 @@ use Rattle.stream.specs.SplitMix.{seededOf}
 use Rattle.stream.specs.Xoshiro.{wordOf, stepOf, stepsOf}
 use Rattle.stream.specs.Jumps.{jumpsOf}
 use Rattle.stream.specs.Bytes.{bytesOf, wordIn, allZero, streamBytes}
-use Rattle.real.specs.Paper.{Paper, gives, refuses}
+use Rattle.doubles.specs.Paper.{Paper, gives, refuses}
 
 -- next_u64: the word, and the stream one step on
 unfoldable pub drawnOf : MonteCarloRng → Word
@@ -52,11 +52,13 @@ filledOf n s = filled (stepsOf (wordsFor n) s) (take n (streamBytes (wordsFor n)
 unfoldable pub exportOf : MonteCarloRng → List ℕ
 exportOf s = bytesOf 8 (s .s0) ++ (bytesOf 8 (s .s1) ++ (bytesOf 8 (s .s2) ++ bytesOf 8 (s .s3)))
 
--- import: four words from 32 bytes; of zero bytes alone, new(0, 0)
+-- four words from the first 32 bytes
+unfoldable pub stateIn : List ℕ → MonteCarloRng
+stateIn l = record { s0 = wordIn l; s1 = wordIn (drop 8 l); s2 = wordIn (drop 16 l); s3 = wordIn (drop 24 l) }
+
+-- import: the state in 32 bytes; of zero bytes alone, new(0, 0)
 unfoldable pub importOf : List ℕ → MonteCarloRng
-importOf l =
-    cond (allZero l) (seededOf 0)
-    (record { s0 = wordIn l; s1 = wordIn (drop 8 l); s2 = wordIn (drop 16 l); s3 = wordIn (drop 24 l) })
+importOf l = cond (allZero l) (seededOf 0) (stateIn l)
 
 -- what `Made` says
 unfoldable pub paper : Made → Paper MonteCarloRng

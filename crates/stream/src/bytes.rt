@@ -1,7 +1,7 @@
 // Words as bytes, lowest first.
 ghost use mathlib.Core.Path.{_≡_};
-ghost use Prim.Native.Nat.{_+_, _-_, _≤_, _<_};
-ghost use lib.ListN.{length, drop, getD};
+ghost use Prim.Native.Nat.{_+_, _≤_};
+ghost use lib.ListN.{length, drop};
 ghost use lib.Seq.{sets};
 ghost use Rattle.stream.specs.Bytes.{bytesOf, wordIn, allZero};
 
@@ -19,64 +19,41 @@ pub fn is_all_zero(bytes: &[u8]) -> bool
     true
 }
 
-// The byte at i, as a word.
-fn byte_at(bytes: &[u8], i: usize) -> u64
-    requires { ⌜ i < length (now bytes) ⌝ }
-    ensures { λ r. ⌜ (r ≡ getD (now (bytes .entry)) i 0) × (r < 256) ⌝ }
-{
-    bytes[i] as u64
-}
-
-// The word whose bytes stand at `at`.
+// The word whose bytes stand at `at`, taken from its highest byte down.
 pub fn word_at(bytes: &[u8], at: usize) -> u64
     requires { ⌜ at + 8 ≤ length (now bytes) ⌝ }
     ensures { λ r. ⌜ r ≡ wordIn (drop at (now (bytes .entry))) ⌝ }
 {
-    let b0 = byte_at(bytes, at);
-    let b1 = byte_at(bytes, at + 1);
-    let b2 = byte_at(bytes, at + 2);
-    let b3 = byte_at(bytes, at + 3);
-    let b4 = byte_at(bytes, at + 4);
-    let b5 = byte_at(bytes, at + 5);
-    let b6 = byte_at(bytes, at + 6);
-    let b7 = byte_at(bytes, at + 7);
-    let low = b0 + b1 * 256 + b2 * 65536 + b3 * 16777216;
-    let high = b4 + b5 * 256 + b6 * 65536 + b7 * 16777216;
-    low + high * 4294967296
+    let mut word: u64 = 0;
+    let mut i: usize = 8;
+    while 0 < i {
+        i -= 1;
+        let byte = bytes[at + i] as u64;
+        word = word * 256 + byte;
+    }
+    word
 }
 
-// Puts the eight bytes of `word` at `at`.
+// Puts the eight bytes of `word` at `at`, those of them that `dest` has room for.
 pub fn put_word(dest: &mut [u8], at: usize, word: u64)
-    requires { ⌜ at + 8 ≤ length (now dest) ⌝ }
     ensures { λ _. ⌜ now (dest .exit) ≡ sets (now (dest .entry)) at (bytesOf 8 word) ⌝ }
 {
-    let w1 = word / 256;
-    let w2 = w1 / 256;
-    let w3 = w2 / 256;
-    let w4 = w3 / 256;
-    let w5 = w4 / 256;
-    let w6 = w5 / 256;
-    let w7 = w6 / 256;
-    dest[at] = (word % 256) as u8;
-    dest[at + 1] = (w1 % 256) as u8;
-    dest[at + 2] = (w2 % 256) as u8;
-    dest[at + 3] = (w3 % 256) as u8;
-    dest[at + 4] = (w4 % 256) as u8;
-    dest[at + 5] = (w5 % 256) as u8;
-    dest[at + 6] = (w6 % 256) as u8;
-    dest[at + 7] = (w7 % 256) as u8;
-}
-
-// Puts the lowest bytes of `word` from `at` to the end of `dest`.
-pub fn put_tail(dest: &mut [u8], at: usize, word: u64)
-    requires { ⌜ at ≤ length (now dest) ⌝ }
-    ensures { λ _. ⌜ now (dest .exit) ≡ sets (now (dest .entry)) at (bytesOf (length (now (dest .entry)) - at) word) ⌝ }
-{
     let mut rest = word;
+    let mut left: u64 = 8;
     let mut i = at;
-    while i < dest.len() {
+    while (0 < left) & (i < dest.len()) {
         dest[i] = (rest % 256) as u8;
         rest = rest / 256;
+        left -= 1;
         i += 1;
     }
+}
+
+// 32 bytes with those of `word` at `at`.
+pub fn with_word(bytes: [u8; 32], at: usize, word: u64) -> [u8; 32]
+    ensures { λ r. ⌜ r ≡ sets bytes at (bytesOf 8 word) ⌝ }
+{
+    let mut changed = bytes;
+    put_word(&mut changed, at, word);
+    changed
 }

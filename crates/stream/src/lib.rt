@@ -6,14 +6,14 @@ mod bytes;
 mod words;
 
 ghost use mathlib.Core.Path.{_≡_};
-ghost use Prim.Native.Nat.{_<_};
+ghost use Prim.Native.Nat.{_≤_, _<_};
 ghost use lib.ListN.{length};
 ghost use Rattle.stream.specs.SplitMix.{advanced, mixOf, seededOf};
 ghost use Rattle.stream.specs.Jumps.{jumpTable, longJumpTable, joined, walkBit, walkBits, jumpOf, jumpsOf};
-ghost use Rattle.stream.specs.Calls.{drawnOf, upperOf, unitOf, unitDrawnOf, filled, filledOf, exportOf, importOf, paper, newOf};
+ghost use Rattle.stream.specs.Calls.{drawnOf, upperOf, unitOf, unitDrawnOf, wordsFor, filled, filledOf, exportOf, stateIn, importOf, paper, newOf};
 use bytes::is_all_zero;
-use bytes::put_tail;
 use bytes::put_word;
+use bytes::with_word;
 use bytes::word_at;
 use words::rotl;
 use words::wrapping_mul;
@@ -77,6 +77,26 @@ fn mix(x: u64) -> u64
     let y = wrapping_mul(x ^ (x >> 30), 0xbf58_476d_1ce4_e5b9);
     let z = wrapping_mul(y ^ (y >> 27), 0x94d0_49bb_1331_11eb);
     z ^ (z >> 31)
+}
+
+// The state whose words stand first in `bytes`.
+fn state_in(bytes: &[u8]) -> MonteCarloRng
+    requires { ⌜ 32 ≤ length (now bytes) ⌝ }
+    ensures { λ r. ⌜ r ≡ stateIn (now (bytes .entry)) ⌝ }
+{
+    MonteCarloRng {
+        s0: word_at(bytes, 0),
+        s1: word_at(bytes, 8),
+        s2: word_at(bytes, 16),
+        s3: word_at(bytes, 24),
+    }
+}
+
+// The words that n bytes spend: one for each eight, and one for a short rest.
+fn words_for(n: usize) -> usize
+    ensures { λ r. ⌜ r ≡ wordsFor n ⌝ }
+{
+    n / 8 + (n % 8 + 7) / 8
 }
 
 // Two states joined word by word.
@@ -172,12 +192,7 @@ impl MonteCarloRng {
         if is_all_zero(&seed) {
             return MonteCarloRng::seed_from_u64(0);
         }
-        MonteCarloRng {
-            s0: word_at(&seed, 0),
-            s1: word_at(&seed, 8),
-            s2: word_at(&seed, 16),
-            s3: word_at(&seed, 24),
-        }
+        state_in(&seed)
     }
 
     // `from_seed`, under the name that goes with `export`.
@@ -191,12 +206,10 @@ impl MonteCarloRng {
     pub fn export(self) -> [u8; 32]
         ensures { λ r. ⌜ r ≡ exportOf self ⌝ }
     {
-        let mut bytes = [0u8; 32];
-        put_word(&mut bytes, 0, self.s0);
-        put_word(&mut bytes, 8, self.s1);
-        put_word(&mut bytes, 16, self.s2);
-        put_word(&mut bytes, 24, self.s3);
-        bytes
+        let one = with_word([0u8; 32], 0, self.s0);
+        let two = with_word(one, 8, self.s1);
+        let three = with_word(two, 16, self.s2);
+        with_word(three, 24, self.s3)
     }
 
     // The next word, and the stream after it.
@@ -246,18 +259,14 @@ impl MonteCarloRng {
     pub fn fill_bytes(self, dest: &mut [u8]) -> MonteCarloRng
         ensures { λ r. ⌜ filled r (now (dest .exit)) ≡ filledOf (length (now (dest .entry))) self ⌝ }
     {
+        let words = words_for(dest.len());
         let mut stream = self;
-        let mut at = 0;
-        while 8 <= dest.len() - at {
+        let mut k = 0;
+        while k < words {
             let word = stream.next_u64();
-            put_word(dest, at, word.value);
+            put_word(dest, k * 8, word.value);
             stream = word.stream;
-            at += 8;
-        }
-        if at < dest.len() {
-            let word = stream.next_u64();
-            put_tail(dest, at, word.value);
-            return word.stream;
+            k += 1;
         }
         stream
     }

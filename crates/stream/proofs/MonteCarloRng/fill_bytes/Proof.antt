@@ -1,75 +1,59 @@
-use Rattle.stream.proofs.Fills.{fills-word, fills-tail}
+-- `fill_bytes`: after k words, what is left to come from the stream reached is what was to come at first.
 use native.Mathlib.Omega.{arith}
 use mathlib.Core.Path.{_≡_, refl, sym, ap, _∙_}
-use Prim.Native.Nat.{_+_, _-_, _≤_}
+use Prim.Native.Nat.{_+_, _-_, _*_, _≤_, _<_}
 use lib.ListN.{length}
-use Rattle.stream.specs.Calls.{drawnOf, filled, filledOf}
-use Rattle.stream.proofs.Fills.{onward, onward-starts, onward-word, onward-done, onward-tail}
+use Rattle.stream.specs.Calls.{wordsFor}
+use Rattle.stream.proofs.Fills.{onward, onward-starts, onward-done, begins, spent, fills-word}
 use Rattle.stream.proofs.MonteCarloRng.fill_bytes.Statement.{statement}
 use Rattle.stream.proofs.MonteCarloRng.fill_bytes.Tie as tie
-use Rattle.stream.proofs.MonteCarloRng.fill_bytes.Reads as reads
-use Rattle.stream.proofs.MonteCarloRng.fill_bytes.Lts as lts
-use Rattle.stream.proofs.MonteCarloRng.next_u64.Reads as next-u64-reads
-use Rattle.stream.proofs.bytes.put_tail.Reads as put-tail-reads
-use Rattle.stream.proofs.bytes.put_word.Reads as put-word-reads
 
 abbrev Inv-loop : tie.InvT-loop
-Inv-loop dest₀ stream₀ at₀ dest stream at = (at ≤ length dest) × (length dest ≡ length dest₀) × (onward dest at stream ≡ onward dest₀ 0 stream₀)
+Inv-loop dest₀ words stream₀ k₀ dest stream k = (words ≡ wordsFor (length dest)) × (length dest ≡ length dest₀) × (onward dest (k * 8) stream ≡ onward dest₀ 0 stream₀)
 
 abbrev μ-loop : tie.MeasureT-loop
-μ-loop dest₀ stream₀ at₀ dest stream at = length dest - at
+μ-loop dest₀ words stream₀ k₀ dest stream k = words - k
 
--- src/lib.rt:238:9
+within : (c : tie.In-loop Inv-loop μ-loop) → c .before .loop .k * 8 < length (c .before .loop .dest)
+within c = begins _ _ _ (c .before .loop .inv .0) (c .loop-test .taken)
+
+words-for-requires : tie.Need-words-for-requires Inv-loop μ-loop
+words-for-requires c κs = tt
+
 loop-holds : tie.Need-loop-holds Inv-loop μ-loop
-loop-holds c = (omega arith, refl, refl)
+loop-holds c = (c .words-for .ensures, refl, refl)
 
--- src/lib.rt:238:20
-sub-loop : tie.Need-sub-loop Inv-loop μ-loop
-sub-loop c = omega arith
-
--- src/lib.rt:239:17
 next-u64-requires : tie.Need-next-u64-requires Inv-loop μ-loop
 next-u64-requires c κs = tt
 
--- src/lib.rt:240:13
+mul-put-word : tie.Need-mul-put-word Inv-loop μ-loop
+mul-put-word c = let w = within (c .before .before) in omega arith
+
 put-word-requires : tie.Need-put-word-requires Inv-loop μ-loop
-put-word-requires c κs = omega arith
+put-word-requires c κs = tt
 
--- src/lib.rt:242:13
-add-at : tie.Need-add-at Inv-loop μ-loop
-add-at c = omega (arith, c .before .before .before .before .before .before .loop-test .taken)
+add-k : tie.Need-add-k Inv-loop μ-loop
+add-k c = let w = within (c .before .before .before .before .before .before) in omega arith
 
--- src/lib.rt:238:9
 loop-less : tie.Need-loop-less Inv-loop μ-loop
-loop-less c = omega (arith, c .before .before .before .put-word .kept .0, c .before .before .before .before .before .before .loop-test .taken)
+loop-less c = let t = c .before .before .before .before .before .before .loop-test .taken in omega arith
 
--- src/lib.rt:238:9
 loop-again : tie.Need-loop-again Inv-loop μ-loop
-loop-again c = (omega (arith, c .before .before .before .put-word .kept .0, c .before .before .before .before .before .before .loop-test .taken), c .before .before .before .put-word .kept .0 ∙ c .before .before .before .before .before .before .before .loop .inv .1, fills-word _ _ _ _ _ (c .before .before .before .before .before .next-u64 .ensures) (c .before .before .before .put-word .ensures) (omega (arith, c .before .before .before .before .before .before .loop-test .taken)) ∙ c .before .before .before .before .before .before .before .loop .inv .2)
+loop-again c =
+    let l = c .before .before .before .before .before .before in
+    let p = c .before .before .before .put-word in (
+      l .before .loop .inv .0 ∙ ap wordsFor (sym (p .kept .0)),
+      p .kept .0 ∙ l .before .loop .inv .1,
+      fills-word _ _ _ _ _ (c .before .before .before .before .before .next-u64 .ensures) (p .ensures) (within l) ∙ l .before .loop .inv .2,
+    )
 
--- src/lib.rt:245:17
-next-u64-requires-2 : tie.Need-next-u64-requires-2 Inv-loop μ-loop
-next-u64-requires-2 c κs = tt
-
--- src/lib.rt:246:13
-put-tail-requires : tie.Need-put-tail-requires Inv-loop μ-loop
-put-tail-requires c κs = omega arith
-
--- src/lib.rt:247:13
 same-length : tie.Need-same-length Inv-loop μ-loop
-same-length c = c .before .before .before .put-tail .kept .0 ∙ c .before .before .before .before .before .before .before .before .loop .inv .1
+same-length c = c .before .loop .inv .1
 
--- src/lib.rt:247:13
 returns : tie.Need-returns Inv-loop μ-loop
-returns c = fills-tail _ _ _ _ _ (c .before .before .before .before .before .next-u642 .ensures) (c .before .before .before .put-tail .ensures) (c .before .before .before .before .before .before .if1 .taken) (omega (arith, c .before .before .before .before .before .before .before .loop-test .left)) ∙ c .before .before .before .before .before .before .before .before .loop .inv .2 ∙ onward-starts _ _
-
--- src/lib.rt:233:5
-same-length-2 : tie.Need-same-length-2 Inv-loop μ-loop
-same-length-2 c = c .before .before .loop .inv .1
-
--- src/lib.rt:233:5
-returns-2 : tie.Need-returns-2 Inv-loop μ-loop
-returns-2 c = sym (onward-done _ _ _ (omega arith)) ∙ c .before .before .loop .inv .2 ∙ onward-starts _ _
+returns c =
+    let l = c .before .loop in
+    sym (onward-done _ _ _ (spent _ _ _ (l .inv .0) (c .loop-test .left))) ∙ l .inv .2 ∙ onward-starts _ _
 
 pub fill-bytes-spec : {M : Type 1} → statement M
 fill-bytes-spec =
@@ -77,16 +61,13 @@ fill-bytes-spec =
     (tie.spec
     Inv-loop
     μ-loop
+    words-for-requires
     loop-holds
-    sub-loop
     next-u64-requires
+    mul-put-word
     put-word-requires
-    add-at
+    add-k
     loop-less
     loop-again
-    next-u64-requires-2
-    put-tail-requires
     same-length
-    returns
-    same-length-2
-    returns-2)
+    returns)

@@ -1,166 +1,75 @@
+-- `word_at`: i bytes are left below those that `word` is made of.
 use native.Mathlib.Omega.{arith}
-use native.Mathlib.Nat.{add-zero}
+use mathlib.Core.Path.{_≡_, refl, sym, ap, _∙_}
+use Prim.Native.Nat.{_+_, _-_, _*_, _^_, _≤_, _<_}
+use lib.ListN.{length, drop, getD}
 use lib.Seq.{getD-drop}
-use Rattle.stream.specs.Bytes.{wordIn}
-use borrow.Author.Needs.{needs}
+use Rattle.stream.proofs.Uppers.{upper, upper-next, upper-all, upper-room}
 use Rattle.stream.proofs.bytes.word_at.Statement.{statement}
 use Rattle.stream.proofs.bytes.word_at.Tie as tie
-use Rattle.stream.proofs.bytes.word_at.Reads as reads
-use Rattle.stream.proofs.bytes.word_at.Lts as lts
-use Rattle.stream.proofs.bytes.byte_at.Reads as byte-at-reads
 
--- src/bytes.rt:35:9
-byte-at-requires : tie.Need-byte-at-requires
-byte-at-requires c κs = search needs
+abbrev Inv-loop : tie.InvT-loop
+Inv-loop bytes at word₀ i₀ word i = (i ≤ 8) × (word ≡ upper (drop at bytes) (8 - i))
 
--- src/bytes.rt:36:29
-add-byte-at : tie.Need-add-byte-at
-add-byte-at c = search needs
+abbrev μ-loop : tie.MeasureT-loop
+μ-loop bytes at word₀ i₀ word i = i
 
--- src/bytes.rt:36:9
-byte-at-requires-2 : tie.Need-byte-at-requires-2
-byte-at-requires-2 c κs = search needs
+small : (c : tie.After-shared-slice-known Inv-loop μ-loop) → c .before .before .loop .word < 2 ^ 56
+small c =
+    let s = c .before .before .before .args in
+    rw (c .before .before .loop .inv .1) (upper-room (drop (s .at) (s .bytes .now)) (8 - c .before .before .loop .i) (λ k. rw getD-drop (omega (arith, c .shared-slice-known .given (s .at + k)))) (omega arith))
 
--- src/bytes.rt:37:29
-add-byte-at-2 : tie.Need-add-byte-at-2
-add-byte-at-2 c = search needs
+loop-holds : tie.Need-loop-holds Inv-loop μ-loop
+unfolding upper
+loop-holds c = (omega arith, refl)
 
--- src/bytes.rt:37:9
-byte-at-requires-3 : tie.Need-byte-at-requires-3
-byte-at-requires-3 c κs = search needs
+sub-i : tie.Need-sub-i Inv-loop μ-loop
+sub-i c = omega arith
 
--- src/bytes.rt:38:29
-add-byte-at-3 : tie.Need-add-byte-at-3
-add-byte-at-3 c = search needs
+add-byte : tie.Need-add-byte Inv-loop μ-loop
+add-byte c = omega arith
 
--- src/bytes.rt:38:9
-byte-at-requires-4 : tie.Need-byte-at-requires-4
-byte-at-requires-4 c κs = search needs
+shared-slice-read-byte : tie.Need-shared-slice-read-byte Inv-loop μ-loop
+shared-slice-read-byte c = omega arith
 
--- src/bytes.rt:39:29
-add-byte-at-4 : tie.Need-add-byte-at-4
-add-byte-at-4 c = search needs
+cast-byte : tie.Need-cast-byte Inv-loop μ-loop
+cast-byte c = omega (arith, c .shared-slice-known .given (c .before .before .before .args .at + (c .before .before .loop .i - 1)))
 
--- src/bytes.rt:39:9
-byte-at-requires-5 : tie.Need-byte-at-requires-5
-byte-at-requires-5 c κs = search needs
+mul-word : tie.Need-mul-word Inv-loop μ-loop
+mul-word c = omega (arith, small c)
 
--- src/bytes.rt:40:29
-add-byte-at-5 : tie.Need-add-byte-at-5
-add-byte-at-5 c = search needs
+add-word : tie.Need-add-word Inv-loop μ-loop
+add-word c = omega (arith, small c, c .shared-slice-known .given (c .before .before .before .args .at + (c .before .before .loop .i - 1)))
 
--- src/bytes.rt:40:9
-byte-at-requires-6 : tie.Need-byte-at-requires-6
-byte-at-requires-6 c κs = search needs
+loop-less : tie.Need-loop-less Inv-loop μ-loop
+loop-less c = omega arith
 
--- src/bytes.rt:41:29
-add-byte-at-6 : tie.Need-add-byte-at-6
-add-byte-at-6 c = search needs
+loop-again : tie.Need-loop-again Inv-loop μ-loop
+loop-again c =
+    let l = c .before .before .loop in
+    let s = c .before .before .before .args in
+    (omega arith, upper-next (s .bytes .now) (s .at) (l .i) (l .word) (l .inv .1) (omega arith) (l .inv .0))
 
--- src/bytes.rt:41:9
-byte-at-requires-7 : tie.Need-byte-at-requires-7
-byte-at-requires-7 c κs = search needs
-
--- src/bytes.rt:42:29
-add-byte-at-7 : tie.Need-add-byte-at-7
-add-byte-at-7 c = search needs
-
--- src/bytes.rt:42:9
-byte-at-requires-8 : tie.Need-byte-at-requires-8
-byte-at-requires-8 c κs = search needs
-
--- src/bytes.rt:43:20
-mul-low : tie.Need-mul-low
-mul-low c = search needs
-
--- src/bytes.rt:43:15
-add-low : tie.Need-add-low
-add-low c = search needs
-
--- src/bytes.rt:43:31
-mul-low-2 : tie.Need-mul-low-2
-mul-low-2 c = search needs
-
--- src/bytes.rt:43:15
-add-low-2 : tie.Need-add-low-2
-add-low-2 c = search needs
-
--- src/bytes.rt:43:44
-mul-low-3 : tie.Need-mul-low-3
-mul-low-3 c = search needs
-
--- src/bytes.rt:43:15
-add-low-3 : tie.Need-add-low-3
-add-low-3 c = search needs
-
--- src/bytes.rt:44:21
-mul-high : tie.Need-mul-high
-mul-high c = search needs
-
--- src/bytes.rt:44:16
-add-high : tie.Need-add-high
-add-high c = search needs
-
--- src/bytes.rt:44:32
-mul-high-2 : tie.Need-mul-high-2
-mul-high-2 c = search needs
-
--- src/bytes.rt:44:16
-add-high-2 : tie.Need-add-high-2
-add-high-2 c = search needs
-
--- src/bytes.rt:44:45
-mul-high-3 : tie.Need-mul-high-3
-mul-high-3 c = search needs
-
--- src/bytes.rt:44:16
-add-high-3 : tie.Need-add-high-3
-add-high-3 c = search needs
-
--- src/bytes.rt:45:11
-mul-result : tie.Need-mul-result
-mul-result c = search needs
-
--- src/bytes.rt:45:5
-add-result : tie.Need-add-result
-add-result c = search needs
-
--- src/bytes.rt:31:1
-returns : tie.Need-returns
-unfolding wordIn
-returns c = simp (getD-drop, add-zero) (omega arith)
+returns : tie.Need-returns Inv-loop μ-loop
+returns c =
+    let l = c .before .loop in
+    let s = c .before .before .args in
+    let e : 8 - l .i ≡ 8 = omega arith in
+    l .inv .1 ∙ ap (upper (drop (s .at) (s .bytes .now))) e ∙ upper-all (drop (s .at) (s .bytes .now))
 
 pub word-at-spec : {M : Type 1} → statement M
 word-at-spec =
     tie.close
     (tie.spec
-    byte-at-requires
-    add-byte-at
-    byte-at-requires-2
-    add-byte-at-2
-    byte-at-requires-3
-    add-byte-at-3
-    byte-at-requires-4
-    add-byte-at-4
-    byte-at-requires-5
-    add-byte-at-5
-    byte-at-requires-6
-    add-byte-at-6
-    byte-at-requires-7
-    add-byte-at-7
-    byte-at-requires-8
-    mul-low
-    add-low
-    mul-low-2
-    add-low-2
-    mul-low-3
-    add-low-3
-    mul-high
-    add-high
-    mul-high-2
-    add-high-2
-    mul-high-3
-    add-high-3
-    mul-result
-    add-result
+    Inv-loop
+    μ-loop
+    loop-holds
+    sub-i
+    add-byte
+    shared-slice-read-byte
+    cast-byte
+    mul-word
+    add-word
+    loop-less
+    loop-again
     returns)
