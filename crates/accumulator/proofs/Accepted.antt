@@ -3,10 +3,10 @@ use mathlib.Core.Path.{_≡_, refl}
 use mathlib.Core.Bool.{Bool, true, false, not, _&&_, _||_, false≢true}
 use Prim.Native.Nat.{ℕ}
 use lib.Ieee.{Float}
-use Rattle.real.specs.Finite.{finiteOf}
-use Rattle.real.specs.Paper.{gives}
-use Rattle.real.proofs.Truth.{both}
-use Rattle.real.proofs.Finites.{add-finite}
+use Rattle.doubles.specs.Finite.{finiteOf}
+use Rattle.doubles.specs.Paper.{gives}
+use Rattle.doubles.proofs.Truth.{both}
+use Rattle.doubles.proofs.Finites.{add-finite}
 use Rattle.accumulator.specs.declared.StatisticsAccumulator.{StatisticsAccumulator}
 use Rattle.accumulator.specs.Record.{finiteSums, boundedCounts, wellFormed, withWaiting, withExtremes}
 use Rattle.accumulator.specs.Steps.{addedOf}

@@ -5,8 +5,8 @@ use Prim.Native.Nat.{ℕ, _^_, _≤_}
 use native.Mathlib.Omega.{arith}
 use borrow.Author.Tests.{leb-true}
 use lib.Ieee.{Float, eq}
-use Rattle.real.specs.Numbers.{zero64}
-use Rattle.real.proofs.Truth.{both}
+use Rattle.doubles.specs.Numbers.{zero64}
+use Rattle.doubles.proofs.Truth.{both}
 use Rattle.accumulator.specs.declared.StatisticsAccumulator.{StatisticsAccumulator}
 use Rattle.accumulator.specs.Record.{bounded, boundedCounts, finiteSums, wellFormed}
 use Rattle.accumulator.specs.Steps.{zeroCount}

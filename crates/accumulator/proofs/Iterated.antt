@@ -2,11 +2,11 @@
 use mathlib.Core.Path.{_≡_}
 use mathlib.Core.Logic.{inl, inr}
 use mathlib.Core.Bool.{Bool, true, false, cond, _&&_}
-use Rattle.real.specs.Numbers.{zero64}
-use Rattle.real.specs.Finite.{finiteOf}
-use Rattle.real.specs.Paper.{gives, refuses}
-use Rattle.real.proofs.Truth.{both, either}
-use Rattle.real.proofs.Finites.{add-finite}
+use Rattle.doubles.specs.Numbers.{zero64}
+use Rattle.doubles.specs.Finite.{finiteOf}
+use Rattle.doubles.specs.Paper.{gives, refuses}
+use Rattle.doubles.proofs.Truth.{both, either}
+use Rattle.doubles.proofs.Finites.{add-finite}
 use Rattle.accumulator.specs.declared.StatisticsAccumulator.{StatisticsAccumulator}
 use Rattle.accumulator.specs.Record.{finiteSums, boundedCounts, wellFormed, raised}
 use Rattle.accumulator.specs.Update.{enough, processedOf, updatedOf}

@@ -5,10 +5,10 @@ use mathlib.Core.Bool.{Bool, true, false, not}
 use Prim.Native.Nat.{ℕ, _+_}
 use borrow.Author.Tests.{not-false}
 use lib.Ieee.{Float, binary64, ofBits, add, mul}
-use Rattle.real.specs.Finite.{finiteOf}
-use Rattle.real.specs.Paper.{gives}
-use Rattle.real.proofs.Ladder.{passes, given}
-use Rattle.real.proofs.Truth.{either}
+use Rattle.doubles.specs.Finite.{finiteOf}
+use Rattle.doubles.specs.Paper.{gives}
+use Rattle.doubles.proofs.Ladder.{passes, given}
+use Rattle.doubles.proofs.Truth.{either}
 use Rattle.accumulator.specs.declared.StatisticsAccumulator.{StatisticsAccumulator}
 use Rattle.accumulator.specs.Record.{fresh, wellFormed, finiteSums, bounded, boundedCounts, withWaiting, withExtremes, raised}
 use Rattle.accumulator.specs.Steps.{addedOf, mergedOf}

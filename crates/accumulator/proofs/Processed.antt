@@ -4,9 +4,9 @@ use mathlib.Core.Bool.{Bool, true, false, cond}
 use Prim.Native.Nat.{_+_}
 use lib.Dec.{eqb}
 use lib.Ieee.{Float, binary64, add, sub, mul}
-use Rattle.real.specs.Inverse.{invOf}
-use Rattle.real.specs.Count.{countOf}
-use Rattle.real.specs.Root.{rootOf}
+use Rattle.doubles.specs.Inverse.{invOf}
+use Rattle.doubles.specs.Count.{countOf}
+use Rattle.careful.specs.Root.{rootOf}
 use Rattle.accumulator.specs.declared.StatisticsAccumulator.{StatisticsAccumulator}
 use Rattle.accumulator.specs.declared.Estimate.{Estimate}
 use Rattle.accumulator.specs.declared.steps.Figures.{Figures}

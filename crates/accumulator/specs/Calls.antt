@@ -3,9 +3,9 @@ use Prim.Native.Nat.{ℕ, _^_}
 use mathlib.Core.Bool.{Bool, false, not, cond}
 use lib.Dec.{leb}
 use lib.Ieee.{Float, eq}
-use Rattle.real.specs.Numbers.{zero64}
-use Rattle.real.specs.Finite.{finiteOf}
-use Rattle.real.specs.Paper.{Paper, gives, refuses}
+use Rattle.doubles.specs.Numbers.{zero64}
+use Rattle.doubles.specs.Finite.{finiteOf}
+use Rattle.doubles.specs.Paper.{Paper, gives, refuses}
 use Rattle.accumulator.specs.declared.StatisticsAccumulator.{StatisticsAccumulator}
 use Rattle.accumulator.specs.declared.Estimate.{Estimate}
 use Rattle.accumulator.specs.declared.Summary.{Summary}

@@ -3,10 +3,10 @@ use Prim.Native.Nat.{ℕ, _+_}
 use mathlib.Core.Bool.{Bool, cond}
 use lib.Dec.{leb, eqb}
 use lib.Ieee.{Float, binary64, ofBits, add, sub, mul, div, eq}
-use Rattle.real.specs.Numbers.{zero64, one64}
-use Rattle.real.specs.Inverse.{invOf}
-use Rattle.real.specs.Count.{countOf}
-use Rattle.real.specs.Root.{rootOf}
+use Rattle.doubles.specs.Numbers.{zero64, one64}
+use Rattle.doubles.specs.Inverse.{invOf}
+use Rattle.doubles.specs.Count.{countOf}
+use Rattle.careful.specs.Root.{rootOf}
 use Rattle.accumulator.specs.declared.StatisticsAccumulator.{StatisticsAccumulator}
 use Rattle.accumulator.specs.declared.steps.Figures.{Figures}
 use Rattle.accumulator.specs.Record.{raised}

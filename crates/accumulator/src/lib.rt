@@ -7,7 +7,7 @@ mod steps;
 
 ghost use mathlib.Core.Path.{_≡_};
 ghost use mathlib.Core.Bool.{false, cond, _&&_};
-ghost use Rattle.real.specs.Paper.{refuses};
+ghost use Rattle.doubles.specs.Paper.{refuses};
 ghost use Rattle.accumulator.specs.Record.{fresh, wellFormed};
 ghost use Rattle.accumulator.specs.Steps.{addedOf};
 ghost use Rattle.accumulator.specs.Calls.{paperChanged, paperMerged, paperUpdated, paperEstimated, paperSummed, keptOf, numbered, addSampleOf, mergeOf, mergeClearingOf, clearOf, copyOf, updateOf, liveEstimateOf, summarizeOf};

@@ -12,9 +12,9 @@ use lib.ListN.{length, getD}
 use lib.Dec.{leb, eqb}
 use lib.Ieee.{Float, nan, lt, le, eq}
 use borrow.Author.Tests.{leb-true, le-leb, eqb-true}
-use Rattle.real.specs.Numbers.{zero64, one64}
-use Rattle.real.proofs.Truth.{either, both}
-use Rattle.real.proofs.Order.{le-not-lt, lt-le, eq-le, eq-ge, le-left, le-right, lt-trans-float, le-trans-float, le-lt-trans}
+use Rattle.doubles.specs.Numbers.{zero64, one64}
+use Rattle.doubles.proofs.Truth.{either, both}
+use Rattle.doubles.proofs.Order.{le-not-lt, lt-le, eq-le, eq-ge, le-left, le-right, lt-trans-float, le-trans-float, le-lt-trans}
 use Rattle.axis.specs.Edges.{rising, binsOf, wellFormed, inUnit, InBin, firstUpto, binOf}
 
 -- what well-formed edges have

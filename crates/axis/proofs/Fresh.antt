@@ -8,8 +8,8 @@ use native.Mathlib.Numerals.{add-one}
 use native.Mathlib.Omega.{arith}
 use lib.ListN.{length, getD}
 use lib.Ieee.{nan, ofBits, lt, eq}
-use Rattle.real.specs.Numbers.{zero64, one64}
-use Rattle.real.proofs.Steps.{step, step-rises, step-first, step-last}
+use Rattle.doubles.specs.Numbers.{zero64, one64}
+use Rattle.doubles.proofs.Steps.{step, step-rises, step-first, step-last}
 use Rattle.axis.specs.Edges.{rising, wellFormed, evenFrom, evenEdges}
 use Rattle.axis.proofs.Bins.{formed-of}
 

@@ -9,8 +9,8 @@ use lib.Dec.{leb}
 use lib.ListN.{length, take, drop, set, getD, length-drop, drop-of-length-le}
 use lib.Seq.{drop-cons, take-suc-set}
 use lib.Ieee.{Float, nan, inf, fin, binary64, sub, add, neg, lt}
-use Rattle.real.specs.Finite.{finiteOf}
-use Rattle.real.specs.Total.{allFinite}
+use Rattle.doubles.specs.Finite.{finiteOf}
+use Rattle.doubles.specs.Total.{allFinite}
 use Rattle.axis.specs.Edges.{rising}
 use Rattle.axis.specs.Scans.{allBounded}
 

@@ -7,15 +7,15 @@ use native.Mathlib.Omega.{arith}
 use lib.ListN.{length, getD}
 use lib.Ieee.{Float, nan, binary64, add, sub, mul, lt, le, ofBits}
 use lib.Ieee.Exact.{HasValue}
-use Rattle.real.specs.Numbers.{one64}
-use Rattle.real.specs.Count.{countOf}
-use Rattle.real.specs.Whole.{wholeOf}
-use Rattle.real.proofs.Truth.{both}
-use Rattle.real.proofs.Order.{le-trans-float}
-use Rattle.real.proofs.Wholes.{whole-between}
-use Rattle.real.proofs.Monotone.{value-unsigned}
-use Rattle.real.proofs.Draws.{last64, draw-index, draw-offset, offset-at-most}
-use Rattle.real.proofs.Between.{Between, between}
+use Rattle.doubles.specs.Numbers.{one64}
+use Rattle.doubles.specs.Count.{countOf}
+use Rattle.doubles.specs.Whole.{wholeOf}
+use Rattle.doubles.proofs.Truth.{both}
+use Rattle.doubles.proofs.Order.{le-trans-float}
+use Rattle.doubles.proofs.Wholes.{whole-between}
+use Rattle.doubles.proofs.Monotone.{value-unsigned}
+use Rattle.doubles.proofs.Draws.{last64, draw-index, draw-offset, offset-at-most}
+use Rattle.doubles.proofs.Between.{Between, between}
 use Rattle.axis.specs.declared.Spot.{Spot}
 use Rattle.axis.specs.Edges.{binsOf, wellFormed, inUnit, widthOf, weightOf}
 use Rattle.axis.specs.Calls.{pointOf, drawnBin, spotOf}

@@ -11,9 +11,9 @@ use lib.ListN.{length, getD}
 use lib.Dec.{ltb, eqb}
 use lib.Ieee.{Float, nan, lt, le, eq}
 use borrow.Author.Tests.{lt-ltb, le-ltb, ltb-true, ltb-false}
-use Rattle.real.specs.Numbers.{zero64, one64}
-use Rattle.real.proofs.Truth.{either, both}
-use Rattle.real.proofs.Order.{le-trans-float, eq-ge}
+use Rattle.doubles.specs.Numbers.{zero64, one64}
+use Rattle.doubles.proofs.Truth.{either, both}
+use Rattle.doubles.proofs.Order.{le-trans-float, eq-ge}
 use Rattle.axis.specs.Edges.{wellFormed, inUnit, binsOf, binOf, InBin}
 use Rattle.axis.specs.Search.{searched, searchOf}
 use Rattle.axis.proofs.Bins.{Formed, formed, rises-le, edge-low, one-bin, found, or-left, first-above, upto-not}

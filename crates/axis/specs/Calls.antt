@@ -4,9 +4,9 @@ use mathlib.Core.Bool.{not, cond}
 use mathlib.Core.List.{List}
 use lib.ListN.{getD}
 use lib.Ieee.{Float, nan, binary64, add, sub, mul}
-use Rattle.real.specs.Count.{countOf}
-use Rattle.real.specs.Whole.{wholeOf}
-use Rattle.real.specs.Paper.{Paper, gives, refuses}
+use Rattle.doubles.specs.Count.{countOf}
+use Rattle.doubles.specs.Whole.{wholeOf}
+use Rattle.doubles.specs.Paper.{Paper, gives, refuses}
 use Rattle.axis.specs.declared.Probed.{Probed}
 use Rattle.axis.specs.declared.Probed.the-variants as probed
 use Rattle.axis.specs.declared.Point.{Point}

@@ -6,8 +6,8 @@ use mathlib.Core.List.{List, [], _∷_}
 use lib.Dec.{leb, eqb}
 use lib.ListN.{length, getD}
 use lib.Ieee.{Float, nan, binary64, sub, mul, div, lt, le, eq}
-use Rattle.real.specs.Numbers.{zero64, one64}
-use Rattle.real.specs.Count.{countOf}
+use Rattle.doubles.specs.Numbers.{zero64, one64}
+use Rattle.doubles.specs.Count.{countOf}
 
 -- strictly rising
 unfoldable pub rising : List Float → Bool

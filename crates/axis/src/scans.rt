@@ -1,6 +1,6 @@
 // Tests that run over whole stretches.
 ghost use mathlib.Core.Path.{_≡_};
-ghost use Rattle.real.specs.Total.{allFinite};
+ghost use Rattle.doubles.specs.Total.{allFinite};
 ghost use Rattle.axis.specs.Edges.{rising, wellFormed, inUnit};
 ghost use Rattle.axis.specs.Scans.{allBounded};
 

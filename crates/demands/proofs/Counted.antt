@@ -11,13 +11,13 @@ use borrow.Author.Tests.{eqb-true, not-false, leb-true, le-leb, eq-eqb}
 use lib.Dec.{leb, eqb, ltb}
 use lib.ListN.{length, getD, drop}
 use lib.Ieee.{Float, nan, binary64, mul, eq}
-use Rattle.real.specs.Numbers.{zero64}
-use Rattle.real.specs.Finite.{finiteOf}
-use Rattle.real.specs.Total.{allFinite}
-use Rattle.real.specs.Total as total
-use Rattle.real.specs.Paper.{Paper, gives, refuses}
-use Rattle.real.proofs.Truth.{both}
-use Rattle.real.proofs.Ladder as ladder
+use Rattle.doubles.specs.Numbers.{zero64}
+use Rattle.doubles.specs.Finite.{finiteOf}
+use Rattle.doubles.specs.Total.{allFinite}
+use Rattle.doubles.specs.Total as total
+use Rattle.doubles.specs.Paper.{Paper, gives, refuses}
+use Rattle.doubles.proofs.Truth.{both}
+use Rattle.doubles.proofs.Ladder as ladder
 use Rattle.accumulator.specs.declared.StatisticsAccumulator.{StatisticsAccumulator}
 use Rattle.accumulator.specs.Record.{bounded}
 use Rattle.axis.specs.Edges.{inUnit, binOf, wellFormed}

@@ -9,8 +9,8 @@ use borrow.Author.Tests.{eqb-true, eqb-false, not-false}
 use lib.Dec.{eqb, ltb}
 use lib.ListN.{length}
 use lib.Ieee.{Float}
-use Rattle.real.specs.Paper.{Paper, gives, refuses}
-use Rattle.real.proofs.Truth.{both}
+use Rattle.doubles.specs.Paper.{Paper, gives, refuses}
+use Rattle.doubles.proofs.Truth.{both}
 use Rattle.accumulator.specs.declared.Summary.{Summary}
 use Rattle.accumulator.specs.Calls as account
 use Rattle.accumulator.specs.Calls.{summarizeOf, liveEstimateOf}

@@ -8,8 +8,8 @@ use native.Mathlib.Omega.{arith}
 use borrow.Author.Tests.{leb-true}
 use lib.Dec.{leb}
 use lib.ListN.{length, replicate}
-use Rattle.real.proofs.Truth.{both}
-use Rattle.real.proofs.Steps.{inv-above, inv-finite}
+use Rattle.doubles.proofs.Truth.{both}
+use Rattle.doubles.proofs.Steps.{inv-above, inv-finite}
 use Rattle.accumulator.proofs.Laws.{fresh-sound}
 use Rattle.axis.specs.Edges.{evenEdges}
 use Rattle.recut.specs.Gather.{sumOf}

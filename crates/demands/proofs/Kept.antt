@@ -10,11 +10,11 @@ use borrow.Author.Tests.{eqb-true, not-false}
 use lib.Dec.{eqb}
 use lib.ListN.{length, length-map}
 use lib.Ieee.{Float}
-use Rattle.real.specs.Finite.{finiteOf}
-use Rattle.real.specs.Total.{allFinite}
-use Rattle.real.specs.Paper.{Paper, gives, refuses}
-use Rattle.real.proofs.Truth.{both}
-use Rattle.real.proofs.Ladder.{passes, given}
+use Rattle.doubles.specs.Finite.{finiteOf}
+use Rattle.doubles.specs.Total.{allFinite}
+use Rattle.doubles.specs.Paper.{Paper, gives, refuses}
+use Rattle.doubles.proofs.Truth.{both}
+use Rattle.doubles.proofs.Ladder.{passes, given}
 use Rattle.accumulator.specs.Record.{wellFormed}
 use Rattle.accumulator.specs.Steps.{clearedOf}
 use Rattle.axis.specs.Edges as Edges

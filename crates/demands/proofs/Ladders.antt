@@ -8,12 +8,12 @@ use borrow.Author.Tests.{eqb-true, not-false}
 use lib.Dec.{eqb, ltb}
 use lib.ListN.{length}
 use lib.Ieee.{Float, binary64, mul}
-use Rattle.real.specs.Numbers.{one64}
-use Rattle.real.specs.Inverse.{invOf}
-use Rattle.real.specs.Finite.{finiteOf}
-use Rattle.real.specs.Total.{allFinite}
-use Rattle.real.specs.Paper.{Paper, refuses}
-use Rattle.real.proofs.Truth.{both}
+use Rattle.doubles.specs.Numbers.{one64}
+use Rattle.doubles.specs.Inverse.{invOf}
+use Rattle.doubles.specs.Finite.{finiteOf}
+use Rattle.doubles.specs.Total.{allFinite}
+use Rattle.doubles.specs.Paper.{Paper, refuses}
+use Rattle.doubles.proofs.Truth.{both}
 use Rattle.accumulator.specs.declared.StatisticsAccumulator.{StatisticsAccumulator}
 use Rattle.accumulator.specs.Record.{wellFormed}
 use Rattle.accumulator.specs.Update.{updatedOf}

@@ -3,8 +3,8 @@ use mathlib.Core.Path.{_≡_, refl, sym, ap, ap₂, subst}
 use mathlib.Core.Bool.{Bool, true, not}
 use mathlib.Core.List.{List, [], _∷_}
 use Prim.Native.Nat.{ℕ}
-use Rattle.real.specs.Paper.{Paper, gives, refuses}
-use Rattle.real.proofs.Truth.{both}
+use Rattle.doubles.specs.Paper.{Paper, gives, refuses}
+use Rattle.doubles.proofs.Truth.{both}
 use Rattle.accumulator.specs.declared.Summary.{Summary}
 use Rattle.accumulator.specs.Calls as account
 use Rattle.accumulator.specs.Calls.{summarizeOf, liveEstimateOf}

@@ -6,7 +6,7 @@ use Prim.Native.Nat.{ℕ, _+_}
 use borrow.Author.Tests.{eqb-true, eqb-false}
 use lib.Dec.{eqb}
 use lib.Ieee.{Float}
-use Rattle.real.specs.Paper.{Paper, gives, refuses}
+use Rattle.doubles.specs.Paper.{Paper, gives, refuses}
 use Rattle.stream.specs.declared.MonteCarloRng.{MonteCarloRng}
 use Rattle.plan.specs.Bounds.{Bytes}
 use Rattle.plan.specs.Paper as plan

@@ -7,7 +7,7 @@ use Prim.Native.Nat.{ℕ, zero, suc}
 use native.Mathlib.Omega.{arith}
 use borrow.Author.Tests.{ne-eqb, eqb-false}
 use lib.Dec.{eqb}
-use Rattle.real.specs.Paper.{Paper, gives, refuses}
+use Rattle.doubles.specs.Paper.{Paper, gives, refuses}
 use Rattle.demands.specs.History.{Word, done, numbered}
 use Rattle.demands.specs.Order.{Test, test, First, NoneHolds, Ordered}
 use Rattle.demands.proofs.Kept.{refused-none, numbered-refuses}

@@ -10,7 +10,7 @@ use borrow.Author.Tests.{eqb-true, not-false}
 use lib.Dec.{eqb, ltb}
 use lib.ListN.{length, getD, drop}
 use lib.Ieee.{Float, nan, binary64, mul, eq}
-use Rattle.real.specs.Numbers.{zero64}
+use Rattle.doubles.specs.Numbers.{zero64}
 use Rattle.accumulator.specs.Record.{wellFormed}
 use Rattle.accumulator.specs.Update.{updatedOf}
 use Rattle.recut.specs.Chances.{adaptedTo, allChances}

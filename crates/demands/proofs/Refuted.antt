@@ -5,18 +5,18 @@ use mathlib.Core.List.{List, [], _∷_}
 use Prim.Native.Nat.{ℕ}
 use native.Mathlib.Omega.{arith}
 use lib.Ieee.{Float, binary64, ofBits, toBits, ofInt, add, sub, mul, div, lt, le, eq}
-use Rattle.real.specs.Numbers.{zero64, one64}
-use Rattle.real.specs.Count.{countOf}
-use Rattle.real.specs.Inverse.{invOf}
-use Rattle.real.specs.Root.{isqrt, squares, rootOf}
+use Rattle.doubles.specs.Numbers.{zero64, one64}
+use Rattle.doubles.specs.Count.{countOf}
+use Rattle.doubles.specs.Inverse.{invOf}
+use Rattle.careful.specs.Root.{isqrt, squares, rootOf}
 use Rattle.axis.specs.Edges.{rising, binsOf, wellFormed, inUnit, firstUpto, binOf, evenFrom, evenEdges}
 use Rattle.axis.proofs.Fresh.{fresh-formed}
 use Rattle.axis.proofs.Bins.{bin-rule}
 use mathlib.Core.Option.{Option, some}
 use mathlib.Core.Option as option
-use Rattle.real.specs.Finite.{finiteOf}
-use Rattle.real.specs.Total.{allFinite}
-use Rattle.real.specs.Paper.{Paper, gives, refuses}
+use Rattle.doubles.specs.Finite.{finiteOf}
+use Rattle.doubles.specs.Total.{allFinite}
+use Rattle.doubles.specs.Paper.{Paper, gives, refuses}
 use Rattle.accumulator.specs.Record as account
 use Rattle.accumulator.specs.Update as iterate
 use Rattle.accumulator.specs.Update.{varianceOf, processedOf, enough, updatedOf}

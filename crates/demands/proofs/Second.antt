@@ -5,7 +5,7 @@ use mathlib.Core.Bool.{Bool, true, false, true≢false}
 use mathlib.Core.List.{List, [], _∷_, map}
 use Prim.Native.Nat.{ℕ}
 use lib.Dec.{eqb}
-use Rattle.real.specs.Paper.{Paper, gives, refuses}
+use Rattle.doubles.specs.Paper.{Paper, gives, refuses}
 use Rattle.plan.specs.Bounds.{Bytes}
 use Rattle.plan.specs.Paper as plan
 use Rattle.plan.specs.Paper.{PlanRead}

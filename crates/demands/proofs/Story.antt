@@ -6,12 +6,12 @@ use mathlib.Core.Option.{Option, some}
 use mathlib.Core.Option as option
 use Prim.Native.Nat.{ℕ, _+_}
 use lib.Ieee.{Float, nan, binary64, ofBits, toBits, ofInt, add, sub, mul, div, lt, le, eq}
-use Rattle.real.specs.Numbers.{zero64, one64}
-use Rattle.real.specs.Count.{countOf}
-use Rattle.real.specs.Inverse.{invOf}
-use Rattle.real.specs.Root.{isqrt, squares, rootOf}
-use Rattle.real.specs.Finite.{finiteOf}
-use Rattle.real.specs.Total.{allFinite}
+use Rattle.doubles.specs.Numbers.{zero64, one64}
+use Rattle.doubles.specs.Count.{countOf}
+use Rattle.doubles.specs.Inverse.{invOf}
+use Rattle.careful.specs.Root.{isqrt, squares, rootOf}
+use Rattle.doubles.specs.Finite.{finiteOf}
+use Rattle.doubles.specs.Total.{allFinite}
 use Rattle.accumulator.specs.Record as account
 use Rattle.accumulator.specs.Steps.{zeroCount, replaced, addedOf, mergedOf, clearedOf}
 use Rattle.accumulator.specs.Update as iterate

@@ -5,7 +5,7 @@ use mathlib.Core.List.{List, [], _∷_, _++_}
 use Prim.Native.Nat.{ℕ, zero, suc, _+_, _%_}
 use lib.Dec.{leb, ltb, eqb}
 use lib.ListN.{length, getD}
-use Rattle.real.specs.Paper.{Paper, gives, refuses}
+use Rattle.doubles.specs.Paper.{Paper, gives, refuses}
 use Rattle.plan.specs.declared.Place.{Place}
 use Rattle.plan.specs.declared.AxesPlan.{AxesPlan}
 use Rattle.plan.specs.declared.BinsPlan.{BinsPlan}

@@ -7,7 +7,7 @@ use mathlib.Core.Option.{Option, some}
 use mathlib.Core.Option as option
 use lib.Dec.{leb}
 use lib.Ieee.{Float}
-use Rattle.real.specs.Paper.{Paper, gives, refuses}
+use Rattle.doubles.specs.Paper.{Paper, gives, refuses}
 use Rattle.stream.specs.declared.MonteCarloRng.{MonteCarloRng}
 use Rattle.accumulator.specs.declared.StatisticsAccumulator.{StatisticsAccumulator}
 use Rattle.accumulator.specs.declared.Estimate.{Estimate}

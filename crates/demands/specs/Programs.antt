@@ -6,10 +6,10 @@ use Prim.Native.Nat.{ℕ, suc, _+_}
 use lib.Dec.{leb, eqb}
 use lib.ListN.{length, getD}
 use lib.Ieee.{Float, nan, binary64, add, mul, div, lt, le, eq}
-use Rattle.real.specs.Numbers.{zero64, one64}
-use Rattle.real.specs.Count.{countOf}
-use Rattle.real.specs.Root.{rootOf}
-use Rattle.real.specs.Paper.{Paper, gives, refuses}
+use Rattle.doubles.specs.Numbers.{zero64, one64}
+use Rattle.doubles.specs.Count.{countOf}
+use Rattle.careful.specs.Root.{rootOf}
+use Rattle.doubles.specs.Paper.{Paper, gives, refuses}
 use Rattle.accumulator.specs.declared.StatisticsAccumulator.{StatisticsAccumulator}
 use Rattle.accumulator.specs.declared.Summary.{Summary}
 use Rattle.accumulator.specs.Update.{varianceOf, updatedOf}

@@ -9,7 +9,7 @@ use lib.Dec.{eqb, ltb}
 use lib.ListN.{length, getD, drop, List·getD-append, List·getD-eq-default}
 use lib.Seq.{drop-append-le, getD-append-add}
 use lib.Ieee.{Float}
-use Rattle.real.proofs.Truth.{both}
+use Rattle.doubles.proofs.Truth.{both}
 use Rattle.plan.specs.Bounds.{Bytes}
 use Rattle.plan.proofs.Flags.{never}
 use Rattle.plan.proofs.Here.{pick}

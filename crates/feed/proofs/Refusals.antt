@@ -10,7 +10,7 @@ use borrow.Author.Tests.{not-true, not-false, eqb-true, eqb-false}
 use lib.Dec.{eqb, ltb}
 use lib.ListN.{length, getD, take}
 use lib.Ieee.{Float}
-use Rattle.real.specs.Paper as real
+use Rattle.doubles.specs.Paper as real
 use Rattle.plan.specs.Paper as plan
 use Rattle.plan.specs.Calls.{measureOf, measurePrefixOf}
 use Rattle.plan.proofs.Here.{pick}

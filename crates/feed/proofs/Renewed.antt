@@ -8,8 +8,8 @@ use borrow.Author.Tests.{eqb-true, eqb-false, le-ltb}
 use lib.Dec.{eqb}
 use lib.ListN.{length, replicate, length-replicate}
 use lib.Ieee.{Float}
-use Rattle.real.specs.Numbers.{zero64}
-use Rattle.real.specs.Paper.{Paper, gives, refuses}
+use Rattle.doubles.specs.Numbers.{zero64}
+use Rattle.doubles.specs.Paper.{Paper, gives, refuses}
 use Rattle.plan.specs.declared.Needs.{Needs}
 use Rattle.plan.specs.Paper as plan
 use Rattle.plan.specs.Calls.{sizesOf}

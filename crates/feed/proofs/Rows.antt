@@ -10,7 +10,7 @@ use lib.Dec.{eqb, leb}
 use lib.ListN.{length, getD, take, set}
 use lib.Seq.{take-suc-set, append-snoc}
 use lib.Ieee.{Float}
-use Rattle.real.proofs.Truth.{both}
+use Rattle.doubles.proofs.Truth.{both}
 use Rattle.plan.specs.Numbers.{numberAt}
 use Rattle.feed.specs.declared.fields.Standing.the-variants as standing
 use Rattle.feed.specs.Fields.{doubleAt, standingOf, isSample, rowFrom}

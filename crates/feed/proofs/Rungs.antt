@@ -7,7 +7,7 @@ use borrow.Author.Tests.{lt-ltb, le-ltb, ne-eqb, eq-eqb}
 use lib.Dec.{eqb}
 use lib.ListN.{length, take, getD}
 use lib.Ieee.{Float}
-use Rattle.real.specs.Paper as real
+use Rattle.doubles.specs.Paper as real
 use Rattle.plan.specs.declared.Needs.{Needs}
 use Rattle.plan.specs.declared.Read.{Read}
 use Rattle.plan.specs.declared.Read.the-variants as read

@@ -5,7 +5,7 @@ use mathlib.Core.List.{List}
 use lib.Dec.{eqb, leb, ltb}
 use lib.ListN.{length, getD, take}
 use lib.Ieee.{Float}
-use Rattle.real.specs.Paper as real
+use Rattle.doubles.specs.Paper as real
 use Rattle.plan.specs.Numbers.{numberAt}
 use Rattle.plan.specs.Paper as plan
 use Rattle.plan.specs.Calls.{measurePrefixOf}

@@ -2,7 +2,7 @@
 ghost use mathlib.Core.Path.{_≡_};
 ghost use Prim.Native.Nat.{_+_, _≤_};
 ghost use lib.ListN.{length, replicate};
-ghost use Rattle.real.specs.Numbers.{zero64};
+ghost use Rattle.doubles.specs.Numbers.{zero64};
 ghost use Rattle.lent.specs.Laid.{clearedReals, clearedCounts};
 
 // Every real of the part becomes 0.

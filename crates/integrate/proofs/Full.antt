@@ -8,7 +8,7 @@ use borrow.Author.Tests.{ltb-true, leb-false, eqb-true, not-false}
 use lib.Dec.{eqb, leb, ltb}
 use lib.ListN.{length, getD, take, drop, length-drop}
 use lib.Seq.{getD-drop, length-take-le}
-use Rattle.real.specs.Paper as real
+use Rattle.doubles.specs.Paper as real
 use Rattle.plan.specs.Bounds.{Bytes}
 use Rattle.plan.specs.Numbers.{numberAt}
 use Rattle.plan.specs.Paper as plan

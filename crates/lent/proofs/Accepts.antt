@@ -9,8 +9,8 @@ use lib.Dec.{leb, ltb, eqb}
 use lib.ListN.{length, drop, getD, set, length-drop}
 use lib.Seq.{length-take-le}
 use lib.Ieee.{Float, nan, binary64, add, mul}
-use Rattle.real.specs.Finite.{finiteOf}
-use Rattle.real.proofs.Truth.{both}
+use Rattle.doubles.specs.Finite.{finiteOf}
+use Rattle.doubles.proofs.Truth.{both}
 use Rattle.accumulator.specs.declared.StatisticsAccumulator.{StatisticsAccumulator}
 use Rattle.accumulator.specs.Record.{fresh, wellFormed}
 use Rattle.accumulator.specs.Steps.{zeroCount, addedOf}

@@ -8,8 +8,8 @@ use borrow.Author.Tests.{eqb-true, eqb-false}
 use lib.Dec.{eqb}
 use lib.ListN.{length, getD, length-map}
 use lib.Ieee.{Float, nan, binary64, ofBits, div}
-use Rattle.real.specs.Numbers.{zero64}
-use Rattle.real.proofs.Truth.{both}
+use Rattle.doubles.specs.Numbers.{zero64}
+use Rattle.doubles.proofs.Truth.{both}
 use Rattle.accumulator.specs.declared.StatisticsAccumulator.{StatisticsAccumulator}
 use Rattle.accumulator.specs.Record.{wellFormed}
 use Rattle.accumulator.specs.Update.{updatedOf}
@@ -18,7 +18,7 @@ use Rattle.plan.specs.Numbers.{wordsAt}
 use Rattle.model.specs.Axes.{Axis}
 use Rattle.model.specs.Grid as model
 use Rattle.model.specs.Sound.{sound}
-use Rattle.real.specs.Total.{totalOf}
+use Rattle.doubles.specs.Total.{totalOf}
 use Rattle.recut.specs.Chances.{allChances, highest, raisedTo, shareOf, adaptedTo}
 use Rattle.model.specs.Update.{Outcome, updateAll, updateAxes, allIdle, raws, withProbabilities, nested, updateGrid, updateBins, updateChild}
 use Rattle.lent.specs.Layout.{axesFrom}

@@ -9,7 +9,7 @@ use native.Mathlib.Omega.{arith}
 use borrow.Author.Tests.{ne-eqb}
 use lib.ListN.{length, getD}
 use lib.Ieee.{Float, nan, eq}
-use Rattle.real.proofs.Truth.{both}
+use Rattle.doubles.proofs.Truth.{both}
 use Rattle.accumulator.specs.declared.StatisticsAccumulator.{StatisticsAccumulator}
 use Rattle.accumulator.specs.Record.{wellFormed}
 use Rattle.accumulator.specs.Update.{updatedOf}
@@ -40,7 +40,7 @@ use Rattle.lent.proofs.Trees.{before-none, taken-reals, taken-counts, b
 use Rattle.lent.proofs.Turns.{children-turned}
 use Rattle.recut.specs.Chances.{allChances, adaptedTo}
 use Rattle.lent.specs.Renewed.{finding}
-use Rattle.real.specs.Numbers.{zero64}
+use Rattle.doubles.specs.Numbers.{zero64}
 use Rattle.plan.specs.declared.Needs.{Needs}
 use Rattle.plan.specs.Paper.{gives}
 use Rattle.plan.specs.Calls.{sizesOf}

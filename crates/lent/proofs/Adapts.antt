@@ -9,8 +9,8 @@ use lib.ListN.{length, getD, take, set}
 use lib.Seq.{take-all}
 use Rattle.axis.proofs.Lists.{write-next}
 use lib.Ieee.{Float, nan, binary64, ofBits, eq}
-use Rattle.real.specs.Numbers.{zero64}
-use Rattle.real.proofs.Truth.{failed}
+use Rattle.doubles.specs.Numbers.{zero64}
+use Rattle.doubles.proofs.Truth.{failed}
 use Rattle.recut.specs.Chances.{allChances, adaptedTo}
 use Rattle.plan.specs.Numbers.{wordsAt}
 use Rattle.lent.specs.declared.Rule.{Rule}

@@ -5,8 +5,8 @@ use Prim.Native.Nat.{ℕ, _+_, _^_}
 use borrow.Author.Tests.{le-leb}
 use lib.Dec.{leb}
 use lib.Ieee.{Float, binary64, add, mul}
-use Rattle.real.specs.Finite.{finiteOf}
-use Rattle.real.proofs.Truth.{both}
+use Rattle.doubles.specs.Finite.{finiteOf}
+use Rattle.doubles.proofs.Truth.{both}
 use Rattle.accumulator.specs.declared.StatisticsAccumulator.{StatisticsAccumulator}
 use Rattle.accumulator.specs.Record.{finiteSums, bounded, boundedCounts, wellFormed, withWaiting, withExtremes}
 use Rattle.accumulator.specs.Steps.{zeroCount, addedOf}

@@ -7,7 +7,7 @@ use native.Mathlib.Omega.{arith}
 use borrow.Author.Tests.{ne-eqb}
 use lib.ListN.{length, getD}
 use lib.Ieee.{Float, nan}
-use Rattle.real.proofs.Truth.{both}
+use Rattle.doubles.proofs.Truth.{both}
 use Rattle.plan.specs.declared.Tally.{Tally}
 use Rattle.plan.specs.declared.AxesPlan as planned
 use Rattle.plan.specs.declared.BinsPlan.{BinsPlan}

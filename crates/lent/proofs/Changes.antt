@@ -8,9 +8,9 @@ use native.Mathlib.Omega.{arith}
 use lib.ListN.{length, getD, drop, length-drop}
 use lib.Seq.{length-take-le}
 use lib.Ieee.{Float, eq}
-use Rattle.real.specs.Numbers.{zero64}
-use Rattle.real.specs.Total.{allFinite}
-use Rattle.real.specs.Paper.{Paper, gives, refuses}
+use Rattle.doubles.specs.Numbers.{zero64}
+use Rattle.doubles.specs.Total.{allFinite}
+use Rattle.doubles.specs.Paper.{Paper, gives, refuses}
 use Rattle.accumulator.specs.Record.{bounded}
 use Rattle.axis.specs.Scans.{allBounded}
 use Rattle.recut.specs.Gather.{reachesOf}

@@ -7,8 +7,8 @@ use native.Mathlib.Omega.{arith}
 use lib.ListN.{length, drop, getD, set, length-set, length-map}
 use lib.Seq.{getD-set-same, getD-set-other}
 use lib.Ieee.{nan}
-use Rattle.real.specs.Numbers.{zero64}
-use Rattle.real.proofs.Truth.{both}
+use Rattle.doubles.specs.Numbers.{zero64}
+use Rattle.doubles.proofs.Truth.{both}
 use Rattle.accumulator.specs.Record.{withWaiting}
 use Rattle.accumulator.specs.Steps.{clearedOf}
 use Rattle.plan.specs.declared.Needs.{Needs}

@@ -6,7 +6,7 @@ use native.Mathlib.Omega.{arith}
 use lib.ListN.{length, getD, set, replicate, length-set, length-replicate, getD-replicate, length-map, List·getD-map}
 use lib.Seq.{ext-getD, getD-set-same, getD-set-other}
 use lib.Ieee.{Float, nan}
-use Rattle.real.specs.Numbers.{zero64}
+use Rattle.doubles.specs.Numbers.{zero64}
 use Rattle.accumulator.specs.Record.{fresh, withWaiting, withExtremes}
 use Rattle.accumulator.specs.Steps.{clearedOf}
 use Rattle.axis.specs.Edges.{evenEdges}

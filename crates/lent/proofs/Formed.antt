@@ -5,7 +5,7 @@ use mathlib.Core.List.{List, [], _∷_}
 use Prim.Native.Nat.{ℕ, zero, suc}
 use lib.ListN.{length, length-set, getD}
 use lib.Ieee.{Float, binary64, mul}
-use Rattle.real.proofs.Truth.{both}
+use Rattle.doubles.proofs.Truth.{both}
 use Rattle.accumulator.specs.declared.StatisticsAccumulator.{StatisticsAccumulator}
 use Rattle.accumulator.specs.Record.{fresh, wellFormed}
 use Rattle.accumulator.specs.Steps.{addedOf}

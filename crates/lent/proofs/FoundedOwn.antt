@@ -6,8 +6,8 @@ use native.Mathlib.Omega.{arith}
 use lib.ListN.{length, getD, set, drop, replicate, length-replicate, length-set}
 use lib.Seq.{getD-set-same}
 use lib.Ieee.{Float, nan}
-use Rattle.real.specs.Count.{countOf}
-use Rattle.real.specs.Inverse.{invOf}
+use Rattle.doubles.specs.Count.{countOf}
+use Rattle.doubles.specs.Inverse.{invOf}
 use Rattle.accumulator.specs.declared.StatisticsAccumulator.{StatisticsAccumulator}
 use Rattle.accumulator.specs.Record.{fresh}
 use Rattle.model.specs.Axes.{Axis, emptyAxis, freshAxis, freshAxes}

@@ -8,8 +8,8 @@ use native.Mathlib.Omega.{arith}
 use borrow.Author.Tests.{ne-eqb, ltb-false, le-ltb}
 use lib.Dec.{ltb}
 use lib.ListN.{length, getD, replicate}
-use Rattle.real.proofs.Truth.{both}
-use Rattle.real.proofs.Steps.{inv-above, inv-finite}
+use Rattle.doubles.proofs.Truth.{both}
+use Rattle.doubles.proofs.Steps.{inv-above, inv-finite}
 use Rattle.accumulator.specs.Record.{fresh}
 use Rattle.accumulator.proofs.Laws.{fresh-sound}
 use Rattle.axis.specs.Edges.{evenEdges}

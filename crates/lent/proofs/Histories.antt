@@ -11,9 +11,9 @@ use borrow.Author.Tests.{eqb-true, eqb-false, le-ltb}
 use lib.Dec.{eqb, ltb}
 use lib.ListN.{length, replicate, length-replicate}
 use lib.Ieee.{Float}
-use Rattle.real.specs.Numbers.{zero64}
-use Rattle.real.specs.Paper.{Paper, gives, refuses}
-use Rattle.real.proofs.Ladder.{given}
+use Rattle.doubles.specs.Numbers.{zero64}
+use Rattle.doubles.specs.Paper.{Paper, gives, refuses}
+use Rattle.doubles.proofs.Ladder.{given}
 use Rattle.plan.specs.Bounds.{Bytes}
 use Rattle.plan.specs.Paper as plan
 use Rattle.plan.specs.Paper.{PlanRead}

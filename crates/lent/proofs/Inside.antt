@@ -5,7 +5,7 @@ use Prim.Native.Nat.{ℕ, suc, _+_, _-_, _*_, _≤_, _<_}
 use native.Mathlib.Omega.{arith}
 use lib.ListN.{length, set, replicate, length-replicate}
 use lib.Ieee.{Float, nan}
-use Rattle.real.specs.Numbers.{zero64}
+use Rattle.doubles.specs.Numbers.{zero64}
 use Rattle.lent.specs.Memory.{Memory, memory, put}
 use Rattle.lent.specs.Laid.{clearedReals, clearedCounts, waitlessAt, forgottenAt, headedAt, emptyAt, edgedAt}
 use Rattle.lent.proofs.Same.{same-refl, same-on, same-set-below, same-set-above, same-put-below, same-put-above, length-put}

@@ -11,10 +11,10 @@ use lib.Dec.{leb, eqb}
 use lib.ListN.{length, take, drop, getD, drop-of-length-le, length-drop}
 use lib.Seq.{drop-cons, length-take-le}
 use lib.Ieee.{Float, nan, ofBits}
-use Rattle.real.specs.Numbers.{zero64}
-use Rattle.real.specs.Finite.{finiteOf}
-use Rattle.real.specs.Total.{allFinite}
-use Rattle.real.proofs.Truth.{both}
+use Rattle.doubles.specs.Numbers.{zero64}
+use Rattle.doubles.specs.Finite.{finiteOf}
+use Rattle.doubles.specs.Total.{allFinite}
+use Rattle.doubles.proofs.Truth.{both}
 use Rattle.accumulator.specs.Record as record-of
 use Rattle.axis.specs.Edges.{wellFormed}
 use Rattle.axis.specs.Scans.{allBounded}

@@ -8,9 +8,9 @@ use native.Mathlib.Omega.{arith}
 use lib.Dec.{leb}
 use lib.ListN.{length, getD}
 use lib.Ieee.{Float, nan, binary64, add, lt}
-use Rattle.real.specs.Finite.{finiteOf}
-use Rattle.real.specs.Total.{allFinite}
-use Rattle.real.proofs.Truth.{both}
+use Rattle.doubles.specs.Finite.{finiteOf}
+use Rattle.doubles.specs.Total.{allFinite}
+use Rattle.doubles.proofs.Truth.{both}
 use Rattle.accumulator.specs.Record.{fresh, withWaiting, withExtremes, bounded, wellFormed}
 use Rattle.accumulator.specs.Steps.{mergedOf}
 use Rattle.axis.specs.Scans.{allBounded}

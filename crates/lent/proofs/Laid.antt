@@ -8,7 +8,7 @@ use native.Mathlib.Omega.{arith}
 use borrow.Author.Tests.{leb-true, ltb-true, ltb-false}
 use lib.Dec.{leb, ltb}
 use lib.ListN.{length, getD}
-use Rattle.real.proofs.Truth.{both}
+use Rattle.doubles.proofs.Truth.{both}
 use Rattle.plan.specs.declared.Tally.{Tally}
 use Rattle.plan.specs.declared.Needs.{Needs}
 use Rattle.plan.specs.declared.AxesPlan.{AxesPlan}

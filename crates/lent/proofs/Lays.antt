@@ -7,7 +7,7 @@ use native.Mathlib.Omega.{arith}
 use lib.ListN.{length, take, drop, replicate, length-drop}
 use lib.Seq.{length-take-le}
 use lib.Ieee.{Float}
-use Rattle.real.specs.Numbers.{zero64}
+use Rattle.doubles.specs.Numbers.{zero64}
 use Rattle.axis.specs.Edges.{binsOf, evenFrom, evenEdges}
 use Rattle.lent.specs.Layout.{stretch, axisReals, axisCounts}
 use Rattle.lent.specs.Memory.{Memory, memory, put, overAxes}

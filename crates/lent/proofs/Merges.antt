@@ -9,7 +9,7 @@ use borrow.Author.Tests.{eqb-true}
 use lib.Dec.{eqb}
 use lib.ListN.{length, getD}
 use lib.Ieee.{Float}
-use Rattle.real.proofs.Truth.{either, both}
+use Rattle.doubles.proofs.Truth.{either, both}
 use Rattle.model.specs.Axes.{Axis}
 use Rattle.model.specs.Sound.{keptAxis, keptAxisList}
 use Rattle.model.specs.Merge.{sameLengths, equalAll, equalEdges, mergeAxis, mergeAll}

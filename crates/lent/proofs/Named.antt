@@ -8,7 +8,7 @@ use borrow.Author.Tests.{lt-ltb, le-ltb, ne-eqb}
 use lib.Dec.{ltb}
 use lib.ListN.{getD}
 use lib.Ieee.{Float}
-use Rattle.real.specs.Paper.{Paper, gives, refuses}
+use Rattle.doubles.specs.Paper.{Paper, gives, refuses}
 use Rattle.accumulator.specs.declared.StatisticsAccumulator.{StatisticsAccumulator}
 use Rattle.accumulator.specs.declared.Estimate.{Estimate}
 use Rattle.accumulator.specs.Calls.{liveEstimateOf}

@@ -8,9 +8,9 @@ use borrow.Author.Tests.{ne-eqb, eqb-true, eqb-false, le-leb, lt-leb}
 use lib.Dec.{leb, ltb, eqb}
 use lib.ListN.{length, getD}
 use lib.Ieee.{Float, nan}
-use Rattle.real.specs.Finite.{finiteOf}
-use Rattle.real.specs.Total.{allFinite}
-use Rattle.real.specs.Paper.{Paper, gives, refuses}
+use Rattle.doubles.specs.Finite.{finiteOf}
+use Rattle.doubles.specs.Total.{allFinite}
+use Rattle.doubles.specs.Paper.{Paper, gives, refuses}
 use Rattle.model.specs.Grid.{Grid, Head, axes, bins, nothing, grid, many}
 use Rattle.model.specs.Sound.{sound, keptGrid}
 use Rattle.model.specs.Train.{faultOf, faultOfBin, faultOfChild, trainGrid, numbered, trainOf}

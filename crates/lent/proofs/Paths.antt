@@ -8,10 +8,10 @@ use borrow.Author.Tests.{lt-ltb, le-ltb, le-leb, lt-leb, eq-eqb, ne-eqb, leb-tru
 use lib.Dec.{leb, ltb, eqb}
 use lib.ListN.{length, getD}
 use lib.Ieee.{Float, nan, binary64, mul}
-use Rattle.real.specs.Numbers.{one64}
-use Rattle.real.specs.Inverse.{invOf}
-use Rattle.real.proofs.Truth.{both}
-use Rattle.real.specs.Paper.{gives, refuses}
+use Rattle.doubles.specs.Numbers.{one64}
+use Rattle.doubles.specs.Inverse.{invOf}
+use Rattle.doubles.proofs.Truth.{both}
+use Rattle.doubles.specs.Paper.{gives, refuses}
 use Rattle.axis.specs.declared.Probed.{Probed}
 use Rattle.axis.specs.declared.Probed.the-variants as probed
 use Rattle.axis.specs.Calls.{paperProbed}

@@ -7,7 +7,7 @@ use native.Mathlib.Omega.{arith}
 use borrow.Author.Tests.{le-leb, lt-leb, leb-true}
 use lib.Dec.{leb}
 use lib.ListN.{length, getD}
-use Rattle.real.proofs.Truth.{both}
+use Rattle.doubles.proofs.Truth.{both}
 use Rattle.lent.specs.declared.AxesAt.{AxesAt}
 use Rattle.lent.specs.Tree.{axesPlace, nowhere, placeFits, placeOf}
 

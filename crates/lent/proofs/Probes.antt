@@ -6,7 +6,7 @@ use Prim.Native.Nat.{ℕ, zero, suc, _+_, _-_, _≤_, _<_}
 use native.Mathlib.Omega.{arith}
 use lib.ListN.{length, getD, take, drop}
 use lib.Ieee.{Float, nan, binary64, mul}
-use Rattle.real.specs.Paper.{Paper, gives, refuses}
+use Rattle.doubles.specs.Paper.{Paper, gives, refuses}
 use Rattle.axis.specs.Edges.{inUnit, binOf, weightOf}
 use Rattle.axis.specs.declared.Probed.{Probed}
 use Rattle.axis.specs.declared.Probed.the-variants as probed

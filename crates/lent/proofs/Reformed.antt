@@ -10,12 +10,12 @@ use borrow.Author.Tests.{not-false, eqb-true, eq-eqb}
 use lib.Dec.{eqb}
 use lib.ListN.{length, getD, replicate, length-map, length-replicate}
 use lib.Ieee.{Float, eq}
-use Rattle.real.specs.Numbers.{zero64}
-use Rattle.real.specs.Finite.{finiteOf}
-use Rattle.real.specs.Total.{allFinite}
-use Rattle.real.specs.Paper.{Paper, gives, refuses}
-use Rattle.real.proofs.Truth.{both}
-use Rattle.real.proofs.Ladder.{passes, given, branch}
+use Rattle.doubles.specs.Numbers.{zero64}
+use Rattle.doubles.specs.Finite.{finiteOf}
+use Rattle.doubles.specs.Total.{allFinite}
+use Rattle.doubles.specs.Paper.{Paper, gives, refuses}
+use Rattle.doubles.proofs.Truth.{both}
+use Rattle.doubles.proofs.Ladder.{passes, given, branch}
 use Rattle.accumulator.specs.declared.StatisticsAccumulator.{StatisticsAccumulator}
 use Rattle.accumulator.specs.Record.{fresh, finiteSums, boundedCounts, bounded, withWaiting}
 use Rattle.accumulator.specs.Record as account

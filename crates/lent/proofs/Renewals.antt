@@ -7,14 +7,14 @@ use lib.ListN.{length, take, drop, getD, List·getD-eq-default}
 use lib.Dec.{eqb, leb}
 use lib.Ieee.{Float, eq}
 use borrow.Author.Tests.{lt-leb, le-leb}
-use Rattle.real.specs.Numbers.{zero64}
-use Rattle.real.specs.Total.{allFinite}
-use Rattle.real.proofs.Truth.{failed, passed}
+use Rattle.doubles.specs.Numbers.{zero64}
+use Rattle.doubles.specs.Total.{allFinite}
+use Rattle.doubles.proofs.Truth.{failed, passed}
 use Rattle.accumulator.specs.Record.{bounded}
 use Rattle.axis.specs.Scans.{allBounded}
 use Rattle.recut.specs.Gather.{gatheredOf, joinedCounts, reachesOf}
 use mathlib.Core.Bool.{Bool, true, false, not, _&&_}
-use Rattle.real.specs.Paper.{Paper, gives, refuses}
+use Rattle.doubles.specs.Paper.{Paper, gives, refuses}
 use Rattle.recut.specs.declared.Renewed.{Renewed}
 use Rattle.recut.specs.declared.Renewed.the-variants as renewed
 use Rattle.recut.specs.Renew.{paperRenewed, renewOf}

@@ -11,7 +11,7 @@ use lib.Dec.{leb}
 use lib.ListN.{length, drop, getD, drop-of-length-le}
 use lib.Seq.{drop-cons}
 use lib.Ieee.{Float}
-use Rattle.real.proofs.Truth.{both}
+use Rattle.doubles.proofs.Truth.{both}
 use Rattle.lent.specs.Layout.{axisReals, axisCounts, roomyAxes}
 use Rattle.lent.specs.Memory.{Memory}
 use Rattle.lent.specs.Laid.{Roomy, roomy, whereRoomy, waitlessAt, waitlessOf, emptyAt, emptyOf}

@@ -7,7 +7,7 @@ use native.Mathlib.Omega.{arith}
 use lib.ListN.{length, take, drop, getD, set, replicate, getD-replicate, drop-of-length-le, length-drop}
 use lib.Seq.{sets, set-out, sets-eq, drop-cons, drop-drop, drop-length, getD-drop, take-all}
 use lib.Ieee.{Float, nan}
-use Rattle.real.specs.Numbers.{zero64}
+use Rattle.doubles.specs.Numbers.{zero64}
 use Rattle.lent.specs.Memory.{Memory, memory, put, fromOn, recordAt, recordFrom}
 use Rattle.lent.specs.Cleared.{clearedAt}
 

@@ -9,9 +9,9 @@ use borrow.Author.Tests.{ne-eqb}
 use lib.ListN.{length, take, drop, set, getD, replicate, length-replicate, replicate-append-replicate, drop-of-length-le, length-drop}
 use lib.Seq.{drop-cons, length-take-le, set-comm, sets, sets-eq, take-at, drop-at, take-append-add}
 use lib.Ieee.{Float, nan, binary64, add, mul, le}
-use Rattle.real.specs.Numbers.{zero64, one64}
-use Rattle.real.specs.Inverse.{invOf}
-use Rattle.real.proofs.Truth.{both}
+use Rattle.doubles.specs.Numbers.{zero64, one64}
+use Rattle.doubles.specs.Inverse.{invOf}
+use Rattle.doubles.proofs.Truth.{both}
 use Rattle.stream.specs.declared.MonteCarloRng.{MonteCarloRng}
 use Rattle.stream.specs.declared.Unit.{Unit}
 use Rattle.stream.specs.Xoshiro.{wordOf, stepOf}

@@ -9,9 +9,9 @@ use lib.Dec.{leb}
 use lib.ListN.{length, drop, getD, drop-of-length-le}
 use lib.Seq.{drop-cons}
 use lib.Ieee.{Float, binary64, add, eq}
-use Rattle.real.specs.Finite.{finiteOf}
-use Rattle.real.specs.Total.{allFinite}
-use Rattle.real.proofs.Truth.{both}
+use Rattle.doubles.specs.Finite.{finiteOf}
+use Rattle.doubles.specs.Total.{allFinite}
+use Rattle.doubles.proofs.Truth.{both}
 use Rattle.axis.specs.Scans.{allBounded}
 use Rattle.recut.specs.Pairs.{pairwise}
 use Rattle.recut.specs.Gather.{gatheredOf, joinedCount, joinedCounts}

@@ -7,7 +7,7 @@ use native.Mathlib.Omega.{arith}
 use borrow.Author.Tests.{ne-eqb}
 use lib.ListN.{length, take, drop}
 use lib.Ieee.{Float}
-use Rattle.real.proofs.Truth.{failed, passed}
+use Rattle.doubles.proofs.Truth.{failed, passed}
 use Rattle.plan.specs.declared.Needs.{Needs}
 use Rattle.plan.specs.declared.Sized.{Sized}
 use Rattle.plan.specs.declared.Sized.the-variants as sized

@@ -8,7 +8,7 @@ use native.Mathlib.Omega.{arith}
 use lib.ListN.{length, take, drop, set, getD}
 use lib.Seq.{take-suc-set, length-take-le}
 use lib.Ieee.{Float, nan}
-use Rattle.real.proofs.Truth.{both}
+use Rattle.doubles.proofs.Truth.{both}
 use Rattle.axis.specs.Edges.{inUnit, binOf}
 use Rattle.lent.specs.Layout.{stretch, axisReals, axisCounts, axisAt, axesFrom}
 use Rattle.lent.specs.Memory.{Memory, Asked}

@@ -16,7 +16,7 @@ use Rattle.plan.specs.Paper as plan
 use Rattle.plan.specs.Calls.{sizesOf}
 use Rattle.plan.proofs.Tables.{Words}
 use Rattle.model.specs.Sound.{sound}
-use Rattle.real.specs.Paper.{Paper, gives, refuses}
+use Rattle.doubles.specs.Paper.{Paper, gives, refuses}
 use Rattle.lent.specs.Memory.{recordAt}
 use Rattle.lent.specs.Tree.{axesGridAt, headAt, Laid}
 use Rattle.lent.specs.State.{rootOf, ownOf, judgedBy, judgedTo, faultBy, stateFault, faultToBy, faultTo, bothJudged, secondBy, firstBy, pairFault}

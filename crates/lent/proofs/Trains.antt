@@ -8,9 +8,9 @@ use native.Mathlib.Omega.{arith}
 use lib.ListN.{length, take, drop, getD}
 use lib.Seq.{drop-cons}
 use lib.Ieee.{Float, nan, eq, lt, le}
-use Rattle.real.specs.Numbers.{zero64}
+use Rattle.doubles.specs.Numbers.{zero64}
 use Rattle.accumulator.specs.Steps.{zeroCount}
-use Rattle.real.proofs.Truth.{both}
+use Rattle.doubles.proofs.Truth.{both}
 use Rattle.axis.specs.Edges.{wellFormed, binOf}
 use Rattle.axis.proofs.Bins.{bin-rule, or-left}
 use Rattle.lent.specs.Layout.{axisReals, axisCounts}

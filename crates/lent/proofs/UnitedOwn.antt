@@ -9,7 +9,7 @@ use borrow.Author.Tests.{eq-eqb, eqb-true, leb-true, leb-false}
 use lib.Dec.{eqb, leb}
 use lib.ListN.{length, getD}
 use lib.Ieee.{Float, nan}
-use Rattle.real.proofs.Truth.{either, both}
+use Rattle.doubles.proofs.Truth.{either, both}
 use Rattle.accumulator.specs.declared.StatisticsAccumulator.{StatisticsAccumulator}
 use Rattle.accumulator.specs.Record.{wellFormed}
 use Rattle.accumulator.specs.Steps.{mergedOf}

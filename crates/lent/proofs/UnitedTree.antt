@@ -9,9 +9,9 @@ use borrow.Author.Tests.{ne-eqb, eq-eqb, eqb-true, not-false}
 use lib.Dec.{eqb}
 use lib.ListN.{length, drop, getD}
 use lib.Ieee.{Float, nan}
-use Rattle.real.specs.Paper.{Paper, gives}
-use Rattle.real.proofs.Truth.{either, both}
-use Rattle.real.proofs.Ladder.{passes, given}
+use Rattle.doubles.specs.Paper.{Paper, gives}
+use Rattle.doubles.proofs.Truth.{either, both}
+use Rattle.doubles.proofs.Ladder.{passes, given}
 use Rattle.accumulator.specs.Record as account
 use Rattle.accumulator.specs.Steps.{mergedOf}
 use Rattle.plan.specs.declared.Tally.{Tally}

@@ -8,9 +8,9 @@ use lib.ListN.{length, getD, length-map}
 use native.Mathlib.Numerals.{add-one}
 use lib.Seq.{drop-cons}
 use lib.Ieee.{Float, nan, eq}
-use Rattle.real.specs.Numbers.{zero64}
-use Rattle.real.specs.Total.{allFinite}
-use Rattle.real.specs.Paper.{Paper, gives, refuses}
+use Rattle.doubles.specs.Numbers.{zero64}
+use Rattle.doubles.specs.Total.{allFinite}
+use Rattle.doubles.specs.Paper.{Paper, gives, refuses}
 use Rattle.accumulator.specs.declared.StatisticsAccumulator.{StatisticsAccumulator}
 use Rattle.accumulator.specs.Record.{withWaiting, withExtremes, bounded}
 use Rattle.accumulator.specs.Steps.{clearedOf}

@@ -6,8 +6,8 @@ use mathlib.Core.List.{List, [], _∷_}
 use lib.Dec.{eqb}
 use lib.ListN.{length, getD}
 use lib.Ieee.{Float, binary64, ofBits, eq}
-use Rattle.real.specs.Numbers.{zero64}
-use Rattle.real.specs.Paper.{Paper, gives, refuses}
+use Rattle.doubles.specs.Numbers.{zero64}
+use Rattle.doubles.specs.Paper.{Paper, gives, refuses}
 use Rattle.accumulator.specs.Calls.{Stepped, stepped}
 use Rattle.accumulator.specs.Calls as account
 use Rattle.recut.specs.Chances.{allChances, adaptedTo}

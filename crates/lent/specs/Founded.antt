@@ -5,8 +5,8 @@ use Prim.Native.Nat.{ℕ, zero, suc, _+_, _*_}
 use lib.Dec.{eqb}
 use lib.ListN.{getD, set, replicate}
 use lib.Ieee.{binary64, ofBits}
-use Rattle.real.specs.Count.{countOf}
-use Rattle.real.specs.Inverse.{invOf}
+use Rattle.doubles.specs.Count.{countOf}
+use Rattle.doubles.specs.Inverse.{invOf}
 use Rattle.accumulator.specs.Record.{fresh}
 use Rattle.model.specs.Axes.{freshAxes}
 use Rattle.model.specs.Grid.{Grid, Child, axes, freshGrid}

@@ -5,7 +5,7 @@ use mathlib.Core.List.{List, [], _∷_}
 use lib.Dec.{leb}
 use lib.ListN.{length, getD}
 use lib.Ieee.{Float}
-use Rattle.real.specs.Total.{allFinite}
+use Rattle.doubles.specs.Total.{allFinite}
 use Rattle.axis.specs.Edges.{wellFormed}
 use Rattle.axis.specs.Scans.{allBounded}
 use Rattle.accumulator.specs.Record as account

@@ -5,7 +5,7 @@ use mathlib.Core.List.{List}
 use lib.Dec.{leb}
 use lib.ListN.{length, set, replicate}
 use lib.Ieee.{Float}
-use Rattle.real.specs.Numbers.{zero64}
+use Rattle.doubles.specs.Numbers.{zero64}
 use Rattle.axis.specs.Edges.{evenEdges}
 use Rattle.lent.specs.Layout.{axisReals, axisCounts, roomyAxes}
 use Rattle.lent.specs.Memory.{Memory, memory, put}

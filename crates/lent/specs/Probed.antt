@@ -5,8 +5,8 @@ use mathlib.Core.List.{List, [], _∷_}
 use lib.Dec.{leb, eqb}
 use lib.ListN.{length, getD}
 use lib.Ieee.{Float, nan}
-use Rattle.real.specs.Numbers.{one64}
-use Rattle.real.specs.Paper.{Paper, refuses}
+use Rattle.doubles.specs.Numbers.{one64}
+use Rattle.doubles.specs.Paper.{Paper, refuses}
 use Rattle.model.specs.Axes.{Axis}
 use Rattle.model.specs.Draw.{flooredOf}
 use Rattle.model.specs.Probe.{Coordinate, open′, given, probeAll, through}

@@ -7,7 +7,7 @@ use mathlib.Core.List.{List, [], _∷_}
 use lib.ListN.{length, getD}
 use lib.Seq.{sets}
 use lib.Ieee.{Float, nan}
-use Rattle.real.specs.Numbers.{zero64}
+use Rattle.doubles.specs.Numbers.{zero64}
 use Rattle.model.specs.Grid.{Child}
 use Rattle.model.specs.Sound.{formedChild, keptChild}
 use Rattle.model.specs.Draw.{Sample, Drawing, weightAt}

@@ -3,7 +3,7 @@ use mathlib.Core.Path.{_≡_}
 use mathlib.Core.Bool.{Bool}
 use mathlib.Core.List.{List}
 use lib.Ieee.{Float}
-use Rattle.real.specs.Numbers.{one64}
+use Rattle.doubles.specs.Numbers.{one64}
 use Rattle.stream.specs.declared.MonteCarloRng.{MonteCarloRng}
 use Rattle.model.specs.Axes.{Axis}
 use Rattle.model.specs.Draw.{walked, placedFrom}

@@ -6,7 +6,7 @@ use mathlib.Core.List.{List, [], _∷_}
 use lib.Dec.{leb, eqb}
 use lib.ListN.{length, getD, set}
 use lib.Ieee.{Float, nan, binary64, add, mul}
-use Rattle.real.specs.Finite.{finiteOf}
+use Rattle.doubles.specs.Finite.{finiteOf}
 use Rattle.accumulator.specs.Steps.{zeroCount}
 use Rattle.axis.specs.Edges.{inUnit, binOf}
 use Rattle.model.specs.Axes.{Axis}

@@ -7,7 +7,7 @@ use Prim.Native.Nat.{ℕ, zero, suc, _+_, _*_, _^_, _≤_, _<_}
 use lib.Dec.{eqb, leb}
 use lib.ListN.{length, getD}
 use lib.Ieee.{Float, nan, binary64, ofBits}
-use Rattle.real.specs.Numbers.{zero64}
+use Rattle.doubles.specs.Numbers.{zero64}
 use Rattle.plan.specs.Numbers.{wordsAt}
 use Rattle.plan.specs.Ranges.{floorFits, ratioFits}
 use Rattle.model.specs.Axes.{AxesPlan, AxesGrid}

@@ -8,8 +8,8 @@ use native.Mathlib.Omega.{arith}
 use lib.ListN.{length, getD, set, replicate}
 use lib.Ieee.{Float}
 use borrow.Author.Tests.{leb-true}
-use Rattle.real.specs.Paper.{gives}
-use Rattle.real.proofs.Truth.{both}
+use Rattle.doubles.specs.Paper.{gives}
+use Rattle.doubles.proofs.Truth.{both}
 use Rattle.accumulator.specs.declared.StatisticsAccumulator.{StatisticsAccumulator}
 use Rattle.accumulator.specs.Record.{fresh, wellFormed, withWaiting}
 use Rattle.accumulator.specs.Steps.{addedOf, mergedOf, clearedOf}

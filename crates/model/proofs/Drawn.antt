@@ -11,9 +11,9 @@ use lib.Pow.{pow-pos, shr-lt}
 use lib.ListN.{length}
 use lib.Ieee.{Float, binary64, add, lt, le, eq, ofBits}
 use borrow.Author.Tests.{lt-ltb, eqb-true, eq-eqb}
-use Rattle.real.specs.Numbers.{zero64, one64}
-use Rattle.real.proofs.Truth.{is, both}
-use Rattle.real.proofs.Order.{le-trans-float}
+use Rattle.doubles.specs.Numbers.{zero64, one64}
+use Rattle.doubles.proofs.Truth.{is, both}
+use Rattle.doubles.proofs.Order.{le-trans-float}
 use Rattle.stream.specs.declared.MonteCarloRng.{MonteCarloRng}
 use Rattle.stream.specs.Words.{times}
 use Rattle.stream.specs.Xoshiro.{wordOf, stepOf}

@@ -7,11 +7,11 @@ use mathlib.Core.Logic.{inl, inr}
 use mathlib.Core.List.{List}
 use lib.ListN.{length}
 use lib.Ieee.{Float, eq}
-use Rattle.real.specs.Numbers.{zero64}
-use Rattle.real.specs.Total.{allFinite}
-use Rattle.real.specs.Paper.{Paper, gives, refuses}
+use Rattle.doubles.specs.Numbers.{zero64}
+use Rattle.doubles.specs.Total.{allFinite}
+use Rattle.doubles.specs.Paper.{Paper, gives, refuses}
 use borrow.Author.Tests.{not-true}
-use Rattle.real.proofs.Ladder.{passes, given, branch}
+use Rattle.doubles.proofs.Ladder.{passes, given, branch}
 use Rattle.accumulator.specs.Record.{bounded}
 use Rattle.axis.specs.Edges.{wellFormed}
 use Rattle.axis.specs.Scans.{allBounded}

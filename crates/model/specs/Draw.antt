@@ -3,8 +3,8 @@ use Prim.Native.Nat.{ℕ, zero, suc}
 use mathlib.Core.Bool.{Bool, true, false, cond}
 use mathlib.Core.List.{List, [], _∷_}
 use lib.Ieee.{Float, binary64, add, sub, mul, div, lt, le, eq}
-use Rattle.real.specs.Numbers.{zero64, one64}
-use Rattle.real.specs.Inverse.{invOf}
+use Rattle.doubles.specs.Numbers.{zero64, one64}
+use Rattle.doubles.specs.Inverse.{invOf}
 use Rattle.stream.specs.declared.MonteCarloRng.{MonteCarloRng}
 use Rattle.stream.specs.Xoshiro.{wordOf, stepOf}
 use Rattle.stream.specs.Calls.{unitOf}

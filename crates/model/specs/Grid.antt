@@ -4,8 +4,8 @@ use mathlib.Core.Bool.{Bool}
 use mathlib.Core.List.{List, [], _∷_}
 use lib.ListN.{length}
 use lib.Ieee.{Float}
-use Rattle.real.specs.Count.{countOf}
-use Rattle.real.specs.Inverse.{invOf}
+use Rattle.doubles.specs.Count.{countOf}
+use Rattle.doubles.specs.Inverse.{invOf}
 use Rattle.accumulator.specs.declared.StatisticsAccumulator.{StatisticsAccumulator}
 use Rattle.accumulator.specs.Record.{fresh}
 use Rattle.accumulator.specs.Steps.{clearedOf}

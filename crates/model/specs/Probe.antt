@@ -6,9 +6,9 @@ use mathlib.Core.List.{List, [], _∷_}
 use lib.Dec.{ltb, eqb}
 use lib.ListN.{length}
 use lib.Ieee.{Float, binary64, mul}
-use Rattle.real.specs.Numbers.{one64}
-use Rattle.real.specs.Inverse.{invOf}
-use Rattle.real.specs.Paper.{Paper, gives, refuses}
+use Rattle.doubles.specs.Numbers.{one64}
+use Rattle.doubles.specs.Inverse.{invOf}
+use Rattle.doubles.specs.Paper.{Paper, gives, refuses}
 use Rattle.axis.specs.Edges.{inUnit, binOf, weightOf}
 use Rattle.model.specs.Axes.{Axis, AxesGrid}
 use Rattle.model.specs.Grid.{Grid, Bins, Child, axes, bins, none, more, nothing, grid, many}

@@ -6,12 +6,12 @@ use mathlib.Core.List.{List, [], _∷_, map}
 use lib.Dec.{ltb, eqb}
 use lib.ListN.{length, getD}
 use lib.Ieee.{Float, binary64, ofBits, mul, le, eq}
-use Rattle.real.specs.Numbers.{zero64}
+use Rattle.doubles.specs.Numbers.{zero64}
 use Rattle.real.specs.Norm.{normOf}
-use Rattle.real.specs.Count.{countOf}
-use Rattle.real.specs.Root.{rootOf}
-use Rattle.real.specs.Total.{allFinite}
-use Rattle.real.specs.Paper.{Paper, gives, refuses}
+use Rattle.doubles.specs.Count.{countOf}
+use Rattle.careful.specs.Root.{rootOf}
+use Rattle.doubles.specs.Total.{allFinite}
+use Rattle.doubles.specs.Paper.{Paper, gives, refuses}
 use Rattle.accumulator.specs.declared.StatisticsAccumulator.{StatisticsAccumulator}
 use Rattle.accumulator.specs.Record.{bounded, wellFormed}
 use Rattle.accumulator.specs.Steps.{clearedOf}

@@ -2,7 +2,7 @@
 ghost use mathlib.Core.Path.{_≡_};
 ghost use mathlib.Core.Bool.{true, cond, _||_};
 ghost use lib.Ieee.{binary64, mul};
-ghost use Rattle.real.specs.Numbers.{one64};
+ghost use Rattle.doubles.specs.Numbers.{one64};
 ghost use Rattle.axis.specs.Edges.{wellFormed, inUnit, binOf, weightOf};
 ghost use Rattle.axis.specs.Calls.{paperProbed};
 ghost use Rattle.model.specs.Draw.{flooredOf};

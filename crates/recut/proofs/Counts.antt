@@ -10,7 +10,7 @@ use borrow.Author.Tests.{leb-true, leb-false, le-leb, lt-leb, ne-eqb}
 use lib.Dec.{leb, eqb}
 use lib.ListN.{length, getD, drop, drop-of-length-le}
 use lib.Seq.{drop-cons}
-use Rattle.real.proofs.Truth.{either}
+use Rattle.doubles.proofs.Truth.{either}
 use Rattle.recut.specs.Gather.{sumOf, reachesOf}
 
 -- a count taken from both sides

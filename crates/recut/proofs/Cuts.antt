@@ -6,7 +6,7 @@ use native.Mathlib.Nat.{not-suc-le-zero}
 use native.Mathlib.Numerals.{unary-clauses}
 use lib.ListN.{length, take, drop, set, length-set, drop-of-length-le}
 use lib.Ieee.{Float, nan, binary64, add}
-use Rattle.real.specs.Numbers.{zero64, one64}
+use Rattle.doubles.specs.Numbers.{zero64, one64}
 use Rattle.recut.specs.declared.cut.Spot.{Spot}
 use Rattle.recut.specs.Cut.{spot, walkTo, edgeAt, edgesFrom, cutsOf}
 use Rattle.recut.proofs.Writes.{rest-next, rest-done}

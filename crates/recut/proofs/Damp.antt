@@ -6,7 +6,7 @@ use native.Mathlib.Numerals.{add-one}
 use lib.ListN.{length, getD, take, drop, set, drop-of-length-le}
 use lib.Seq.{drop-cons}
 use lib.Ieee.{Float, nan, binary64, add}
-use Rattle.real.specs.Total.{totalOf}
+use Rattle.doubles.specs.Total.{totalOf}
 use Rattle.recut.specs.Weights.{dampOne, damped}
 use Rattle.recut.proofs.Writes.{rest-next, rest-done}
 

@@ -4,12 +4,12 @@ use mathlib.Core.Bool.{Bool, true, false, not, cond, false≢true}
 use mathlib.Core.List.{List, [], _∷_}
 use Prim.Native.Nat.{ℕ}
 use lib.Ieee.{Float, binary64, add, mul}
-use Rattle.real.specs.Numbers.{zero64}
-use Rattle.real.specs.Finite.{finiteOf}
-use Rattle.real.specs.Total.{totalOf, allFinite}
-use Rattle.real.specs.Paper.{Paper, refuses}
-use Rattle.real.proofs.Truth.{both}
-use Rattle.real.proofs.Finiteness.{add-finite, mul-finite, div-finite, total-finite}
+use Rattle.doubles.specs.Numbers.{zero64}
+use Rattle.doubles.specs.Finite.{finiteOf}
+use Rattle.doubles.specs.Total.{totalOf, allFinite}
+use Rattle.doubles.specs.Paper.{Paper, refuses}
+use Rattle.doubles.proofs.Truth.{both}
+use Rattle.doubles.proofs.Finiteness.{add-finite, mul-finite, div-finite, total-finite}
 use Rattle.recut.specs.Weights.{three64, four64, six64, eight64, firstOf, innerOf, lastOf, smoothedFrom, smoothed, damped}
 use Rattle.recut.specs.Cut.{cutsOf}
 use Rattle.recut.specs.Renew.{finiteTotal, stepOf, edgesOf, fromDamped, fromSmoothed, fromDivided}

@@ -7,11 +7,11 @@ use Prim.Native.Nat.{ℕ, _+_, _^_, _≤_, _<_}
 use borrow.Author.Tests.{not-false, le-leb, leb-true, leb-false}
 use lib.ListN.{length}
 use lib.Ieee.{Float, binary64, add}
-use Rattle.real.specs.Numbers.{zero64}
-use Rattle.real.specs.Finite.{finiteOf}
-use Rattle.real.specs.Total.{totalOf, allFinite}
-use Rattle.real.specs.Paper.{gives}
-use Rattle.real.proofs.Ladder.{passes, given}
+use Rattle.doubles.specs.Numbers.{zero64}
+use Rattle.doubles.specs.Finite.{finiteOf}
+use Rattle.doubles.specs.Total.{totalOf, allFinite}
+use Rattle.doubles.specs.Paper.{gives}
+use Rattle.doubles.proofs.Ladder.{passes, given}
 use Rattle.axis.specs.Edges.{wellFormed}
 use Rattle.recut.specs.Gather.{gatheredOf, joinedCount, joinedCounts, sumOf, reachesOf}
 use Rattle.recut.specs.Weights.{normalised, smoothed, damped}

@@ -7,12 +7,12 @@ use borrow.Author.Tests.{leb-true, eqb-true}
 use lib.Dec.{leb, eqb}
 use lib.ListN.{length}
 use lib.Ieee.{Float, binary64, div}
-use Rattle.real.specs.Numbers.{zero64}
-use Rattle.real.specs.Count.{countOf}
-use Rattle.real.specs.Finite.{finiteOf}
-use Rattle.real.specs.Total.{totalOf}
-use Rattle.real.specs.Paper.{Paper, gives, refuses}
-use Rattle.real.proofs.Truth.{both, failed, passed}
+use Rattle.doubles.specs.Numbers.{zero64}
+use Rattle.doubles.specs.Count.{countOf}
+use Rattle.doubles.specs.Finite.{finiteOf}
+use Rattle.doubles.specs.Total.{totalOf}
+use Rattle.doubles.specs.Paper.{Paper, gives, refuses}
+use Rattle.doubles.proofs.Truth.{both, failed, passed}
 use Rattle.axis.specs.Edges.{wellFormed}
 use Rattle.recut.specs.Weights.{normalised, smoothed, damped}
 use Rattle.recut.specs.Cut.{cutsOf}

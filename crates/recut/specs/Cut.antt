@@ -4,7 +4,7 @@ use mathlib.Core.Bool.{cond}
 use mathlib.Core.List.{List, [], _∷_}
 use lib.ListN.{getD, set, drop}
 use lib.Ieee.{Float, nan, binary64, add, sub, mul, div, lt}
-use Rattle.real.specs.Numbers.{zero64, one64}
+use Rattle.doubles.specs.Numbers.{zero64, one64}
 use Rattle.recut.specs.declared.cut.Spot.{Spot}
 
 -- where the walk over the old bins stands: the weight passed, and the bin

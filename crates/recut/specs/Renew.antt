@@ -5,11 +5,11 @@ use mathlib.Core.List.{List}
 use lib.Dec.{leb, eqb}
 use lib.ListN.{length}
 use lib.Ieee.{Float, binary64, div}
-use Rattle.real.specs.Numbers.{zero64}
-use Rattle.real.specs.Count.{countOf}
-use Rattle.real.specs.Finite.{finiteOf}
-use Rattle.real.specs.Total.{totalOf, allFinite}
-use Rattle.real.specs.Paper.{Paper, gives, refuses}
+use Rattle.doubles.specs.Numbers.{zero64}
+use Rattle.doubles.specs.Count.{countOf}
+use Rattle.doubles.specs.Finite.{finiteOf}
+use Rattle.doubles.specs.Total.{totalOf, allFinite}
+use Rattle.doubles.specs.Paper.{Paper, gives, refuses}
 use Rattle.axis.specs.Edges.{wellFormed}
 use Rattle.recut.specs.declared.Renewed.{Renewed}
 use Rattle.recut.specs.declared.Renewed.the-variants as renewed

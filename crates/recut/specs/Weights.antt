@@ -4,9 +4,9 @@ use mathlib.Core.Bool.{cond}
 use mathlib.Core.List.{List, [], _∷_, map}
 use lib.Dec.{ltb}
 use lib.Ieee.{Float, binary64, add, sub, mul, div, eq, ofBits}
-use Rattle.real.specs.Numbers.{zero64, one64}
+use Rattle.doubles.specs.Numbers.{zero64, one64}
 use Rattle.real.specs.Norm.{normOf}
-use Rattle.real.specs.Count.{countOf}
+use Rattle.doubles.specs.Count.{countOf}
 use Rattle.real.specs.Ln.{lnOf}
 use Rattle.real.specs.Power.{powerOf}
 use Rattle.recut.specs.Pairs.{pairwise}

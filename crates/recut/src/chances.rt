@@ -1,7 +1,7 @@
 // A bins grid's probabilities after an update: raw ones held up by the ratio, then divided by their sum.
 ghost use mathlib.Core.Path.{_≡_};
 ghost use mathlib.Core.List.{map};
-ghost use Rattle.real.specs.Numbers.{zero64};
+ghost use Rattle.doubles.specs.Numbers.{zero64};
 ghost use Rattle.recut.specs.Chances.{chance, allChances, higher, highest, raisedTo, shareOf};
 
 // The second where it is above the first, else the first.

@@ -1,8 +1,8 @@
 // What becomes of an axis's importances before its edges are cut: divided by the counts, smoothed, damped.
 ghost use mathlib.Core.Path.{_≡_};
 ghost use lib.ListN.{length};
-ghost use Rattle.real.specs.Numbers.{zero64};
-ghost use Rattle.real.specs.Total.{totalOf};
+ghost use Rattle.doubles.specs.Numbers.{zero64};
+ghost use Rattle.doubles.specs.Total.{totalOf};
 ghost use Rattle.recut.specs.Weights.{perCount, normalised, smoothed, dampShare, dampOne, damped};
 
 // The size of an importance, divided by its count where that is above 0.

@@ -3,7 +3,7 @@ ghost use mathlib.Core.Path.{_≡_};
 ghost use mathlib.Core.Bool.{true};
 ghost use Prim.Native.Nat.{_≤_};
 ghost use lib.ListN.{length};
-ghost use Rattle.real.specs.Numbers.{one64};
+ghost use Rattle.doubles.specs.Numbers.{one64};
 ghost use Rattle.axis.specs.Edges.{wellFormed, inUnit};
 ghost use Rattle.model.specs.Draw.{placeOn, walked, placedFrom, flooredOf};
 ghost use Rattle.lent.specs.Drawn.{axesAt, Places, underFloor, Stands};

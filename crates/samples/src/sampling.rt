@@ -3,7 +3,7 @@ ghost use mathlib.Core.Path.{_≡_};
 ghost use mathlib.Core.Bool.{true};
 ghost use Prim.Native.Nat.{_+_, _≤_, _<_};
 ghost use lib.ListN.{length, getD};
-ghost use Rattle.real.specs.Numbers.{zero64};
+ghost use Rattle.doubles.specs.Numbers.{zero64};
 ghost use Rattle.model.specs.Grid.{axes, bins};
 ghost use Rattle.model.specs.Sound.{sound};
 ghost use Rattle.model.specs.Draw.{reached, drawAxes, drawNothing, drawGrid, drawChild};

@@ -7,15 +7,15 @@ use Prim.Native.Nat.{ℕ, _+_}
 use lib.Dec.{eqb}
 use lib.ListN.{replicate}
 use lib.Ieee.{Float, binary64, add, sub, mul, div, lt, le, eq, ofInt, toUnsigned, ofBits, toBits}
-use Rattle.real.specs.Numbers.{zero64}
+use Rattle.doubles.specs.Numbers.{zero64}
 use Rattle.real.specs.Norm.{normOf}
-use Rattle.real.specs.Whole.{wholeOf}
-use Rattle.real.specs.Total.{totalOf, allFinite}
-use Rattle.real.specs.Finite.{finiteOf}
-use Rattle.real.specs.Inverse.{invOf}
-use Rattle.real.specs.Count.{countOf}
-use Rattle.real.specs.Root.{isqrt, squares, rootOf}
-use Rattle.real.specs.Paper.{Paper, gives, refuses}
+use Rattle.doubles.specs.Whole.{wholeOf}
+use Rattle.doubles.specs.Total.{totalOf, allFinite}
+use Rattle.doubles.specs.Finite.{finiteOf}
+use Rattle.doubles.specs.Inverse.{invOf}
+use Rattle.doubles.specs.Count.{countOf}
+use Rattle.careful.specs.Root.{isqrt, squares, rootOf}
+use Rattle.doubles.specs.Paper.{Paper, gives, refuses}
 use Rattle.stream.specs.declared.MonteCarloRng.{MonteCarloRng}
 use Rattle.stream.specs.Words.{times, shiftedUp, shiftedDown, rotated}
 use Rattle.stream.specs.Xoshiro.{wordOf, stepOf}

@@ -7,17 +7,17 @@ use lib.Dec.{eqb}
 use lib.ListN.{length}
 use lib.Ieee as Ieee
 use lib.Ieee.{Float, binary64, ofBits, toBits}
-use Rattle.real.specs.Numbers.{zero64}
+use Rattle.doubles.specs.Numbers.{zero64}
 use Rattle.real.specs.Norm as Norm
-use Rattle.real.specs.Whole as Whole
-use Rattle.real.specs.Total as Total
-use Rattle.real.specs.Finite as Finite
-use Rattle.real.specs.Inverse as Inverse
-use Rattle.real.specs.Count as Count
-use Rattle.real.specs.Root as Root
+use Rattle.doubles.specs.Whole as Whole
+use Rattle.doubles.specs.Total as Total
+use Rattle.doubles.specs.Finite as Finite
+use Rattle.doubles.specs.Inverse as Inverse
+use Rattle.doubles.specs.Count as Count
+use Rattle.careful.specs.Root as Root
 use Rattle.real.specs.Ln as Ln
 use Rattle.real.specs.Power as Power
-use Rattle.real.specs.Paper.{Paper, gives, refuses}
+use Rattle.doubles.specs.Paper.{Paper, gives, refuses}
 use Rattle.stream.specs.declared.MonteCarloRng.{MonteCarloRng}
 use Rattle.stream.specs.Words as Words
 use Rattle.stream.specs.Xoshiro as Xoshiro

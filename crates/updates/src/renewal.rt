@@ -3,7 +3,7 @@ ghost use mathlib.Core.Path.{_≡_};
 ghost use mathlib.Core.Bool.{_&&_};
 ghost use Prim.Native.Nat.{_+_, _*_, _≤_};
 ghost use lib.ListN.{length, getD};
-ghost use Rattle.real.specs.Total.{allFinite};
+ghost use Rattle.doubles.specs.Total.{allFinite};
 ghost use Rattle.axis.specs.Scans.{allBounded};
 ghost use Rattle.recut.specs.Gather.{gatheredOf, joinedCounts};
 ghost use Rattle.recut.specs.Renew.{renewOf};

@@ -1,6 +1,6 @@
 -- The refusals in their order; where none before it holds, the record after the sample is at fault.
 use borrow.Author.Tests.{lt-leb, le-leb}
-use Rattle.real.proofs.Truth.{failed, passed}
+use Rattle.doubles.proofs.Truth.{failed, passed}
 use Rattle.accumulator.specs.Calls.{keptOf, numbered, addSampleOf}
 use borrow.Author.Needs.{needs}
 use Rattle.accumulator.proofs.sample_refusal.Statement.{statement}

@@ -1,5 +1,5 @@
 -- A record that is not well formed comes first.
-use Rattle.real.proofs.Truth.{failed, passed}
+use Rattle.doubles.proofs.Truth.{failed, passed}
 use borrow.Author.Needs.{needs}
 use Rattle.accumulator.proofs.update_refusal.Statement.{statement}
 use Rattle.accumulator.proofs.update_refusal.Tie as tie

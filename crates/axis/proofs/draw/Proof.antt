@@ -1,4 +1,4 @@
-use Rattle.real.proofs.Truth.{failed, passed}
+use Rattle.doubles.proofs.Truth.{failed, passed}
 use Rattle.axis.specs.Calls.{paperDrawn, drawOf}
 use borrow.Author.Needs.{needs}
 use Rattle.axis.proofs.draw.Statement.{statement}

@@ -1,4 +1,4 @@
-use Rattle.real.proofs.Truth.{failed, passed}
+use Rattle.doubles.proofs.Truth.{failed, passed}
 use Rattle.axis.specs.Calls.{paperProbed, probeOf}
 use Rattle.axis.proofs.Searches.{search-is}
 use borrow.Author.Needs.{needs}

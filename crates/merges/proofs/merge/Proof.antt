@@ -2,7 +2,7 @@
 use mathlib.Core.Path.{sym, ap, _∙_}
 use Prim.Native.Nat.{ℕ}
 use native.Mathlib.Omega.{arith}
-use Rattle.real.specs.Paper.{Paper}
+use Rattle.doubles.specs.Paper.{Paper}
 use Rattle.model.specs.Grid.{Grid}
 use Rattle.model.specs.Merge.{mergeOf}
 use Rattle.lent.specs.Memory.{memory}

@@ -2,7 +2,7 @@
 use mathlib.Core.Path.{_≡_, sym, ap, _∙_}
 use Prim.Native.Nat.{ℕ, _-_}
 use native.Mathlib.Omega.{arith}
-use Rattle.real.specs.Paper.{refuses}
+use Rattle.doubles.specs.Paper.{refuses}
 use Rattle.accumulator.specs.Calls.{paperEstimated}
 use Rattle.lent.specs.State.{rootOf, stateFault}
 use Rattle.lent.specs.Sampled.{entries}

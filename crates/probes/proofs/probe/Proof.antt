@@ -1,7 +1,7 @@
 -- Nothing stands against the state, so the grid lies there well formed, and the descent answers as the model.
 use mathlib.Core.Path.{sym, ap, _∙_}
 use native.Mathlib.Omega.{arith}
-use Rattle.real.specs.Paper.{refuses}
+use Rattle.doubles.specs.Paper.{refuses}
 use Rattle.axis.specs.Calls.{paperProbed}
 use Rattle.model.specs.Probe.{probeGrid}
 use Rattle.lent.specs.State.{rootOf, stateFault}

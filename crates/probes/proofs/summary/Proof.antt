@@ -1,7 +1,7 @@
 use mathlib.Core.Path.{sym, ap, _∙_}
 use Prim.Native.Nat.{ℕ}
 use native.Mathlib.Omega.{arith}
-use Rattle.real.specs.Paper.{refuses}
+use Rattle.doubles.specs.Paper.{refuses}
 use Rattle.accumulator.specs.Calls.{summarizeOf, paperSummed}
 use Rattle.lent.specs.State.{rootOf, ownOf, stateFault}
 use Rattle.lent.specs.Calls.{summaryOf}

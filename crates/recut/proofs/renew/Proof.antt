@@ -1,7 +1,7 @@
 -- `recut::renew` meets its contract: each return by its law; lengths that fit are what the stages ask.
 use denote.Ref.{now}
 use lib.ListN.{length}
-use Rattle.real.proofs.Truth.{passed}
+use Rattle.doubles.proofs.Truth.{passed}
 use Rattle.recut.specs.Renew.{paperRenewed}
 use Rattle.recut.proofs.Stages.{renew-10, renew-on, Fitting, fitting}
 use borrow.Author.Needs.{needs}

@@ -1,7 +1,7 @@
 use mathlib.Core.Path.{sym, ap, ap₂, _∙_}
 use Prim.Native.Nat.{ℕ}
 use native.Mathlib.Omega.{arith}
-use Rattle.real.specs.Paper.{gives}
+use Rattle.doubles.specs.Paper.{gives}
 use Rattle.model.specs.Draw.{Drawing, drawGrid}
 use Rattle.lent.specs.declared.Drawing as laid
 use Rattle.lent.specs.State.{rootOf, stateFault}

@@ -4,7 +4,7 @@ use mathlib.Core.List.{List}
 use Prim.Native.Nat.{ℕ, zero, suc}
 use lib.ListN.{getD}
 use lib.Ieee.{Float, nan}
-use Rattle.real.specs.Numbers.{one64}
+use Rattle.doubles.specs.Numbers.{one64}
 use Rattle.model.specs.Draw.{weightAt}
 use Rattle.lent.specs.Sampled.{entries, sampleOf}
 use borrow.Author.Needs.{needs}

@@ -1,6 +1,6 @@
 -- What is accepted was judged on the record after it, and what is refused has its reason looked up.
 use mathlib.Core.Path.{sym}
-use Rattle.real.proofs.Truth.{failed, passed}
+use Rattle.doubles.proofs.Truth.{failed, passed}
 use Rattle.accumulator.specs.Calls.{paperChanged, addSampleOf}
 use Rattle.accumulator.proofs.Accepted.{accepted, miscounted}
 use borrow.Author.Needs.{needs}

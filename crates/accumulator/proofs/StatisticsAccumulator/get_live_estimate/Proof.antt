@@ -1,6 +1,6 @@
 -- The record that is judged is well formed exactly where the one after the update is.
 use mathlib.Core.Path.{_∙_}
-use Rattle.real.proofs.Truth.{failed, passed}
+use Rattle.doubles.proofs.Truth.{failed, passed}
 use Rattle.accumulator.specs.Calls.{paperEstimated, liveEstimateOf}
 use Rattle.accumulator.proofs.Counts.{counts-of}
 use borrow.Author.Needs.{needs}

@@ -1,4 +1,4 @@
-use Rattle.real.proofs.Truth.{failed, passed}
+use Rattle.doubles.proofs.Truth.{failed, passed}
 use Rattle.accumulator.proofs.Counts.{counts-of}
 use Rattle.accumulator.specs.Calls.{paperMerged, mergeClearingOf}
 use mathlib.Core.Path.{sym}

@@ -1,4 +1,4 @@
-use Rattle.real.proofs.Truth.{failed, passed}
+use Rattle.doubles.proofs.Truth.{failed, passed}
 use Rattle.accumulator.specs.Calls.{paperChanged, copyOf}
 use borrow.Author.Needs.{needs}
 use Rattle.accumulator.proofs.StatisticsAccumulator.shallow_copy.Statement.{statement}

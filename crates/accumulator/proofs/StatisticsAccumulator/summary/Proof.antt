@@ -1,4 +1,4 @@
-use Rattle.real.proofs.Truth.{failed, passed}
+use Rattle.doubles.proofs.Truth.{failed, passed}
 use Rattle.accumulator.specs.Calls.{paperSummed, summaryOf, summarizeOf}
 use borrow.Author.Needs.{needs}
 use Rattle.accumulator.proofs.StatisticsAccumulator.summary.Statement.{statement}

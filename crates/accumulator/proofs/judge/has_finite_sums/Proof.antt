@@ -1,5 +1,5 @@
 -- Four numbers, each less itself, add up to zero exactly where all four are finite.
-use Rattle.real.proofs.Finites.{all-finite}
+use Rattle.doubles.proofs.Finites.{all-finite}
 use Rattle.accumulator.specs.Record.{finiteSums}
 use Rattle.accumulator.proofs.judge.has_finite_sums.Statement.{statement}
 use Rattle.accumulator.proofs.judge.has_finite_sums.Tie as tie

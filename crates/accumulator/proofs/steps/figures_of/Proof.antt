@@ -1,5 +1,5 @@
 -- The calls, put together, are the definition.
-use Rattle.real.specs.Root.{rootsOf}
+use Rattle.root.specs.Pair.{rootsOf}
 use Rattle.accumulator.specs.Update.{varianceOf, figuresOf}
 use borrow.Author.Needs.{needs}
 use Rattle.accumulator.proofs.steps.figures_of.Statement.{statement}

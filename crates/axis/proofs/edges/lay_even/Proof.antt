@@ -6,7 +6,7 @@ use Prim.Native.Nat.{ℕ, _+_, _-_, _≤_}
 use lib.ListN.{length, take, set, length-set}
 use lib.Seq.{take-all}
 use lib.Ieee.{Float, nan, binary64, div}
-use Rattle.real.specs.Count.{countOf}
+use Rattle.doubles.specs.Count.{countOf}
 use Rattle.axis.specs.Edges.{binsOf, evenFrom}
 use Rattle.axis.proofs.Lists.{write-next}
 use Rattle.axis.proofs.Fresh.{even-next}

@@ -5,8 +5,8 @@ use borrow.Author.Tests.{ltb-true, leb-true}
 use lib.Dec.{le→leb}
 use lib.Ieee.{inFloat}
 use lib.ListN.{length}
-use Rattle.real.specs.Count.{countOf}
-use Rattle.real.proofs.Truth.{both}
+use Rattle.doubles.specs.Count.{countOf}
+use Rattle.doubles.proofs.Truth.{both}
 use Rattle.axis.specs.Edges.{binsOf, widthOf}
 use Rattle.axis.proofs.Points.{guessed}
 use borrow.Author.Needs.{needs}

@@ -3,7 +3,7 @@ use mathlib.Core.Path.{_≡_, refl, sym, ap, _∙_}
 use mathlib.Core.Bool.{Bool, _&&_}
 use Prim.Native.Nat.{_+_, _-_}
 use lib.ListN.{length, drop}
-use Rattle.real.specs.Total.{allFinite}
+use Rattle.doubles.specs.Total.{allFinite}
 use Rattle.axis.proofs.Lists.{finite-on, finite-out}
 use Rattle.axis.proofs.scans.are_finite.Statement.{statement}
 use Rattle.axis.proofs.scans.are_finite.Tie as tie

@@ -1,7 +1,7 @@
 use lib.ListN.{length, getD}
 use lib.Ieee.{nan, eq}
 use Prim.Native.Nat.{_-_}
-use Rattle.real.specs.Numbers.{zero64, one64}
+use Rattle.doubles.specs.Numbers.{zero64, one64}
 use borrow.Author.Tests.{lt-leb, le-leb, not-true, not-false}
 use lib.Ieee.{ne}
 use Rattle.axis.specs.Edges.{binsOf, wellFormed}

@@ -9,7 +9,7 @@ use Rattle.bench.proofs.kernels.rooted.Reads as reads
 use Rattle.bench.proofs.kernels.rooted.Lts as lts
 use Rattle.answers.proofs.bits.Reads as bits-reads
 use Rattle.answers.proofs.double.Reads as double-reads
-use Rattle.real.proofs.sqrt.Reads as sqrt-reads
+use Rattle.root.proofs.sqrt.Reads as sqrt-reads
 use Rattle.stream.proofs.MonteCarloRng.next_u64.Reads as next-u64-reads
 use Rattle.stream.proofs.MonteCarloRng.seed_from_u64.Reads as seed-from-u64-reads
 

@@ -4,7 +4,7 @@ use mathlib.Core.List.{_++_}
 use Prim.Native.Nat.{_-_, _≤_}
 use native.Mathlib.Omega.{arith}
 use lib.ListN.{length, take, length-set}
-use Rattle.real.proofs.Truth.{failed, passed}
+use Rattle.doubles.proofs.Truth.{failed, passed}
 use Rattle.feed.specs.Fields.{rowFrom}
 use Rattle.feed.proofs.Rows.{sample-whole, row-stop, row-full, row-next}
 use Rattle.feed.proofs.fields.gather.Statement.{statement}

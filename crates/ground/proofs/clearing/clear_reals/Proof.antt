@@ -5,7 +5,7 @@ use Prim.Native.Nat.{zero-le, _-_, _≤_}
 use native.Mathlib.Omega.{arith}
 use lib.ListN.{length, take, drop, replicate, length-set, drop-of-length-le}
 use lib.Ieee.{Float, nan}
-use Rattle.real.specs.Numbers.{zero64}
+use Rattle.doubles.specs.Numbers.{zero64}
 use Rattle.recut.proofs.Writes.{rest-next, rest-done}
 use Rattle.ground.proofs.clearing.clear_reals.Statement.{statement}
 use Rattle.ground.proofs.clearing.clear_reals.Tie as tie

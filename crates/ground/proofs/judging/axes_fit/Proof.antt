@@ -3,7 +3,7 @@ use mathlib.Core.Path.{_≡_, ap₂}
 use mathlib.Core.Bool.{true, _&&_}
 use mathlib.Core.List.{_∷_}
 use lib.ListN.{length}
-use Rattle.real.proofs.Truth.{both, failed, passed}
+use Rattle.doubles.proofs.Truth.{both, failed, passed}
 use Rattle.lent.specs.Layout.{axisReals, axisCounts, roomyAxes}
 use Rattle.lent.specs.Judged.{allUpto, axesFitOf}
 use Rattle.lent.proofs.Rooms.{axes-had, upto-had}

@@ -1,5 +1,5 @@
 -- The test is the definition's own, so each way is one of its cases.
-use Rattle.real.proofs.Truth.{failed, passed}
+use Rattle.doubles.proofs.Truth.{failed, passed}
 use Rattle.lent.specs.Laid.{whereRoomy, emptyOf}
 use Rattle.lent.proofs.Rooms.{roomy-had}
 use borrow.Author.Needs.{needs}

@@ -1,5 +1,5 @@
 use mathlib.Core.Path.{sym, _∙_}
-use Rattle.real.proofs.Truth.{passed, failed}
+use Rattle.doubles.proofs.Truth.{passed, failed}
 use Rattle.lent.proofs.Places.{there, not-there, fits-known}
 use borrow.Author.Needs.{needs}
 use Rattle.ground.proofs.layout.axes_place.Statement.{statement}

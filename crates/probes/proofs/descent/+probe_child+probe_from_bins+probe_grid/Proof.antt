@@ -3,7 +3,7 @@ use Prim.Native.Nat.{_+_, _*_}
 use native.Mathlib.Omega.{arith}
 use lib.ListN.{length, getD}
 use lib.Ieee.{Float, binary64, mul}
-use Rattle.real.specs.Paper.{Paper}
+use Rattle.doubles.specs.Paper.{Paper}
 use Rattle.axis.specs.Calls.{paperProbed}
 use Rattle.model.specs.Grid.{Grid}
 use Rattle.model.specs.Sound.{sound}

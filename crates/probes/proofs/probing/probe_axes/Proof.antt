@@ -1,6 +1,6 @@
 -- `probing::probe_axes` meets its contract: as many coordinates as axes, then the product under the floor.
 use mathlib.Core.Path.{ap, _∙_}
-use Rattle.real.specs.Paper.{Paper}
+use Rattle.doubles.specs.Paper.{Paper}
 use lib.Ieee.{Float}
 use Rattle.model.specs.Draw.{flooredOf}
 use Rattle.model.specs.Probe.{through}

@@ -5,8 +5,8 @@ use Rattle.model.specs.Probe.{probeAll}
 use native.Mathlib.Omega.{arith}
 use mathlib.Core.Path.{_≡_, sym, _∙_}
 use Prim.Native.Nat.{_+_, _≤_}
-use Rattle.real.specs.Numbers.{one64}
-use Rattle.real.proofs.Truth.{passed}
+use Rattle.doubles.specs.Numbers.{one64}
+use Rattle.doubles.proofs.Truth.{passed}
 use Rattle.axis.specs.Calls.{paperProbed}
 use Rattle.lent.specs.Layout.{axisReals, axisCounts}
 use Rattle.lent.specs.Drawn.{Stands}

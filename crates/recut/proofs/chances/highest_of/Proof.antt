@@ -3,7 +3,7 @@ use Prim.Native.Nat.{zero-le, _+_, _-_, _≤_}
 use native.Mathlib.Omega.{arith}
 use lib.ListN.{length, drop}
 use lib.Ieee.{Float}
-use Rattle.real.specs.Numbers.{zero64}
+use Rattle.doubles.specs.Numbers.{zero64}
 use Rattle.recut.specs.Chances.{highest}
 use Rattle.recut.proofs.Shares.{highest-next, highest-end}
 use borrow.Author.Needs.{needs}

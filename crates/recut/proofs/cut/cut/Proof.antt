@@ -5,7 +5,7 @@ use Prim.Native.Nat.{_-_, _≤_, _<_}
 use denote.Ref.{now}
 use lib.ListN.{length, take, drop, set, length-set}
 use lib.Ieee.{Float}
-use Rattle.real.specs.Numbers.{one64}
+use Rattle.doubles.specs.Numbers.{one64}
 use Rattle.recut.specs.Cut.{edgesFrom}
 use Rattle.recut.proofs.Cuts.{cut-next, cut-end, cut-whole}
 use borrow.Author.Needs.{needs}

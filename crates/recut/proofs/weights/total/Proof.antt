@@ -2,8 +2,8 @@
 use mathlib.Core.Path.{_≡_, refl, sym, _∙_}
 use Prim.Native.Nat.{zero-le, _-_, _≤_}
 use lib.ListN.{length, drop}
-use Rattle.real.specs.Numbers.{zero64}
-use Rattle.real.specs.Total.{totalOf}
+use Rattle.doubles.specs.Numbers.{zero64}
+use Rattle.doubles.specs.Total.{totalOf}
 use Rattle.recut.proofs.Damp.{total-next, total-end}
 use native.Mathlib.Omega.{arith}
 use Rattle.recut.proofs.weights.total.Statement.{statement}

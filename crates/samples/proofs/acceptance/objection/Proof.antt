@@ -3,8 +3,8 @@ use mathlib.Core.Path.{sym, ap, ap₂, _∙_}
 use mathlib.Core.Bool.{Bool, _&&_}
 use native.Mathlib.Omega.{arith}
 use lib.Ieee.{nan}
-use Rattle.real.specs.Total.{allFinite}
-use Rattle.real.proofs.Truth.{failed, passed}
+use Rattle.doubles.specs.Total.{allFinite}
+use Rattle.doubles.proofs.Truth.{failed, passed}
 use Rattle.lent.specs.State.{rootOf}
 use Rattle.lent.specs.Sampled.{entries, sampleIn}
 use Rattle.lent.specs.Absorbed.{Takes}

@@ -1,7 +1,7 @@
 -- The model's three cases, each by the test that was passed.
 use mathlib.Core.Path.{sym, ap}
 use lib.Ieee.{lt}
-use Rattle.real.specs.Numbers.{one64}
+use Rattle.doubles.specs.Numbers.{one64}
 use Rattle.stream.specs.declared.Unit.{Unit}
 use Rattle.stream.specs.Calls.{unitDrawnOf}
 use Rattle.model.specs.Draw.{unitAt, walked, placedFrom}

@@ -3,7 +3,7 @@ use native.Mathlib.Omega.{arith}
 use mathlib.Core.Path.{_≡_, refl, sym, _∙_}
 use Prim.Native.Nat.{_-_, _≤_}
 use lib.ListN.{length, take, drop, getD, length-set}
-use Rattle.real.specs.Numbers.{one64}
+use Rattle.doubles.specs.Numbers.{one64}
 use Rattle.model.specs.Draw.{walked}
 use Rattle.lent.specs.Layout.{axesFrom}
 use Rattle.lent.specs.Drawn.{Standing}

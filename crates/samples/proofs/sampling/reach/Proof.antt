@@ -2,7 +2,7 @@ use mathlib.Core.Path.{_≡_}
 use Prim.Native.Nat.{_+_, _-_, _≤_}
 use native.Mathlib.Omega.{arith}
 use lib.ListN.{length, drop}
-use Rattle.real.specs.Numbers.{zero64}
+use Rattle.doubles.specs.Numbers.{zero64}
 use Rattle.model.specs.Draw.{reached}
 use Rattle.lent.proofs.Samples.{reach-stop, reach-next, reach-end}
 use Rattle.samples.proofs.sampling.reach.Statement.{statement}

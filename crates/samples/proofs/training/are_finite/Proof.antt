@@ -4,8 +4,8 @@ use mathlib.Core.Bool.{Bool, _&&_}
 use Prim.Native.Nat.{ℕ, _+_, _-_, _≤_}
 use native.Mathlib.Omega.{arith}
 use lib.Ieee.{nan}
-use Rattle.real.specs.Finite.{finiteOf}
-use Rattle.real.specs.Total.{allFinite}
+use Rattle.doubles.specs.Finite.{finiteOf}
+use Rattle.doubles.specs.Total.{allFinite}
 use Rattle.lent.specs.Sampled.{entries}
 use Rattle.lent.proofs.Trains.{scan-on, scan-out}
 use Rattle.samples.proofs.training.are_finite.Statement.{statement}

@@ -2,9 +2,9 @@
 use mathlib.Core.Path.{_≡_, refl}
 use mathlib.Core.Bool.{Bool, true, false, _&&_, cond}
 use lib.Ieee.{Float, nan, binary64, ofBits, add, sub, eq}
-use Rattle.real.specs.Numbers.{zero64}
-use Rattle.real.specs.Finite.{finiteOf}
-use Rattle.real.proofs.Finites.{less-itself}
+use Rattle.doubles.specs.Numbers.{zero64}
+use Rattle.doubles.specs.Finite.{finiteOf}
+use Rattle.doubles.proofs.Finites.{less-itself}
 use Rattle.samples.proofs.training.are_sums_finite.Statement.{statement}
 use Rattle.samples.proofs.training.are_sums_finite.Tie as tie
 

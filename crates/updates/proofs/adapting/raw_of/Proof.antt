@@ -7,7 +7,7 @@ use Rattle.updates.proofs.adapting.raw_of.Reads as reads
 use Rattle.updates.proofs.adapting.raw_of.Lts as lts
 use Rattle.real.proofs.count.Reads as count-reads
 use Rattle.real.proofs.norm.Reads as norm-reads
-use Rattle.real.proofs.sqrt.Reads as sqrt-reads
+use Rattle.root.proofs.sqrt.Reads as sqrt-reads
 
 -- src/adapting.rt:148:9
 norm-requires : tie.Need-norm-requires

@@ -1,5 +1,5 @@
 -- `renewal::may_be_kept` meets its contract: both tests.
-use Rattle.real.proofs.Truth.{failed, passed}
+use Rattle.doubles.proofs.Truth.{failed, passed}
 use borrow.Author.Needs.{needs}
 use Rattle.updates.proofs.renewal.may_be_kept.Statement.{statement}
 use Rattle.updates.proofs.renewal.may_be_kept.Tie as tie
