@@ -211,7 +211,7 @@ unfolding
     Inverse.invOf
     Count.countOf
     Root.isqrt Root.squares Root.rootOf
-    Ln.unitsOf Ln.exponentOf Ln.mantissaOf Ln.tailOf Ln.logOf Ln.lnOf
+    Ln.unitsOf Ln.exponentOf Ln.mantissaOf Ln.tailOf Ln.logOf Ln.turnedOf Ln.lnOf
     Power.ceilOf Power.floorOf Power.expOf Power.inDomain Power.kOf Power.scaledOf Power.powerOf
     Words.times Words.shiftedUp Words.shiftedDown Words.rotated
     Xoshiro.wordOf Xoshiro.stepOf
