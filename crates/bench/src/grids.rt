@@ -4,10 +4,18 @@ use accumulator::Estimated;
 use answers::bits;
 use stream::MonteCarloRng;
 
+pub type Table = [u64; 8192];
+
+pub type Reals = [f64; 16384];
+
+pub type Counts = [u64; 8192];
+
+pub type Room = [f64; 100000];
+
 // The evaluations of a batch.
-fn evaluate(evaluations: &mut [f64]) {
+fn evaluate(evaluations: &mut Room) {
     let mut i = 0;
-    while i < evaluations.len() {
+    while i < 100000 {
         evaluations[i] = samples::evaluation(i as u64);
         i += 1;
     }
@@ -23,10 +31,10 @@ fn word(answer: Estimated) -> u64 {
 
 // Batches of draws and trainings: the word of the live estimate and of the stream after them, or a refusal's number.
 fn batches(
-    table: &[u64],
-    reals: &mut [f64],
-    counts: &mut [u64],
-    evaluations: &[f64],
+    table: &Table,
+    reals: &mut Reals,
+    counts: &mut Counts,
+    evaluations: &Room,
     count: u64,
 ) -> u64 {
     let mut stream = MonteCarloRng::seed_from_u64(0);
@@ -44,10 +52,10 @@ fn batches(
 
 // So many samples, in whole batches of 100,000.
 pub fn trained(
-    table: &[u64],
-    reals: &mut [f64],
-    counts: &mut [u64],
-    room: &mut [f64],
+    table: &Table,
+    reals: &mut Reals,
+    counts: &mut Counts,
+    room: &mut Room,
     count: u64,
 ) -> u64 {
     evaluate(room);
@@ -55,7 +63,7 @@ pub fn trained(
 }
 
 // Draws one by one, each of which judges the grid: the exclusive or of their weights and first coordinates, or a refusal's number.
-pub fn drawn(table: &[u64], reals: &[f64], counts: &[u64], count: u64) -> u64 {
+pub fn drawn(table: &Table, reals: &Reals, counts: &Counts, count: u64) -> u64 {
     let mut stream = MonteCarloRng::seed_from_u64(0);
     let mut xor: u64 = 0;
     let mut i: u64 = 0;

@@ -7,6 +7,10 @@ mod plans;
 mod request;
 mod samples;
 
+use grids::Counts;
+use grids::Reals;
+use grids::Room;
+use grids::Table;
 use libc::STDIN_FILENO;
 use libc::STDOUT_FILENO;
 use stream::MonteCarloRng;
@@ -40,67 +44,56 @@ fn run_loop(kind: u8, count: u64) -> u64 {
     }
 }
 
-// Draws on a grid: with training in batches, or alone.
+// Whether a kind is of draws on the axes grid, or on the bins grid; and whether it trains too.
+fn is_axes(kind: u8) -> bool {
+    (kind == b'g') | (kind == b'j')
+}
+
+fn is_tree(kind: u8) -> bool {
+    (kind == b't') | (kind == b'n')
+}
+
+fn trains(kind: u8) -> bool {
+    (kind == b'g') | (kind == b't')
+}
+
+// Draws on a grid that is laid: with training in batches, or alone; 0 where it is not laid. The rooms come as references to arrays, so
+// that the proof sees their lengths and not their zeros.
 fn run_on(
+    laid: bool,
     trains: bool,
-    table: &[u64],
-    reals: &mut [f64],
-    counts: &mut [u64],
-    room: &mut [f64],
+    table: &Table,
+    reals: &mut Reals,
+    counts: &mut Counts,
+    room: &mut Room,
     count: u64,
 ) -> u64 {
+    if !laid {
+        return 0;
+    }
     if trains {
         return grids::trained(table, reals, counts, room, count);
     }
     grids::drawn(table, reals, counts, count)
 }
 
-// The same on the axes grid; 0 where it is not laid.
-fn run_axes(
-    trains: bool,
-    table: &mut [u64],
-    reals: &mut [f64],
-    counts: &mut [u64],
-    room: &mut [f64],
-    count: u64,
-) -> u64 {
-    if !plans::lay_axes(table, reals, counts) {
-        return 0;
-    }
-    run_on(trains, table, reals, counts, room, count)
-}
-
-// The same on the bins grid.
-fn run_tree(
-    trains: bool,
-    table: &mut [u64],
-    reals: &mut [f64],
-    counts: &mut [u64],
-    room: &mut [f64],
-    count: u64,
-) -> u64 {
-    if !plans::lay_tree(table, reals, counts) {
-        return 0;
-    }
-    run_on(trains, table, reals, counts, room, count)
-}
-
-// The rooms come as references to arrays, so that the proof sees their lengths and not their zeros.
 fn run(
     kind: u8,
-    table: &mut [u64; 8192],
-    reals: &mut [f64; 16384],
-    counts: &mut [u64; 8192],
-    room: &mut [f64; 100000],
+    table: &mut Table,
+    reals: &mut Reals,
+    counts: &mut Counts,
+    room: &mut Room,
     count: u64,
 ) -> u64 {
-    match kind {
-        b'g' => run_axes(true, table, reals, counts, room, count),
-        b'j' => run_axes(false, table, reals, counts, room, count),
-        b'n' => run_tree(false, table, reals, counts, room, count),
-        b't' => run_tree(true, table, reals, counts, room, count),
-        _ => run_loop(kind, count),
+    if is_axes(kind) {
+        let laid = plans::lay_axes(table, reals, counts);
+        return run_on(laid, trains(kind), table, reals, counts, room, count);
     }
+    if is_tree(kind) {
+        let laid = plans::lay_tree(table, reals, counts);
+        return run_on(laid, trains(kind), table, reals, counts, room, count);
+    }
+    run_loop(kind, count)
 }
 
 fn main() {

@@ -1,4 +1,7 @@
 // The plans of the grids that are timed, laid in lent memory.
+use crate::grids::Counts;
+use crate::grids::Reals;
+use crate::grids::Table;
 use plan::Read;
 
 // Whether a plan was laid.
@@ -13,7 +16,7 @@ fn is_laid(answer: Read) -> bool {
 }
 
 // An axes grid of 5 axes of 64 bins.
-pub fn lay_axes(table: &mut [u64], reals: &mut [f64], counts: &mut [u64]) -> bool {
+pub fn lay_axes(table: &mut Table, reals: &mut Reals, counts: &mut Counts) -> bool {
     let bytes = [1u8, 16, 0, 5, 64, 0, 0, 0, 0, 0, 0, 0, 0, 0, 0, 0, 0, 0, 0];
     is_laid(grid::fresh(&bytes, table, reals, counts))
 }
@@ -37,7 +40,7 @@ fn write_tree(bytes: &mut [u8]) {
 }
 
 // That bins grid.
-pub fn lay_tree(table: &mut [u64], reals: &mut [f64], counts: &mut [u64]) -> bool {
+pub fn lay_tree(table: &mut Table, reals: &mut Reals, counts: &mut Counts) -> bool {
     let mut bytes = [0u8; 318];
     write_tree(&mut bytes);
     is_laid(grid::fresh(&bytes, table, reals, counts))

@@ -19,6 +19,14 @@ use feed::turn;
 use libc::STDIN_FILENO;
 use libc::STDOUT_FILENO;
 
+// A table of 16,832 words holds any plan; 128 bins in 64 grids need at most 2,816 reals and 1,344 counts (`rooms-hold` in feed's
+// proofs/Rooms.antt). The rooms are lent as references to arrays, so that no proof has to follow their lengths.
+type Table = [u64; 16832];
+
+type Reals = [f64; 2816];
+
+type Counts = [u64; 1344];
+
 // A run after turns on some bytes: how many they took, whether what they told could be written, and whether another turn follows.
 struct Poured {
     run: Run,
@@ -72,14 +80,14 @@ fn step(
     bytes: &[u8],
     from: usize,
     last: bool,
-    table: &mut [u64],
-    reals: &mut [f64],
-    counts: &mut [u64],
-    spare_reals: &mut [f64],
-    spare_counts: &mut [u64],
+    table: &mut Table,
+    reals: &mut Reals,
+    counts: &mut Counts,
+    spare_reals: &mut Reals,
+    spare_counts: &mut Counts,
 ) -> Poured
     requires { ⌜ from ≤ length (now bytes) ⌝ }
-    ensures { λ r. ⌜ Stepped (now (bytes .entry)) last (length (now («spare_reals» .entry))) (length (now («spare_counts» .entry)))
+    ensures { λ r. ⌜ Stepped (now (bytes .entry)) last 2816 1344
         (place run from (now (table .entry)) (memory (now (reals .entry)) (now (counts .entry))))
         (place (r .run) (r .taken) (now (table .exit)) (memory (now (reals .exit)) (now (counts .exit)))) (r .written) (r .goes) ⌝ }
 {
@@ -110,14 +118,14 @@ fn pour(
     run: Run,
     bytes: &[u8],
     last: bool,
-    table: &mut [u64],
-    reals: &mut [f64],
-    counts: &mut [u64],
-    spare_reals: &mut [f64],
-    spare_counts: &mut [u64],
+    table: &mut Table,
+    reals: &mut Reals,
+    counts: &mut Counts,
+    spare_reals: &mut Reals,
+    spare_counts: &mut Counts,
 ) -> Poured
     ensures { λ r. ⌜ r .taken ≤ length (now (bytes .entry)) ⌝ }
-    ensures { λ r. ⌜ (r .written ≡ true → Turns (now (bytes .entry)) last (length (now («spare_reals» .entry))) (length (now («spare_counts» .entry)))
+    ensures { λ r. ⌜ (r .written ≡ true → Turns (now (bytes .entry)) last 2816 1344
         (place run 0 (now (table .entry)) (memory (now (reals .entry)) (now (counts .entry))))
         (place (r .run) (r .taken) (now (table .exit)) (memory (now (reals .exit)) (now (counts .exit))))) ⌝ }
     ensures { λ r. ⌜ (r .written ≡ true → isOverOf (r .run) ≡ false → length (now (bytes .entry)) < r .taken + 131072) ⌝ }
@@ -152,14 +160,14 @@ fn take_in(
     text: &mut [u8],
     held: usize,
     full: usize,
-    table: &mut [u64],
-    reals: &mut [f64],
-    counts: &mut [u64],
-    spare_reals: &mut [f64],
-    spare_counts: &mut [u64],
+    table: &mut Table,
+    reals: &mut Reals,
+    counts: &mut Counts,
+    spare_reals: &mut Reals,
+    spare_counts: &mut Counts,
 ) -> Fed
     requires { ⌜ full ≤ length (now text) ⌝ }
-    ensures { λ r. ⌜ TakenIn (now (text .entry)) full (eqb full held) (length (now («spare_reals» .entry))) (length (now («spare_counts» .entry)))
+    ensures { λ r. ⌜ TakenIn (now (text .entry)) full (eqb full held) 2816 1344
         run (now (table .entry)) (memory (now (reals .entry)) (now (counts .entry)))
         (now (text .exit)) (r .held) (r .goes) (r .run) (now (table .exit)) (memory (now (reals .exit)) (now (counts .exit))) ⌝ }
     ensures { λ r. ⌜ (r .goes ≡ true → r .held < 131072) ⌝ }
@@ -189,11 +197,11 @@ fn feed_once(
     run: Run,
     text: &mut [u8],
     held: usize,
-    table: &mut [u64],
-    reals: &mut [f64],
-    counts: &mut [u64],
-    spare_reals: &mut [f64],
-    spare_counts: &mut [u64],
+    table: &mut Table,
+    reals: &mut Reals,
+    counts: &mut Counts,
+    spare_reals: &mut Reals,
+    spare_counts: &mut Counts,
 ) -> Fed
     requires { ⌜ held < length (now text) ⌝ }
     ensures { λ r. ⌜ (r .goes ≡ true → r .held < 131072) ⌝ }
@@ -224,11 +232,11 @@ fn feed_once(
 // up, since a proved loop has to end and nothing says that an input does.
 fn integrate(
     text: &mut [u8],
-    table: &mut [u64],
-    reals: &mut [f64],
-    counts: &mut [u64],
-    spare_reals: &mut [f64],
-    spare_counts: &mut [u64],
+    table: &mut Table,
+    reals: &mut Reals,
+    counts: &mut Counts,
+    spare_reals: &mut Reals,
+    spare_counts: &mut Counts,
 )
     requires { ⌜ 131072 ≤ length (now text) ⌝ }
 {
@@ -259,17 +267,16 @@ fn integrate(
 // The rooms come as references to arrays, so that the proof sees their lengths and not their zeros.
 fn run(
     text: &mut [u8; 131072],
-    table: &mut [u64; 16832],
-    reals: &mut [f64; 2816],
-    counts: &mut [u64; 1344],
-    spare_reals: &mut [f64; 2816],
-    spare_counts: &mut [u64; 1344],
+    table: &mut Table,
+    reals: &mut Reals,
+    counts: &mut Counts,
+    spare_reals: &mut Reals,
+    spare_counts: &mut Counts,
 ) {
     integrate(text, table, reals, counts, spare_reals, spare_counts);
 }
 
-// 131,072 bytes decide any plan, so that a text full of them is never waited on. A table of 16,832 words holds any plan; 128 bins in 64 grids
-// need at most 2,816 reals and 1,344 counts (`rooms-hold` in feed's proofs/Rooms.antt).
+// 131,072 bytes decide any plan, so that a text full of them is never waited on.
 fn main() {
     let mut text = [0u8; 131072];
     let mut table = [0u64; 16832];

@@ -1,22 +1,27 @@
 // The calls of the oracle's list, record by record (oracle/README.md, "accumulator"): opcode, record, arguments, refusal
-// number, answers.
-ghost use Prim.Native.Nat.{_+_, _<_, _≤_, _^_};
-ghost use mathlib.Core.Path.{_≡_};
-use crate::list::Place;
-use crate::list::behind;
+// number, answers. A list here begins with the record at hand.
+ghost use Prim.Native.Nat.{_<_};
 use crate::list::double_at;
 use crate::list::holds;
-use crate::list::holds_all;
 use crate::list::holds_record;
 use crate::list::record_at;
 use accumulator::Changed;
 use accumulator::Estimated;
 use accumulator::Merged;
+use accumulator::Summary;
 use accumulator::Summed;
 use accumulator::Updated;
 use answers::bits;
 use answers::word;
 use answers::words;
+use std::num::wrapping_add_u64;
+use std::num::wrapping_add_usize;
+
+// How many words stand before each call's refusal number, by opcode.
+const BEFORE: [usize; 10] = [0, 24, 43, 22, 22, 22, 22, 22, 43, 22];
+
+// How many words each call answers with behind a 0.
+const BEHIND: [usize; 10] = [0, 21, 21, 22, 22, 3, 21, 21, 42, 6];
 
 // How many records agreed, of how many.
 pub struct Replayed {
@@ -25,148 +30,120 @@ pub struct Replayed {
 }
 
 // A changed record held against the list.
-fn holds_changed(list: &[u8], place: Place, answer: Changed) -> Place
-    requires { ⌜ place .at < 2 ^ 60 ⌝ }
-    ensures { λ r. ⌜ (place .at < r .at) × (r .at ≤ place .at + 43) ⌝ }
-{
+fn holds_changed(list: &[u8], at: usize, answer: Changed) -> bool {
     match answer {
-        Changed::Refused(number) => holds(list, place, number),
+        Changed::Refused(number) => word(list, at) == number,
         Changed::Record(after) => {
-            let answered = holds(list, place, 0);
-            holds_record(list, answered, after)
+            (word(list, at) == 0) & holds_record(list, wrapping_add_usize(at, 1), after)
         }
     }
 }
 
 // add_sample(evaluation, number)
-fn replay_add(list: &[u8], at: usize) -> Place
-    requires { ⌜ at < 2 ^ 59 ⌝ }
-    ensures { λ r. ⌜ (at < r .at) × (r .at ≤ at + 100) ⌝ }
-{
-    let eval = double_at(list, at + 22);
-    let number = word(list, at + 23);
-    let answer = record_at(list, at + 1).add_sample(eval, number);
-    holds_changed(list, behind(at + 24), answer)
+fn replay_add(list: &[u8]) -> bool {
+    let eval = double_at(list, 22);
+    let number = word(list, 23);
+    holds_changed(list, 24, record_at(list, 1).add_sample(eval, number))
 }
 
 // merge_samples_no_reset(other)
-fn replay_merge(list: &[u8], at: usize) -> Place
-    requires { ⌜ at < 2 ^ 59 ⌝ }
-    ensures { λ r. ⌜ (at < r .at) × (r .at ≤ at + 100) ⌝ }
-{
-    let other = record_at(list, at + 22);
-    let answer = record_at(list, at + 1).merge_samples_no_reset(other);
-    holds_changed(list, behind(at + 43), answer)
+fn replay_merge(list: &[u8]) -> bool {
+    let other = record_at(list, 22);
+    holds_changed(list, 43, record_at(list, 1).merge_samples_no_reset(other))
+}
+
+fn one_if(b: bool) -> u64 {
+    if b { 1 } else { 0 }
 }
 
 // update_iter(weighted)
-fn replay_update(list: &[u8], at: usize, weighted: bool) -> Place
-    requires { ⌜ at < 2 ^ 59 ⌝ }
-    ensures { λ r. ⌜ (at < r .at) × (r .at ≤ at + 100) ⌝ }
-{
-    let place = behind(at + 22);
-    match record_at(list, at + 1).update_iter(weighted) {
-        Updated::Refused(number) => holds(list, place, number),
+fn replay_update(list: &[u8], weighted: bool) -> bool {
+    match record_at(list, 1).update_iter(weighted) {
+        Updated::Refused(number) => word(list, 22) == number,
         Updated::Record(processed, after) => {
-            let answered = holds_all(list, place, &[0, one_if(processed)]);
-            holds_record(list, answered, after)
+            holds(list, 22, &[0, one_if(processed)]) & holds_record(list, 24, after)
         }
     }
 }
 
 // get_live_estimate()
-fn replay_live(list: &[u8], at: usize) -> Place
-    requires { ⌜ at < 2 ^ 59 ⌝ }
-    ensures { λ r. ⌜ (at < r .at) × (r .at ≤ at + 100) ⌝ }
-{
-    let place = behind(at + 22);
-    match record_at(list, at + 1).get_live_estimate() {
-        Estimated::Refused(number) => holds(list, place, number),
-        Estimated::Estimate(e) => {
-            let answer = [0, bits(e.avg), bits(e.err), bits(e.chi_sq)];
-            holds_all(list, place, &answer)
-        }
+fn replay_live(list: &[u8]) -> bool {
+    match record_at(list, 1).get_live_estimate() {
+        Estimated::Refused(number) => word(list, 22) == number,
+        Estimated::Estimate(e) => holds(list, 22, &[0, bits(e.avg), bits(e.err), bits(e.chi_sq)]),
     }
 }
 
 // shallow_copy()
-fn replay_copy(list: &[u8], at: usize) -> Place
-    requires { ⌜ at < 2 ^ 59 ⌝ }
-    ensures { λ r. ⌜ (at < r .at) × (r .at ≤ at + 100) ⌝ }
-{
-    let answer = record_at(list, at + 1).shallow_copy();
-    holds_changed(list, behind(at + 22), answer)
+fn replay_copy(list: &[u8]) -> bool {
+    holds_changed(list, 22, record_at(list, 1).shallow_copy())
 }
 
 // clear_samples()
-fn replay_clear(list: &[u8], at: usize) -> Place
-    requires { ⌜ at < 2 ^ 59 ⌝ }
-    ensures { λ r. ⌜ (at < r .at) × (r .at ≤ at + 100) ⌝ }
-{
-    let answer = record_at(list, at + 1).clear_samples();
-    holds_changed(list, behind(at + 22), answer)
+fn replay_clear(list: &[u8]) -> bool {
+    holds_changed(list, 22, record_at(list, 1).clear_samples())
 }
 
 // merge_samples(other)
-fn replay_merge_clearing(list: &[u8], at: usize) -> Place
-    requires { ⌜ at < 2 ^ 59 ⌝ }
-    ensures { λ r. ⌜ (at < r .at) × (r .at ≤ at + 100) ⌝ }
-{
-    let other = record_at(list, at + 22);
-    let place = behind(at + 43);
-    match record_at(list, at + 1).merge_samples(other) {
-        Merged::Refused(number) => holds(list, place, number),
+fn replay_merge_clearing(list: &[u8]) -> bool {
+    let other = record_at(list, 22);
+    match record_at(list, 1).merge_samples(other) {
+        Merged::Refused(number) => word(list, 43) == number,
         Merged::Records(after, cleared) => {
-            let answered = holds(list, place, 0);
-            let first = holds_record(list, answered, after);
-            holds_record(list, first, cleared)
+            (word(list, 43) == 0) & holds_record(list, 44, after) & holds_record(list, 65, cleared)
         }
     }
 }
 
+fn holds_summary(list: &[u8], s: Summary) -> bool {
+    let answer = [
+        0,
+        s.iterations,
+        s.samples,
+        bits(s.average),
+        bits(s.error),
+        bits(s.chi_squared),
+        one_if(s.flat),
+    ];
+    holds(list, 22, &answer)
+}
+
 // summary()
-fn replay_summary(list: &[u8], at: usize) -> Place
-    requires { ⌜ at < 2 ^ 59 ⌝ }
-    ensures { λ r. ⌜ (at < r .at) × (r .at ≤ at + 100) ⌝ }
-{
-    let place = behind(at + 22);
-    match record_at(list, at + 1).summary() {
-        Summed::Refused(number) => holds(list, place, number),
-        Summed::Summary(s) => {
-            let answer = [
-                0,
-                s.iterations,
-                s.samples,
-                bits(s.average),
-                bits(s.error),
-                bits(s.chi_squared),
-                one_if(s.flat),
-            ];
-            holds_all(list, place, &answer)
-        }
+fn replay_summary(list: &[u8]) -> bool {
+    match record_at(list, 1).summary() {
+        Summed::Refused(number) => word(list, 22) == number,
+        Summed::Summary(s) => holds_summary(list, s),
     }
 }
 
 // One record: its first word says which call it is of. A record of no call never agrees.
-fn replay_record(list: &[u8], at: usize, call: u64) -> Place
-    requires { ⌜ at < 2 ^ 59 ⌝ }
-    ensures { λ r. ⌜ (at < r .at) × (r .at ≤ at + 100) ⌝ }
-{
+fn replay_record(list: &[u8], call: u64) -> bool {
     match call {
-        1 => replay_add(list, at),
-        2 => replay_merge(list, at),
-        3 => replay_update(list, at, false),
-        4 => replay_update(list, at, true),
-        5 => replay_live(list, at),
-        6 => replay_copy(list, at),
-        7 => replay_clear(list, at),
-        8 => replay_merge_clearing(list, at),
-        9 => replay_summary(list, at),
-        _ => Place {
-            agrees: false,
-            at: at + 1,
-        },
+        1 => replay_add(list),
+        2 => replay_merge(list),
+        3 => replay_update(list, false),
+        4 => replay_update(list, true),
+        5 => replay_live(list),
+        6 => replay_copy(list),
+        7 => replay_clear(list),
+        8 => replay_merge_clearing(list),
+        9 => replay_summary(list),
+        _ => false,
     }
+}
+
+// How many words a record has behind its first: a refused call's ends with the number.
+fn rest_of(list: &[u8], call: u64) -> usize
+    ensures { λ r. ⌜ r < 128 ⌝ }
+{
+    if 9 < call {
+        return 0;
+    }
+    let before = BEFORE[call as usize];
+    if word(list, before) == 0 {
+        return wrapping_add_usize(before, BEHIND[call as usize]) % 128;
+    }
+    before % 128
 }
 
 // The records of one call, or of all where `wanted` is 0.
@@ -176,18 +153,13 @@ pub fn replay(list: &[u8], wanted: u64) -> Replayed {
     let mut all: u64 = 0;
     let mut at = 0;
     while at < end {
-        let call = word(list, at);
-        let place = replay_record(list, at, call);
+        let start = at * 17;
+        let here = &list[start..];
+        let call = word(here, 0);
         let counts = (wanted == 0) | (call == wanted);
-        agreed += one_if(counts & place.agrees);
-        all += one_if(counts);
-        at = place.at;
+        agreed = wrapping_add_u64(agreed, one_if(counts & replay_record(here, call)));
+        all = wrapping_add_u64(all, one_if(counts));
+        at = at + 1 + rest_of(here, call);
     }
     Replayed { agreed, all }
-}
-
-fn one_if(b: bool) -> u64
-    ensures { λ r. ⌜ r ≤ 1 ⌝ }
-{
-    if b { 1 } else { 0 }
 }

@@ -1,59 +1,25 @@
-// A list's records as records of the accumulator, and words held against the list.
-ghost use Prim.Native.Nat.{_+_, _<_, _≤_, _^_};
-ghost use lib.ListN.{length};
-ghost use mathlib.Core.Path.{_≡_};
+// A list's records as records of the accumulator, and words held against the list. A list here begins with the record at hand.
 use accumulator::StatisticsAccumulator;
 use answers::bits;
 use answers::double;
 use answers::word;
+use std::num::wrapping_add_usize;
 
-// Whether a record's words agreed so far, and the place of its next word.
-pub struct Place {
-    pub agrees: bool,
-    pub at: usize,
-}
-
-// The place behind a record's arguments.
-pub fn behind(at: usize) -> Place
-    ensures { λ r. ⌜ r .at ≡ at ⌝ }
-{
-    Place { agrees: true, at }
-}
-
-// The next word held against `value`.
-pub fn holds(list: &[u8], place: Place, value: u64) -> Place
-    requires { ⌜ place .at < 2 ^ 62 ⌝ }
-    ensures { λ r. ⌜ r .at ≡ place .at + 1 ⌝ }
-{
-    let at = place.at;
-    let agrees = word(list, at) == value;
-    Place {
-        agrees: place.agrees & agrees,
-        at: at + 1,
-    }
-}
-
-// The next words held against `values`.
-pub fn holds_all(list: &[u8], place: Place, values: &[u64]) -> Place
-    requires { ⌜ (place .at < 2 ^ 61) × (length (now values) ≤ 21) ⌝ }
-    ensures { λ r. ⌜ r .at ≡ place .at + length (now (values .entry)) ⌝ }
-{
-    let mut now = place;
+// Whether the words from a place on are these.
+pub fn holds(list: &[u8], at: usize, values: &[u64]) -> bool {
+    let mut agrees = true;
     let mut i = 0;
     while i < values.len() {
-        now = holds(list, now, values[i]);
+        agrees = agrees & (word(list, wrapping_add_usize(at, i)) == values[i]);
         i += 1;
     }
-    now
+    agrees
 }
 
-// The next 21 words held against a record.
-pub fn holds_record(list: &[u8], place: Place, a: StatisticsAccumulator) -> Place
-    requires { ⌜ place .at < 2 ^ 61 ⌝ }
-    ensures { λ r. ⌜ r .at ≡ place .at + 21 ⌝ }
-{
+// Whether the 21 words from a place on are the record's.
+pub fn holds_record(list: &[u8], at: usize, a: StatisticsAccumulator) -> bool {
     let words = words_of(a);
-    holds_all(list, place, &words)
+    holds(list, at, &words)
 }
 
 // A record's words, in the order of the Rust's declaration.

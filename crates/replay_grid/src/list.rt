@@ -1,16 +1,18 @@
-// The words of a list as the calls' arguments, and held against their answers.
-ghost use Prim.Native.Nat.{_+_, _<_, _≤_};
+// The words of a list as the calls' arguments, and held against their answers. A list here begins with the record at hand.
+ghost use Prim.Native.Nat.{_<_};
 ghost use lib.ListN.{length};
+use answers::bits;
 use answers::double;
 use answers::word;
 use grid::Coordinates;
 use grid::Region;
 use grid::Sample;
+use std::num::wrapping_add_usize;
 use stream::MonteCarloRng;
 
 // Whether the words from a place on are these.
 pub fn holds(list: &[u8], at: usize, values: &[u64]) -> bool
-    requires { ⌜ (at < 1048576) × (length (now values) < 1048576) ⌝ }
+    requires { ⌜ (at < 64) × (length (now values) < 64) ⌝ }
 {
     let mut agrees = true;
     let mut i = 0;
@@ -21,10 +23,47 @@ pub fn holds(list: &[u8], at: usize, values: &[u64]) -> bool
     agrees
 }
 
+// The same for doubles.
+fn holds_doubles(list: &[u8], at: usize, values: &[f64]) -> bool {
+    let mut agrees = true;
+    let mut i = 0;
+    while i < values.len() {
+        agrees = agrees & (word(list, wrapping_add_usize(at, i)) == bits(values[i]));
+        i += 1;
+    }
+    agrees
+}
+
+// The same for a path, behind its length.
+fn holds_path(list: &[u8], at: usize, path: [usize; 4], levels: usize) -> bool
+    requires { ⌜ at < 64 ⌝ }
+{
+    let words = [
+        levels as u64,
+        path[0] as u64,
+        path[1] as u64,
+        path[2] as u64,
+        path[3] as u64,
+    ];
+    holds(list, at, &words)
+}
+
+// Whether a sample is that of the list: path, weights and coordinates, each behind its number.
+pub fn holds_sample(list: &[u8], s: Sample) -> bool {
+    let path = s.path;
+    let weights = s.weights;
+    let coordinates = s.coordinates;
+    holds_path(list, 3, path, s.levels)
+        & (word(list, 8) == s.given as u64)
+        & holds_doubles(list, 9, &weights)
+        & (word(list, 14) == s.axes as u64)
+        & holds_doubles(list, 15, &coordinates)
+}
+
 // A number of the list, 0 where it is not below the bound.
 pub fn below(list: &[u8], index: usize, bound: u64) -> usize
-    requires { ⌜ bound < 1048576 ⌝ }
-    ensures { λ r. ⌜ r ≤ bound ⌝ }
+    requires { ⌜ (0 < bound) × (bound < 1048576) ⌝ }
+    ensures { λ r. ⌜ r < bound ⌝ }
 {
     let x = word(list, index);
     if x < bound {
@@ -40,13 +79,13 @@ fn byte_of(list: &[u8], index: usize, place: u64) -> u8
     ((word(list, index) >> (8 * place)) % 256) as u8
 }
 
-// The bytes that stand from a word on, as many as there is room for.
-pub fn load(list: &[u8], at: usize, room: &mut [u8])
-    requires { ⌜ (at < 1048576) × (length (now room) < 1048576) ⌝ }
+// The bytes that stand from the third word on, as many as there is room for.
+pub fn load(list: &[u8], room: &mut [u8])
+    requires { ⌜ length (now room) < 1048576 ⌝ }
 {
     let mut i = 0;
     while i < room.len() {
-        room[i] = byte_of(list, at + i / 8, (i % 8) as u64);
+        room[i] = byte_of(list, 2 + i / 8, (i % 8) as u64);
         i += 1;
     }
 }
@@ -64,7 +103,7 @@ pub fn stream_at(list: &[u8], at: usize) -> MonteCarloRng
 
 // The indices of a path, behind its length.
 pub fn path_at(list: &[u8], at: usize) -> [usize; 4]
-    requires { ⌜ at < 1048576 ⌝ }
+    requires { ⌜ at < 64 ⌝ }
 {
     [
         word(list, at + 1) as usize,
@@ -74,83 +113,69 @@ pub fn path_at(list: &[u8], at: usize) -> [usize; 4]
     ]
 }
 
+// As many doubles as there is room for.
+fn load_doubles(list: &[u8], at: usize, room: &mut [f64])
+    requires { ⌜ (at < 64) × (length (now room) < 64) ⌝ }
+{
+    let mut i = 0;
+    while i < room.len() {
+        room[i] = double(word(list, at + i));
+        i += 1;
+    }
+}
+
 // Eight doubles.
 fn doubles_at(list: &[u8], at: usize) -> [f64; 8]
-    requires { ⌜ at < 1048576 ⌝ }
+    requires { ⌜ at < 64 ⌝ }
 {
-    [
-        double(word(list, at)),
-        double(word(list, at + 1)),
-        double(word(list, at + 2)),
-        double(word(list, at + 3)),
-        double(word(list, at + 4)),
-        double(word(list, at + 5)),
-        double(word(list, at + 6)),
-        double(word(list, at + 7)),
-    ]
-}
-
-// Eight marks, each 1 or 0.
-fn marks_at(list: &[u8], at: usize) -> [bool; 8]
-    requires { ⌜ at < 1048576 ⌝ }
-{
-    [
-        word(list, at) == 1,
-        word(list, at + 1) == 1,
-        word(list, at + 2) == 1,
-        word(list, at + 3) == 1,
-        word(list, at + 4) == 1,
-        word(list, at + 5) == 1,
-        word(list, at + 6) == 1,
-        word(list, at + 7) == 1,
-    ]
-}
-
-// The coordinates of a probe, behind their number, and their marks.
-fn coordinates_at(list: &[u8], at: usize) -> Coordinates
-    requires { ⌜ at < 1048100 ⌝ }
-{
-    Coordinates {
-        at: doubles_at(list, at + 1),
-        free: marks_at(list, at + 9),
-        many: word(list, at) as usize,
-    }
-}
-
-// What a probe asks for.
-pub fn region_at(list: &[u8], at: usize) -> Region
-    requires { ⌜ at < 1048000 ⌝ }
-{
-    Region {
-        path: path_at(list, at),
-        levels: word(list, at) as usize,
-        coordinates: coordinates_at(list, at + 5),
-    }
+    let mut doubles = [0.0f64; 8];
+    load_doubles(list, at, &mut doubles);
+    doubles
 }
 
 // Five doubles.
 fn weights_at(list: &[u8], at: usize) -> [f64; 5]
-    requires { ⌜ at < 1048576 ⌝ }
+    requires { ⌜ at < 64 ⌝ }
 {
-    [
-        double(word(list, at)),
-        double(word(list, at + 1)),
-        double(word(list, at + 2)),
-        double(word(list, at + 3)),
-        double(word(list, at + 4)),
-    ]
+    let mut weights = [0.0f64; 5];
+    load_doubles(list, at, &mut weights);
+    weights
+}
+
+// Eight marks, each 1 or 0.
+fn marks_at(list: &[u8], at: usize) -> [bool; 8]
+    requires { ⌜ at < 64 ⌝ }
+{
+    let mut marks = [false; 8];
+    let mut i = 0;
+    while i < 8 {
+        marks[i] = word(list, at + i) == 1;
+        i += 1;
+    }
+    marks
+}
+
+// What a probe asks for: a path, then the coordinates, each behind its number, then their marks.
+pub fn region_at(list: &[u8]) -> Region {
+    Region {
+        path: path_at(list, 2),
+        levels: word(list, 2) as usize,
+        coordinates: Coordinates {
+            at: doubles_at(list, 8),
+            free: marks_at(list, 16),
+            many: word(list, 7) as usize,
+        },
+    }
 }
 
 // A sample: path, weights and coordinates, each behind its number.
-pub fn sample_at(list: &[u8], at: usize) -> Sample
-    requires { ⌜ at < 1048000 ⌝ }
-{
+pub fn sample_at(list: &[u8]) -> Sample {
     Sample {
-        path: path_at(list, at),
-        levels: word(list, at) as usize,
-        weights: weights_at(list, at + 6),
-        given: word(list, at + 5) as usize,
-        coordinates: doubles_at(list, at + 12),
-        axes: word(list, at + 11) as usize,
+        path: path_at(list, 2),
+        levels: word(list, 2) as usize,
+        weights: weights_at(list, 8),
+        given: word(list, 7) as usize,
+        coordinates: doubles_at(list, 14),
+        axes: word(list, 13) as usize,
     }
 }

@@ -2,134 +2,50 @@
 //
 // The list is that of `oracle/target/release/answers grid 3 150`.
 mod calls;
+mod draws;
 mod list;
 mod memory;
+mod reads;
+mod tally;
 mod writes;
 
+ghost use Prim.Native.Nat.{_*_, _≤_};
+ghost use lib.ListN.{length};
+use draws::State;
 use libc::STDIN_FILENO;
-use libc::STDOUT_FILENO;
+use memory::Counts;
+use memory::Reals;
+use memory::Table;
+use tally::Tally;
 
-// The name of a kind of calls.
-fn print_name(kind: u64) -> bool {
-    match kind {
-        0 => io::write_all(STDOUT_FILENO, b"fresh: "),
-        1 => io::write_all(STDOUT_FILENO, b"draw: "),
-        2 => io::write_all(STDOUT_FILENO, b"probe: "),
-        3 => io::write_all(STDOUT_FILENO, b"summary: "),
-        4 => io::write_all(STDOUT_FILENO, b"live_estimate: "),
-        5 => io::write_all(STDOUT_FILENO, b"live_estimate_of_bin: "),
-        6 => io::write_all(STDOUT_FILENO, b"train: "),
-        7 => io::write_all(STDOUT_FILENO, b"update: "),
-        8 => io::write_all(STDOUT_FILENO, b"clone_without_samples: "),
-        9 => io::write_all(STDOUT_FILENO, b"is_mergeable: "),
-        10 => io::write_all(STDOUT_FILENO, b"merge: "),
-        11 => io::write_all(STDOUT_FILENO, b"cells set: "),
-        _ => io::write_all(STDOUT_FILENO, b"draw and train: "),
-    }
+// The list read into `text`; how many words it has.
+fn read(text: &mut [u8]) -> usize
+    ensures { λ r. ⌜ r * 17 ≤ length (now (text .exit)) ⌝ }
+{
+    io::read_full(STDIN_FILENO, text) / 17
 }
 
-// How many calls of a kind agree; of kind 0, how many plans are laid.
-fn line(
-    list: &[u8],
-    room: &mut [u8; 2048],
-    table: &mut [u64; 8192],
-    reals: &mut [f64; 16384],
-    counts: &mut [u64; 8192],
-    other_reals: &mut [f64; 16384],
-    other_counts: &mut [u64; 8192],
-    spare_reals: &mut [f64; 16384],
-    spare_counts: &mut [u64; 8192],
-    kind: u64,
-) {
-    let replayed = calls::replay(
-        list,
-        room,
-        table,
-        reals,
-        counts,
-        other_reals,
-        other_counts,
-        spare_reals,
-        spare_counts,
-        kind,
-    );
-    print_name(kind);
-    io::print_decimal(STDOUT_FILENO, replayed.agreed);
-    io::write_all(STDOUT_FILENO, b" of ");
-    io::print_decimal(STDOUT_FILENO, replayed.all);
-    io::write_all(STDOUT_FILENO, b" agree\n");
-}
-
-// A line for each kind.
-fn lines(
-    list: &[u8],
-    room: &mut [u8; 2048],
-    table: &mut [u64; 8192],
-    reals: &mut [f64; 16384],
-    counts: &mut [u64; 8192],
-    other_reals: &mut [f64; 16384],
-    other_counts: &mut [u64; 8192],
-    spare_reals: &mut [f64; 16384],
-    spare_counts: &mut [u64; 8192],
-) {
-    let mut kind = 0;
-    while kind < 13 {
-        line(
-            list,
-            room,
-            table,
-            reals,
-            counts,
-            other_reals,
-            other_counts,
-            spare_reals,
-            spare_counts,
-            kind,
-        );
-        kind += 1;
-    }
-}
-
-// The list read into `text`, and its lines.
-fn replay(
-    text: &mut [u8],
-    room: &mut [u8; 2048],
-    table: &mut [u64; 8192],
-    reals: &mut [f64; 16384],
-    counts: &mut [u64; 8192],
-    other_reals: &mut [f64; 16384],
-    other_counts: &mut [u64; 8192],
-    spare_reals: &mut [f64; 16384],
-    spare_counts: &mut [u64; 8192],
-) {
-    let got = io::read_full(STDIN_FILENO, text);
-    lines(
-        &text[..got],
-        room,
-        table,
-        reals,
-        counts,
-        other_reals,
-        other_counts,
-        spare_reals,
-        spare_counts,
-    );
-}
-
-// The rooms come as references to arrays, so that the proof sees their lengths and not their zeros.
+// The list read, its calls made, and a line for each kind of them. The rooms come as references to arrays, so that the proof sees their
+// lengths and not their zeros.
 fn run(
     text: &mut [u8; 2097152],
+    tally: &mut Tally,
+    state: &mut State,
     room: &mut [u8; 2048],
-    table: &mut [u64; 8192],
-    reals: &mut [f64; 16384],
-    counts: &mut [u64; 8192],
-    other_reals: &mut [f64; 16384],
-    other_counts: &mut [u64; 8192],
-    spare_reals: &mut [f64; 16384],
-    spare_counts: &mut [u64; 8192],
+    table: &mut Table,
+    reals: &mut Reals,
+    counts: &mut Counts,
+    other_reals: &mut Reals,
+    other_counts: &mut Counts,
+    spare_reals: &mut Reals,
+    spare_counts: &mut Counts,
 ) {
-    replay(
+    let words = read(text);
+    calls::replay(
         text,
+        words,
+        tally,
+        state,
         room,
         table,
         reals,
@@ -139,10 +55,13 @@ fn run(
         spare_reals,
         spare_counts,
     );
+    tally::print(tally);
 }
 
 fn main() {
     let mut text = [0u8; 2097152];
+    let mut tally = [0u64; 26];
+    let mut state = [0u64; 4];
     let mut room = [0u8; 2048];
     let mut table = [0u64; 8192];
     let mut reals = [0.0f64; 16384];
@@ -153,6 +72,8 @@ fn main() {
     let mut spare_counts = [0u64; 8192];
     run(
         &mut text,
+        &mut tally,
+        &mut state,
         &mut room,
         &mut table,
         &mut reals,

@@ -1,28 +1,33 @@
 // Lent memory: zeros before a plan, one cell set, and a mark of all that a plan needs.
 ghost use Prim.Native.Nat.{_≤_};
-ghost use lib.ListN.{length};
 use answers::bits;
 use answers::double;
 use answers::word;
 use plan::Sized;
 
-fn clear_reals(reals: &mut [f64]) {
+pub type Table = [u64; 8192];
+
+pub type Reals = [f64; 16384];
+
+pub type Counts = [u64; 8192];
+
+fn clear_reals(reals: &mut Reals) {
     let mut i = 0;
-    while i < reals.len() {
+    while i < 16384 {
         reals[i] = 0.0;
         i += 1;
     }
 }
 
-fn clear_counts(counts: &mut [u64]) {
+fn clear_counts(counts: &mut Counts) {
     let mut i = 0;
-    while i < counts.len() {
+    while i < 8192 {
         counts[i] = 0;
         i += 1;
     }
 }
 
-pub fn clear(reals: &mut [f64], counts: &mut [u64]) {
+pub fn clear(reals: &mut Reals, counts: &mut Counts) {
     clear_reals(reals);
     clear_counts(counts);
 }
@@ -37,8 +42,8 @@ fn mixed(mark: u64, word: u64) -> u64 {
 }
 
 // The bits of as many doubles joined to the mark, any NaN as 7ff8000000000000.
-fn mark_reals(start: u64, reals: &[f64], end: usize) -> u64
-    requires { ⌜ end ≤ length (now reals) ⌝ }
+fn mark_reals(start: u64, reals: &Reals, end: usize) -> u64
+    requires { ⌜ end ≤ 16384 ⌝ }
 {
     let mut mark = start;
     let mut i = 0;
@@ -49,8 +54,8 @@ fn mark_reals(start: u64, reals: &[f64], end: usize) -> u64
     mark
 }
 
-fn mark_counts(start: u64, counts: &[u64], end: usize) -> u64
-    requires { ⌜ end ≤ length (now counts) ⌝ }
+fn mark_counts(start: u64, counts: &Counts, end: usize) -> u64
+    requires { ⌜ end ≤ 8192 ⌝ }
 {
     let mut mark = start;
     let mut i = 0;
@@ -62,11 +67,11 @@ fn mark_counts(start: u64, counts: &[u64], end: usize) -> u64
 }
 
 // The mark of as many reals and counts; 0 where there are not so many.
-fn mark_front(reals: &[f64], counts: &[u64], last: usize, end: usize) -> u64 {
-    if reals.len() < last {
+fn mark_front(reals: &Reals, counts: &Counts, last: usize, end: usize) -> u64 {
+    if 16384 < last {
         return 0;
     }
-    if counts.len() < end {
+    if 8192 < end {
         return 0;
     }
     let mark = mark_reals(0xcbf2_9ce4_8422_2325, reals, last);
@@ -74,7 +79,7 @@ fn mark_front(reals: &[f64], counts: &[u64], last: usize, end: usize) -> u64 {
 }
 
 // The mark of all that the table's plan needs, what is room now among it.
-pub fn mark(table: &[u64], reals: &[f64], counts: &[u64]) -> u64 {
+pub fn mark(table: &Table, reals: &Reals, counts: &Counts) -> u64 {
     match plan::sizes(table) {
         Sized::Plan(needs) => mark_front(reals, counts, needs.reals, needs.counts),
         Sized::Refused(_) => 0,
@@ -82,25 +87,23 @@ pub fn mark(table: &[u64], reals: &[f64], counts: &[u64]) -> u64 {
 }
 
 // A double, where there is such a place.
-fn put_real(reals: &mut [f64], at: usize, x: f64) {
-    if at < reals.len() {
+fn put_real(reals: &mut Reals, at: usize, x: f64) {
+    if at < 16384 {
         reals[at] = x;
     }
 }
 
-fn put_count(counts: &mut [u64], at: usize, x: u64) {
-    if at < counts.len() {
+fn put_count(counts: &mut Counts, at: usize, x: u64) {
+    if at < 8192 {
         counts[at] = x;
     }
 }
 
-// A cell of the reals, or of the counts where the first word is not 0.
-pub fn put(list: &[u8], at: usize, reals: &mut [f64], counts: &mut [u64])
-    requires { ⌜ at ≤ 1048576 ⌝ }
-{
-    let place = word(list, at + 1) as usize;
-    let x = word(list, at + 2);
-    if word(list, at) == 0 {
+// A cell of the reals, or of the counts where the list's third word is not 0.
+pub fn put(list: &[u8], reals: &mut Reals, counts: &mut Counts) {
+    let place = word(list, 3) as usize;
+    let x = word(list, 4);
+    if word(list, 2) == 0 {
         put_real(reals, place, double(x));
     } else {
         put_count(counts, place, x);

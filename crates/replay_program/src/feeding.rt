@@ -1,197 +1,172 @@
 // An input fed turn by turn, what is told held against its lines.
-ghost use mathlib.Core.Path.{_≡_};
-ghost use mathlib.Core.Bool.{true};
 ghost use Prim.Native.Nat.{_≤_, _<_};
-ghost use lib.ListN.{length};
 use crate::list::Held;
 use crate::list::hold;
+use crate::list::lines_of;
 use feed::Run;
 use feed::Turned;
 use feed::beginning;
 use feed::is_over;
 use feed::turn;
+use std::num::wrapping_add_usize;
 
-// A run after turns on some bytes: how many they took, the place among the lines, and whether another turn follows.
-struct Poured {
+pub type Room = [u8; 1024];
+
+pub type Table = [u64; 16832];
+
+pub type Reals = [f64; 2816];
+
+pub type Counts = [u64; 1344];
+
+// A run between turns: how many bytes they took, the place among the lines, whether the bytes behind the cut are there too, and whether
+// another turn follows.
+struct Fed {
     run: Run,
     taken: usize,
     held: Held,
+    last: bool,
     goes: bool,
 }
 
-// Whether another turn follows: one that took nothing waits for more bytes.
-fn goes_on(turned: Turned) -> bool
-    ensures { λ r. ⌜ (r ≡ true → 0 < turned .taken) ⌝ }
+// The lesser of two.
+fn least(a: usize, b: usize) -> usize
+    ensures { λ r. ⌜ (r ≤ a) × (r ≤ b) ⌝ }
 {
-    if turned.taken == 0 {
-        return false;
-    }
-    let run = turned.run;
-    !is_over(run)
+    if a < b { a } else { b }
 }
 
-// One turn on the bytes from a place on.
+// Whether another turn follows on the same bytes: one that took nothing waits for more.
+fn goes_on(turned: Turned) -> bool {
+    let run = turned.run;
+    (turned.taken != 0) & !is_over(run)
+}
+
+// The run behind a turn. Where none follows on the bytes before the cut those behind it come; where none follows on all of them the run ends.
+fn behind(list: &[u8], end: usize, fed: Fed, turned: Turned) -> Fed {
+    let run = turned.run;
+    let told = turned.told;
+    let held = hold(list, fed.held, end, told);
+    let goes = goes_on(turned);
+    Fed {
+        run,
+        taken: wrapping_add_usize(fed.taken, turned.taken),
+        held,
+        last: fed.last | !goes,
+        goes: !fed.last | goes,
+    }
+}
+
+// One turn on the bytes that are not taken yet, up to a place.
 fn step(
-    list: &[u8],
-    held: Held,
-    end: usize,
     run: Run,
     bytes: &[u8],
-    from: usize,
+    taken: usize,
+    until: usize,
     last: bool,
-    table: &mut [u64],
-    reals: &mut [f64],
-    counts: &mut [u64],
-    spare_reals: &mut [f64],
-    spare_counts: &mut [u64],
-) -> Poured
-    requires { ⌜ (from ≤ length (now bytes)) × (held .at ≤ end) × (end < 1048576) ⌝ }
-    ensures { λ r. ⌜ (r .taken ≤ length (now (bytes .entry))) × (r .held .at ≤ end) × (r .goes ≡ true → from < r .taken) ⌝ }
-{
-    let turned = turn(
+    table: &mut Table,
+    reals: &mut Reals,
+    counts: &mut Counts,
+    spare_reals: &mut Reals,
+    spare_counts: &mut Counts,
+) -> Turned {
+    let end = least(until, bytes.len());
+    let from = least(taken, end);
+    turn(
         run,
-        &bytes[from..],
+        &bytes[from..end],
         last,
         table,
         reals,
         counts,
         spare_reals,
         spare_counts,
-    );
-    let told = turned.told;
-    let after = hold(list, held, end, told);
-    let goes = goes_on(turned);
-    let next = turned.run;
-    Poured {
-        run: next,
-        taken: from + turned.taken,
-        held: after,
-        goes,
-    }
+    )
 }
 
-// Turn by turn from a place on, as far as these bytes go.
-fn pour(
+// An input of so many bytes cut in two: first the bytes before the cut, then all that is left. Whether its lines are the list's. The turns
+// are counted down from more than any input takes.
+fn feed_cut(
     list: &[u8],
-    held: Held,
-    end: usize,
-    run: Run,
     bytes: &[u8],
-    from: usize,
-    last: bool,
-    table: &mut [u64],
-    reals: &mut [f64],
-    counts: &mut [u64],
-    spare_reals: &mut [f64],
-    spare_counts: &mut [u64],
-) -> Poured
-    requires { ⌜ (from ≤ length (now bytes)) × (held .at ≤ end) × (end < 1048576) ⌝ }
-    ensures { λ r. ⌜ (r .taken ≤ length (now (bytes .entry))) × (r .held .at ≤ end) ⌝ }
-{
-    let mut now = run;
-    let mut taken = from;
-    let mut kept = held;
-    loop {
-        let poured = step(
-            list,
-            kept,
-            end,
-            now,
+    size: usize,
+    cut: usize,
+    table: &mut Table,
+    reals: &mut Reals,
+    counts: &mut Counts,
+    spare_reals: &mut Reals,
+    spare_counts: &mut Counts,
+) -> bool {
+    let lines = lines_of(list);
+    let mut fed = begun(lines.from);
+    let mut left: u64 = 4096;
+    while 0 < left {
+        let run = fed.run;
+        let until = if fed.last { size } else { cut };
+        let turned = step(
+            run,
             bytes,
-            taken,
-            last,
+            fed.taken,
+            until,
+            fed.last,
             table,
             reals,
             counts,
             spare_reals,
             spare_counts,
         );
-        if !poured.goes {
-            return poured;
-        }
-        let after = poured.run;
-        now = after;
-        taken = poured.taken;
-        let further = poured.held;
-        kept = further;
+        fed = behind(list, lines.end, fed, turned);
+        left = fewer(left, fed.goes);
+    }
+    ends(fed, lines.end)
+}
+
+// The turns that are left behind one of them: none where the run has ended.
+fn fewer(left: u64, goes: bool) -> u64
+    requires { ⌜ 0 < left ⌝ }
+    ensures { λ r. ⌜ r < left ⌝ }
+{
+    if goes { left - 1 } else { 0 }
+}
+
+// Before the first turn.
+fn begun(from: usize) -> Fed {
+    Fed {
+        run: beginning(),
+        taken: 0,
+        held: Held {
+            at: from,
+            agrees: true,
+        },
+        last: false,
+        goes: true,
     }
 }
 
-// An input cut in two: first the bytes before the cut, then all that is left. Whether its lines are the list's.
-fn feed_cut(
-    list: &[u8],
-    from: usize,
-    end: usize,
-    bytes: &[u8],
-    cut: usize,
-    table: &mut [u64],
-    reals: &mut [f64],
-    counts: &mut [u64],
-    spare_reals: &mut [f64],
-    spare_counts: &mut [u64],
-) -> bool
-    requires { ⌜ (from ≤ end) × (end < 1048576) × (cut ≤ length (now bytes)) ⌝ }
-{
-    let begun = Held {
-        at: from,
-        agrees: true,
-    };
-    let front = pour(
-        list,
-        begun,
-        end,
-        beginning(),
-        &bytes[..cut],
-        0,
-        false,
-        table,
-        reals,
-        counts,
-        spare_reals,
-        spare_counts,
-    );
-    let run = front.run;
-    let held = front.held;
-    let whole = pour(
-        list,
-        held,
-        end,
-        run,
-        bytes,
-        front.taken,
-        true,
-        table,
-        reals,
-        counts,
-        spare_reals,
-        spare_counts,
-    );
-    let told = whole.held;
-    told.agrees & (told.at == end)
+// Whether the run has ended, and all lines were told.
+fn ends(fed: Fed, end: usize) -> bool {
+    let held = fed.held;
+    !fed.goes & held.agrees & (held.at == end)
 }
 
-// An input whole, then cut at up to seven places.
+// An input whole, then cut at seven places.
 pub fn feed_cuts(
     list: &[u8],
-    from: usize,
-    end: usize,
     bytes: &[u8],
-    table: &mut [u64],
-    reals: &mut [f64],
-    counts: &mut [u64],
-    spare_reals: &mut [f64],
-    spare_counts: &mut [u64],
-) -> bool
-    requires { ⌜ (from ≤ end) × (end < 1048576) × (length (now bytes) < 1048576) ⌝ }
-{
+    size: usize,
+    table: &mut Table,
+    reals: &mut Reals,
+    counts: &mut Counts,
+    spare_reals: &mut Reals,
+    spare_counts: &mut Counts,
+) -> bool {
     let mut agrees = true;
     let mut cut = 0;
-    while cut <= bytes.len() {
+    let mut part: u64 = 0;
+    while part < 8 {
         let same = feed_cut(
             list,
-            from,
-            end,
             bytes,
+            size,
             cut,
             table,
             reals,
@@ -200,7 +175,8 @@ pub fn feed_cuts(
             spare_counts,
         );
         agrees = agrees & same;
-        cut = cut + 1 + bytes.len() / 8;
+        cut = least(wrapping_add_usize(cut, 1 + size / 8), size);
+        part += 1;
     }
     agrees
 }

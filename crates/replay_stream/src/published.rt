@@ -42,20 +42,30 @@ pub fn xoshiro() -> u64 {
     agreed
 }
 
-// How many words of the stream of seed 0 are SplitMix64's from 0, as splitmix64.c gives them.
-pub fn splitmix_zero() -> u64 {
-    let state = MonteCarloRng::seed_from_u64(0);
-    same(state.s0, 0xe220_a839_7b1d_cdaf)
-        + same(state.s1, 0x6e78_9e6a_a1b9_65f4)
-        + same(state.s2, 0x06c4_5d18_8009_454f)
-        + same(state.s3, 0xf88b_b8a8_724c_81ec)
+// How many words of a seed's stream are these.
+fn splitmix(seed: u64, s0: u64, s1: u64, s2: u64, s3: u64) -> u64 {
+    let state = MonteCarloRng::seed_from_u64(seed);
+    same(state.s0, s0) + same(state.s1, s1) + same(state.s2, s2) + same(state.s3, s3)
 }
 
-// The same for seed 1234567.
+// SplitMix64's words from 0, as splitmix64.c gives them.
+pub fn splitmix_zero() -> u64 {
+    splitmix(
+        0,
+        0xe220_a839_7b1d_cdaf,
+        0x6e78_9e6a_a1b9_65f4,
+        0x06c4_5d18_8009_454f,
+        0xf88b_b8a8_724c_81ec,
+    )
+}
+
+// The same from 1234567.
 pub fn splitmix_1234567() -> u64 {
-    let state = MonteCarloRng::seed_from_u64(1234567);
-    same(state.s0, 6457827717110365317)
-        + same(state.s1, 3203168211198807973)
-        + same(state.s2, 9817491932198370423)
-        + same(state.s3, 4593380528125082431)
+    splitmix(
+        1234567,
+        6457827717110365317,
+        3203168211198807973,
+        9817491932198370423,
+        4593380528125082431,
+    )
 }

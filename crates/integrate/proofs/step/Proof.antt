@@ -1,4 +1,5 @@
 -- `step`: the place behind the turn lies within the bytes, and where it goes on the turn took some.
+use mathlib.Core.Path.{_≡_}
 use native.Mathlib.Omega.{arith}
 use lib.ListN.{length, length-drop, length-take}
 use Rattle.lent.specs.Memory.{memory}
@@ -28,31 +29,18 @@ goes-on-requires : tie.Need-goes-on-requires
 goes-on-requires c κs = search needs
 
 add-t16 : tie.Need-add-t16
-add-t16 c = omega (arith, c .before .before .before .before .before .before .before .before .before .before .before .before .before .before .before .before .before .before .before .before .before .before .before .before .before .before .before .pre, c .before .before .before .before .before .before .before .before .before .before .before .before .before .before .before .before .before .before .before .before .before .before .before .before .before .before .before .good .1 .0, simp (length-drop, length-take) at (c .before .before .before .before .before .before .before .before .before .before .before .before .before .before .turn .ensures .1))
-
-same-length : tie.Need-same-length
-same-length c = search needs
-
-same-length-2 : tie.Need-same-length-2
-same-length-2 c = search needs
-
-same-length-3 : tie.Need-same-length-3
-same-length-3 c = search needs
-
-same-length-4 : tie.Need-same-length-4
-same-length-4 c = search needs
-
-same-length-5 : tie.Need-same-length-5
-same-length-5 c = search needs
+add-t16 c = omega (arith, c .before .before .before .before .before .before .before .before .before .before .before .before .pre, c .before .before .before .before .before .before .before .before .before .before .before .before .good .1 .0, simp (length-drop, length-take) at (c .before .before .before .before .turn .ensures .1))
 
 returns : tie.Need-returns
 returns c =
-    let a = c .before .before .before .before .before .before .before .before .before .before .before .before .before .before .before .before .before .before .before .before .before .before .before .before .before .before .before .args in
-    let t = c .before .before .before .before .before .before .before .before .before .before .before .before .before .before .turn in
-    stepped (a .bytes .now) (a .last) (length (a .spare-reals .now)) (length (a .spare-counts .now))
+    let a = c .before .before .before .before .before .before .before .before .before .before .before .before .args in
+    let t = c .before .before .before .before .turn in
+    let e : length (a .spare-reals .now) ≡ 2816 = omega (arith, c .before .before .before .before .before .before .turn-arg5 .given) in
+    let f : length (a .spare-counts .now) ≡ 1344 = omega (arith, c .before .before .before .before .before .turn-arg6 .given) in
+    stepped (a .bytes .now) (a .last) 2816 1344
     (place (a .run) (a .from) (a .table .now) (memory (a .reals .now) (a .counts .now))) (said (t .result)) (t .last .1 .1 .1 .0)
-    (memory (t .last .1 .1 .1 .1 .0) (t .last .1 .1 .1 .1 .1 .0)) (c .before .before .before .tell .result) (c .before .before .goes-on .result) (t .ensures .0)
-    (t .ensures .1) (c .before .before .before .before .before .before .before .before .before .before .before .before .before .before .before .before .before .before .before .before .before .before .before .before .before .before .before .pre) (c .before .before .goes-on .ensures)
+    (memory (t .last .1 .1 .1 .1 .0) (t .last .1 .1 .1 .1 .1 .0)) (c .before .before .before .tell .result) (c .before .before .goes-on .result) (rw (e, f) at (t .ensures .0))
+    (t .ensures .1) (c .before .before .before .before .before .before .before .before .before .before .before .before .pre) (c .before .before .goes-on .ensures)
 
 pub step-spec : {M : Type 1} → statement M
 step-spec =
@@ -65,9 +53,4 @@ step-spec =
     tell-requires
     goes-on-requires
     add-t16
-    same-length
-    same-length-2
-    same-length-3
-    same-length-4
-    same-length-5
     returns)

@@ -15,14 +15,13 @@ slice-reshare-prefix-pour : tie.Need-slice-reshare-prefix-pour
 slice-reshare-prefix-pour c = search needs
 
 slice-aggregate-pour : tie.Need-slice-aggregate-pour
-slice-aggregate-pour c = sym (length-take-le _ _ (c .before .before .before .before .before .before .before .pre))
+slice-aggregate-pour c = sym (length-take-le _ _ (c .before .before .pre))
 
 pour-requires : tie.Need-pour-requires
 pour-requires c κs = search needs
 
 keep-requires : tie.Need-keep-requires
-keep-requires c κs =
-    (omega (arith, simp length-take at (c .before .before .before .before .before .before .before .before .before .before .before .before .pour .ensures .0)), c .before .before .before .before .before .before .before .before .before .before .before .before .before .before .before .before .before .before .before .before .before .before .before .before .before .pre)
+keep-requires c κs = (omega (arith, simp length-take at (c .before .before .pour .ensures .0)), c .before .before .before .before .before .before .before .before .before .before .pre)
 
 is-over-requires : tie.Need-is-over-requires
 is-over-requires c κs = search needs
@@ -30,26 +29,11 @@ is-over-requires c κs = search needs
 same-length : tie.Need-same-length
 same-length c = search needs
 
-same-length-2 : tie.Need-same-length-2
-same-length-2 c = search needs
-
-same-length-3 : tie.Need-same-length-3
-same-length-3 c = search needs
-
-same-length-4 : tie.Need-same-length-4
-same-length-4 c = search needs
-
-same-length-5 : tie.Need-same-length-5
-same-length-5 c = search needs
-
-same-length-6 : tie.Need-same-length-6
-same-length-6 c = search needs
-
 returns : tie.Need-returns
 returns c =
     let k = c .before .before .before .before .keep .ensures in
-    let p = c .before .before .before .before .before .before .before .before .before .before .before .before .before .before .before .before .before .pour in
-    let a = c .before .before .before .before .before .before .before .before .before .before .before .before .before .before .before .before .before .before .before .before .before .before .before .before .before .before .before .before .before .before in (
+    let p = c .before .before .before .before .before .before .before .pour in
+    let a = c .before .before .before .before .before .before .before .before .before .before .before .before .before .before .before in (
       record { taken = p .result .taken; many = k .0; kept = k .1; turns = λ h. p .ensures .1 .0 (first-holds _ _ _ h) },
       λ h. let d = sym (c .is-over .ensures) ∙ not-true _ (last-holds (p .result .written) (ltb (a .args .held) (a .args .full)) _ h) in left-short (a .args .text .now) (a .args .full) (p .result .taken) _ (a .pre) (k .0) (p .ensures .1 .1 (first-holds _ _ _ h) d),
     )
@@ -64,9 +48,4 @@ take-in-spec =
     keep-requires
     is-over-requires
     same-length
-    same-length-2
-    same-length-3
-    same-length-4
-    same-length-5
-    same-length-6
     returns)

@@ -1,13 +1,11 @@
--- A batch keeps the lengths of lent memory.
+-- The counter stays within its bound.
 use borrow.Author.Needs.{needs}
 use Prim.Native.Nat.{_-_, _≤_}
-use lib.ListN.{length}
-use mathlib.Core.Path.{_≡_}
 use Rattle.bench.proofs.grids.batches.Statement.{statement}
 use Rattle.bench.proofs.grids.batches.Tie as tie
 
 abbrev Inv-loop : tie.InvT-loop
-Inv-loop table reals₀ counts₀ evaluations count stream₀ i₀ reals counts stream i = (i ≤ count) × (length reals ≡ length reals₀) × (length counts ≡ length counts₀)
+Inv-loop table reals₀ counts₀ evaluations count stream₀ i₀ reals counts stream i = i ≤ count
 
 abbrev μ-loop : tie.MeasureT-loop
 μ-loop table reals₀ counts₀ evaluations count stream₀ i₀ reals counts stream i = count - i
@@ -23,14 +21,6 @@ loop-holds c = search needs
 -- src/grids.rt:35:13
 draw-and-train-requires : tie.Need-draw-and-train-requires Inv-loop μ-loop
 draw-and-train-requires c κs = search needs
-
--- src/grids.rt:37:13
-same-length : tie.Need-same-length Inv-loop μ-loop
-same-length c = search needs
-
--- src/grids.rt:37:13
-same-length-2 : tie.Need-same-length-2 Inv-loop μ-loop
-same-length-2 c = search needs
 
 -- src/grids.rt:37:13
 returns : tie.Need-returns Inv-loop μ-loop
@@ -57,14 +47,6 @@ word-requires : tie.Need-word-requires Inv-loop μ-loop
 word-requires c κs = search needs
 
 -- src/grids.rt:25:1
-same-length-3 : tie.Need-same-length-3 Inv-loop μ-loop
-same-length-3 c = search needs
-
--- src/grids.rt:25:1
-same-length-4 : tie.Need-same-length-4 Inv-loop μ-loop
-same-length-4 c = search needs
-
--- src/grids.rt:25:1
 returns-2 : tie.Need-returns-2 Inv-loop μ-loop
 returns-2 c = search needs
 
@@ -77,14 +59,10 @@ batches-spec =
     seed-from-u64-requires
     loop-holds
     draw-and-train-requires
-    same-length
-    same-length-2
     returns
     add-i
     loop-less
     loop-again
     live-estimate-requires
     word-requires
-    same-length-3
-    same-length-4
     returns-2)

@@ -1,51 +1,35 @@
--- The index goes up to the number of cells.
-use lib.ListN.{length, length-set}
-use Prim.Native.Nat.{_-_, _≤_}
-use mathlib.Core.Path.{_≡_, refl}
-use native.Mathlib.Omega.{arith}
+-- The places that are left fall.
 use borrow.Author.Needs.{needs}
+use Prim.Native.Nat.{_-_, _≤_}
 use Rattle.replay_grid.proofs.memory.clear_counts.Statement.{statement}
 use Rattle.replay_grid.proofs.memory.clear_counts.Tie as tie
-use Rattle.replay_grid.proofs.memory.clear_counts.Reads as reads
-use Rattle.replay_grid.proofs.memory.clear_counts.Lts as lts
 
 abbrev Inv-loop : tie.InvT-loop
-Inv-loop counts₀ i₀ counts i = (i ≤ length counts) × (length counts ≡ length counts₀)
+Inv-loop counts₀ i₀ counts i = i ≤ 8192
 
 abbrev μ-loop : tie.MeasureT-loop
-μ-loop counts₀ i₀ counts i = length counts₀ - i
+μ-loop counts₀ i₀ counts i = 8192 - i
 
--- src/memory.rt:19:5
 loop-holds : tie.Need-loop-holds Inv-loop μ-loop
-loop-holds c = (omega arith, refl)
+loop-holds c = search needs
 
--- src/memory.rt:20:9
 mul-counts : tie.Need-mul-counts Inv-loop μ-loop
 mul-counts c = search needs
 
--- src/memory.rt:20:9
-slice-write-counts : tie.Need-slice-write-counts Inv-loop μ-loop
-slice-write-counts c = omega arith
+element-write-counts : tie.Need-element-write-counts Inv-loop μ-loop
+element-write-counts c = search needs
 
--- src/memory.rt:21:9
 add-i : tie.Need-add-i Inv-loop μ-loop
 add-i c = search needs
 
--- src/memory.rt:19:5
 loop-less : tie.Need-loop-less Inv-loop μ-loop
-loop-less c = omega arith
+loop-less c = search needs
 
--- src/memory.rt:19:5
 loop-again : tie.Need-loop-again Inv-loop μ-loop
-loop-again c = (rw length-set (omega arith), rw length-set (omega arith))
+loop-again c = search needs
 
--- src/memory.rt:17:1
-same-length : tie.Need-same-length Inv-loop μ-loop
-same-length c = omega arith
-
--- src/memory.rt:17:1
 returns : tie.Need-returns Inv-loop μ-loop
-returns c = tt
+returns c = search needs
 
 pub clear-counts-spec : {M : Type 1} → statement M
 clear-counts-spec =
@@ -55,9 +39,8 @@ clear-counts-spec =
     μ-loop
     loop-holds
     mul-counts
-    slice-write-counts
+    element-write-counts
     add-i
     loop-less
     loop-again
-    same-length
     returns)

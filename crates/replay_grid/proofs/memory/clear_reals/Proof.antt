@@ -1,51 +1,35 @@
--- The index goes up to the number of cells.
-use lib.ListN.{length, length-set}
-use Prim.Native.Nat.{_-_, _≤_}
-use mathlib.Core.Path.{_≡_, refl}
-use native.Mathlib.Omega.{arith}
+-- The places that are left fall.
 use borrow.Author.Needs.{needs}
+use Prim.Native.Nat.{_-_, _≤_}
 use Rattle.replay_grid.proofs.memory.clear_reals.Statement.{statement}
 use Rattle.replay_grid.proofs.memory.clear_reals.Tie as tie
-use Rattle.replay_grid.proofs.memory.clear_reals.Reads as reads
-use Rattle.replay_grid.proofs.memory.clear_reals.Lts as lts
 
 abbrev Inv-loop : tie.InvT-loop
-Inv-loop reals₀ i₀ reals i = (i ≤ length reals) × (length reals ≡ length reals₀)
+Inv-loop reals₀ i₀ reals i = i ≤ 16384
 
 abbrev μ-loop : tie.MeasureT-loop
-μ-loop reals₀ i₀ reals i = length reals₀ - i
+μ-loop reals₀ i₀ reals i = 16384 - i
 
--- src/memory.rt:11:5
 loop-holds : tie.Need-loop-holds Inv-loop μ-loop
-loop-holds c = (omega arith, refl)
+loop-holds c = search needs
 
--- src/memory.rt:12:9
 mul-reals : tie.Need-mul-reals Inv-loop μ-loop
 mul-reals c = search needs
 
--- src/memory.rt:12:9
-slice-write-reals : tie.Need-slice-write-reals Inv-loop μ-loop
-slice-write-reals c = omega arith
+element-write-reals : tie.Need-element-write-reals Inv-loop μ-loop
+element-write-reals c = search needs
 
--- src/memory.rt:13:9
 add-i : tie.Need-add-i Inv-loop μ-loop
 add-i c = search needs
 
--- src/memory.rt:11:5
 loop-less : tie.Need-loop-less Inv-loop μ-loop
-loop-less c = omega arith
+loop-less c = search needs
 
--- src/memory.rt:11:5
 loop-again : tie.Need-loop-again Inv-loop μ-loop
-loop-again c = (rw length-set (omega arith), rw length-set (omega arith))
+loop-again c = search needs
 
--- src/memory.rt:9:1
-same-length : tie.Need-same-length Inv-loop μ-loop
-same-length c = omega arith
-
--- src/memory.rt:9:1
 returns : tie.Need-returns Inv-loop μ-loop
-returns c = tt
+returns c = search needs
 
 pub clear-reals-spec : {M : Type 1} → statement M
 clear-reals-spec =
@@ -55,9 +39,8 @@ clear-reals-spec =
     μ-loop
     loop-holds
     mul-reals
-    slice-write-reals
+    element-write-reals
     add-i
     loop-less
     loop-again
-    same-length
     returns)

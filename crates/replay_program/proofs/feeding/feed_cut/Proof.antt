@@ -1,53 +1,57 @@
--- What is taken before the cut lies before it, so that the rest begins within the bytes.
-use native.Mathlib.Omega.{arith}
-use mathlib.Core.Path.{sym}
-use lib.Seq.{length-take-le}
+-- The turns that are left fall.
 use borrow.Author.Needs.{needs}
 use Rattle.replay_program.proofs.feeding.feed_cut.Statement.{statement}
 use Rattle.replay_program.proofs.feeding.feed_cut.Tie as tie
 
-beginning-requires : tie.Need-beginning-requires
-beginning-requires c κs = search needs
+abbrev Inv-loop : tie.InvT-loop
+Inv-loop list bytes size cut table₀ reals₀ counts₀ spare-reals₀ spare-counts₀ lines fed₀ left₀ table reals counts spare-reals spare-counts fed left = Unit {0}
 
-slice-aggregate-pour : tie.Need-slice-aggregate-pour
-slice-aggregate-pour c = let s = c .before .before .before .before .before .before .before .before .before in sym (length-take-le (s .args .cut) (s .args .bytes .now) (s .pre .2))
+abbrev μ-loop : tie.MeasureT-loop
+μ-loop list bytes size cut table₀ reals₀ counts₀ spare-reals₀ spare-counts₀ lines fed₀ left₀ table reals counts spare-reals spare-counts fed left = left
 
-pour-requires : tie.Need-pour-requires
-pour-requires c κs = search needs
+lines-of-requires : tie.Need-lines-of-requires Inv-loop μ-loop
+lines-of-requires c κs = search needs
 
-pour-requires-2 : tie.Need-pour-requires-2
-pour-requires-2 c κs = let s = c .before .before .before .before .before .before .before .before .before .before .before .before .before .before .before .before .before .before .before .before .before .before .before .before .before .before .before .before .before .before .before .before in let p = c .before .before .before .before .before .before .before .before .before .before .before .before .before .before .before .before .before .pour in
-    (omega (arith, p .ensures .0, length-take-le (s .args .cut) (s .args .bytes .now) (s .pre .2), s .pre .2), p .ensures .1, s .pre .1)
+begun-requires : tie.Need-begun-requires Inv-loop μ-loop
+begun-requires c κs = search needs
 
-same-length : tie.Need-same-length
-same-length c = omega (arith, c .before .before .before .before .before .before .before .before .before .before .before .before .before .before .before .before .before .before .before .before .before .before .before .before .before .before .before .before .before .before .before .pour .kept .1 .1 .1 .1 .1 .1 .1 .0, c .before .before .before .before .before .before .before .before .before .before .before .before .before .pour2 .kept .1 .1 .1 .1 .1 .1 .1 .0)
+loop-holds : tie.Need-loop-holds Inv-loop μ-loop
+loop-holds c = tt
 
-same-length-2 : tie.Need-same-length-2
-same-length-2 c = omega (arith, c .before .before .before .before .before .before .before .before .before .before .before .before .before .before .before .before .before .before .before .before .before .before .before .before .before .before .before .before .before .before .before .pour .kept .1 .1 .1 .1 .1 .1 .1 .1 .0, c .before .before .before .before .before .before .before .before .before .before .before .before .before .pour2 .kept .1 .1 .1 .1 .1 .1 .1 .1 .0)
+step-requires : tie.Need-step-requires Inv-loop μ-loop
+step-requires c κs = search needs
 
-same-length-3 : tie.Need-same-length-3
-same-length-3 c = omega (arith, c .before .before .before .before .before .before .before .before .before .before .before .before .before .before .before .before .before .before .before .before .before .before .before .before .before .before .before .before .before .before .before .pour .kept .1 .1 .1 .1 .1 .1 .1 .1 .1 .0, c .before .before .before .before .before .before .before .before .before .before .before .before .before .pour2 .kept .1 .1 .1 .1 .1 .1 .1 .1 .1 .0)
+behind-requires : tie.Need-behind-requires Inv-loop μ-loop
+behind-requires c κs = search needs
 
-same-length-4 : tie.Need-same-length-4
-same-length-4 c = search needs
+fewer-requires : tie.Need-fewer-requires Inv-loop μ-loop
+fewer-requires c κs = search needs
 
-same-length-5 : tie.Need-same-length-5
-same-length-5 c = search needs
+loop-less : tie.Need-loop-less Inv-loop μ-loop
+loop-less c = search needs
 
-returns : tie.Need-returns
+loop-again : tie.Need-loop-again Inv-loop μ-loop
+loop-again c = tt
+
+ends-requires : tie.Need-ends-requires Inv-loop μ-loop
+ends-requires c κs = search needs
+
+returns : tie.Need-returns Inv-loop μ-loop
 returns c = search needs
 
 pub feed-cut-spec : {M : Type 1} → statement M
 feed-cut-spec =
     tie.close
     (tie.spec
-    beginning-requires
-    slice-aggregate-pour
-    pour-requires
-    pour-requires-2
-    same-length
-    same-length-2
-    same-length-3
-    same-length-4
-    same-length-5
+    Inv-loop
+    μ-loop
+    lines-of-requires
+    begun-requires
+    loop-holds
+    step-requires
+    behind-requires
+    fewer-requires
+    loop-less
+    loop-again
+    ends-requires
     returns)

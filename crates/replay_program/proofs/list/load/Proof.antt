@@ -1,43 +1,38 @@
--- Eight bytes stand in each word.
-use lib.ListN.{length, length-set}
+-- The places that are left fall.
 use Prim.Native.Nat.{_-_, _≤_}
-use mathlib.Core.Path.{_≡_, refl}
-use native.Mathlib.Omega.{arith}
+use borrow.Author.Needs.{needs}
 use Rattle.replay_program.proofs.list.load.Statement.{statement}
 use Rattle.replay_program.proofs.list.load.Tie as tie
 
 abbrev Inv-loop : tie.InvT-loop
-Inv-loop list at room₀ i₀ room i = (i ≤ length room) × (length room ≡ length room₀)
+Inv-loop list room₀ i₀ room i = i ≤ 1024
 
 abbrev μ-loop : tie.MeasureT-loop
-μ-loop list at room₀ i₀ room i = length room₀ - i
+μ-loop list room₀ i₀ room i = 1024 - i
 
 loop-holds : tie.Need-loop-holds Inv-loop μ-loop
-loop-holds c = (omega arith, refl)
+loop-holds c = search needs
 
 add-byte-of : tie.Need-add-byte-of Inv-loop μ-loop
-add-byte-of c = omega arith
+add-byte-of c = search needs
 
 byte-of-requires : tie.Need-byte-of-requires Inv-loop μ-loop
-byte-of-requires c κs = omega arith
+byte-of-requires c κs = search needs
 
-slice-write-room : tie.Need-slice-write-room Inv-loop μ-loop
-slice-write-room c = omega arith
+element-write-room : tie.Need-element-write-room Inv-loop μ-loop
+element-write-room c = search needs
 
 add-i : tie.Need-add-i Inv-loop μ-loop
-add-i c = omega arith
+add-i c = search needs
 
 loop-less : tie.Need-loop-less Inv-loop μ-loop
-loop-less c = omega arith
+loop-less c = search needs
 
 loop-again : tie.Need-loop-again Inv-loop μ-loop
-loop-again c = (rw length-set (omega arith), rw length-set (omega arith))
-
-same-length : tie.Need-same-length Inv-loop μ-loop
-same-length c = omega arith
+loop-again c = search needs
 
 returns : tie.Need-returns Inv-loop μ-loop
-returns c = tt
+returns c = search needs
 
 pub load-spec : {M : Type 1} → statement M
 load-spec =
@@ -48,9 +43,8 @@ load-spec =
     loop-holds
     add-byte-of
     byte-of-requires
-    slice-write-room
+    element-write-room
     add-i
     loop-less
     loop-again
-    same-length
     returns)

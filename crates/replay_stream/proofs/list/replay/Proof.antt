@@ -1,57 +1,49 @@
-use Rattle.answers.specs.List.{wordsOf}
-use borrow.Author.Needs.{needs}
-use native.Mathlib.Omega.{arith}
-use Prim.Native.Nat.{ℕ, _+_, _-_, _*_, _^_, _≤_, _<_}
+-- Every record takes bytes of the list, so that the loop ends.
+use Prim.Native.Nat.{_-_}
 use lib.ListN.{length}
-use mathlib.Core.Path.{_≡_, refl}
+use borrow.Author.Needs.{needs}
 use Rattle.replay_stream.proofs.list.replay.Statement.{statement}
 use Rattle.replay_stream.proofs.list.replay.Tie as tie
-use Rattle.replay_stream.proofs.list.replay.Reads as reads
-use Rattle.replay_stream.proofs.list.replay.Lts as lts
-use Rattle.answers.proofs.words.Reads as words-reads
-use Rattle.replay_stream.proofs.list.one_if.Reads as one-if-reads
-use Rattle.replay_stream.proofs.list.replay_record.Reads as replay-record-reads
 
 abbrev Inv-loop : tie.InvT-loop
-Inv-loop list end agreed₀ all₀ at₀ agreed all at = (end < 2 ^ 59) × (agreed ≤ all) × (all ≤ at) × (at ≤ end + 400)
+Inv-loop list agreed₀ all₀ at₀ agreed all at = Unit {0}
 
 abbrev μ-loop : tie.MeasureT-loop
-μ-loop list end agreed₀ all₀ at₀ agreed all at = (end + 400) - at
+μ-loop list agreed₀ all₀ at₀ agreed all at = length list - at
 
--- src/list.rt:306:9
-words-requires : tie.Need-words-requires Inv-loop μ-loop
-words-requires c κs = search needs
-
--- src/list.rt:310:5
 loop-holds : tie.Need-loop-holds Inv-loop μ-loop
-unfolding wordsOf
-loop-holds c = let h = c .words .ensures in let l = c .before .before .good .0 .1 in (omega arith, omega arith, omega arith, omega arith)
+loop-holds c = tt
 
--- src/list.rt:311:13
+sub-replay-record : tie.Need-sub-replay-record Inv-loop μ-loop
+sub-replay-record c = search needs
+
+part-replay-record-start : tie.Need-part-replay-record-start Inv-loop μ-loop
+part-replay-record-start c = search needs
+
+part-replay-record-end : tie.Need-part-replay-record-end Inv-loop μ-loop
+part-replay-record-end c = search needs
+
 replay-record-requires : tie.Need-replay-record-requires Inv-loop μ-loop
 replay-record-requires c κs = search needs
 
--- src/list.rt:312:19
 one-if-requires : tie.Need-one-if-requires Inv-loop μ-loop
 one-if-requires c κs = search needs
 
--- src/list.rt:312:9
-add-agreed : tie.Need-add-agreed Inv-loop μ-loop
-add-agreed c = search needs
+wrapping-add-u64-requires : tie.Need-wrapping-add-u64-requires Inv-loop μ-loop
+wrapping-add-u64-requires c κs = search needs
 
--- src/list.rt:313:9
-add-all : tie.Need-add-all Inv-loop μ-loop
-add-all c = search needs
+wrapping-add-u64-requires-2 : tie.Need-wrapping-add-u64-requires-2 Inv-loop μ-loop
+wrapping-add-u64-requires-2 c κs = search needs
 
--- src/list.rt:310:5
+line-end-requires : tie.Need-line-end-requires Inv-loop μ-loop
+line-end-requires c κs = search needs
+
 loop-less : tie.Need-loop-less Inv-loop μ-loop
 loop-less c = search needs
 
--- src/list.rt:310:5
 loop-again : tie.Need-loop-again Inv-loop μ-loop
-loop-again c = search needs
+loop-again c = tt
 
--- src/list.rt:305:1
 returns : tie.Need-returns Inv-loop μ-loop
 returns c = search needs
 
@@ -61,12 +53,15 @@ replay-spec =
     (tie.spec
     Inv-loop
     μ-loop
-    words-requires
     loop-holds
+    sub-replay-record
+    part-replay-record-start
+    part-replay-record-end
     replay-record-requires
     one-if-requires
-    add-agreed
-    add-all
+    wrapping-add-u64-requires
+    wrapping-add-u64-requires-2
+    line-end-requires
     loop-less
     loop-again
     returns)
