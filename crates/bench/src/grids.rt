@@ -1,5 +1,5 @@
 // Draws and trainings on a grid in lent memory, from new(0, 0).
-use crate::samples;
+use crate::records;
 use accumulator::Estimated;
 use answers::bits;
 use stream::MonteCarloRng;
@@ -16,7 +16,7 @@ pub type Room = [f64; 100000];
 fn evaluate(evaluations: &mut Room) {
     let mut i = 0;
     while i < 100000 {
-        evaluations[i] = samples::evaluation(i as u64);
+        evaluations[i] = records::evaluation(i as u64);
         i += 1;
     }
 }

@@ -4,8 +4,8 @@ mod edges;
 mod grids;
 mod kernels;
 mod plans;
+mod records;
 mod request;
-mod samples;
 
 use grids::Counts;
 use grids::Reals;
@@ -32,14 +32,14 @@ fn stream_words(count: u64) -> u64 {
 // The kind that begins with this letter; 0 for an unknown one.
 fn run_loop(kind: u8, count: u64) -> u64 {
     match kind {
-        b'a' => samples::added(count),
+        b'a' => records::added(count),
         b'd' => edges::drawn(count),
         b'e' => kernels::raised(count),
         b'l' => kernels::logged(count),
         b'p' => edges::probed(count),
         b'r' => kernels::rooted(count),
         b's' => stream_words(count),
-        b'u' => samples::updated(count),
+        b'u' => records::updated(count),
         _ => 0,
     }
 }

@@ -1,8 +1,8 @@
 -- The counter stays within its bound.
 use borrow.Author.Needs.{needs}
 use Prim.Native.Nat.{_-_, _≤_}
-use Rattle.bench.proofs.samples.added.Statement.{statement}
-use Rattle.bench.proofs.samples.added.Tie as tie
+use Rattle.bench.proofs.records.added.Statement.{statement}
+use Rattle.bench.proofs.records.added.Tie as tie
 
 abbrev Inv-loop : tie.InvT-loop
 Inv-loop count record₀ i₀ «record» i = i ≤ count
