@@ -39,7 +39,6 @@ fn run_loop(kind: u8, count: u64) -> u64 {
         b'p' => edges::probed(count),
         b'r' => kernels::rooted(count),
         b's' => stream_words(count),
-        b'u' => records::updated(count),
         _ => 0,
     }
 }
@@ -92,6 +91,9 @@ fn run(
     if is_tree(kind) {
         let laid = plans::lay_tree(table, reals, counts);
         return run_on(laid, trains(kind), table, reals, counts, room, count);
+    }
+    if kind == b'u' {
+        return records::updated(room, count);
     }
     run_loop(kind, count)
 }

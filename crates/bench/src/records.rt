@@ -1,4 +1,5 @@
 // The accumulator's inner loops, on a record in a local.
+use crate::grids::Room;
 use accumulator::Changed;
 use accumulator::StatisticsAccumulator;
 use accumulator::Updated;
@@ -48,23 +49,29 @@ pub fn added(count: u64) -> u64 {
     word(record)
 }
 
-// Two samples and the update of their iteration.
-fn iteration(record: StatisticsAccumulator, i: u64) -> Updated {
-    match record.add_sample(evaluation(i), i % 1024) {
-        Changed::Refused(number) => Updated::Refused(number),
-        Changed::Record(one) => match one.add_sample(evaluation(i ^ 341), i % 1024) {
-            Changed::Refused(number) => Updated::Refused(number),
-            Changed::Record(two) => two.update_iter(false),
-        },
+// The sum and the sum of the squares of 1,024 pairs of evaluations, in turns.
+fn sum_pairs(room: &mut Room) {
+    let mut i = 0;
+    while i < 1024 {
+        let a = evaluation(i as u64);
+        let b = evaluation((i as u64) ^ 341);
+        room[2 * i] = a + b;
+        room[2 * i + 1] = a * a + b * b;
+        i += 1;
     }
 }
 
-// Iterations of two samples on a fresh record: the record's word, or a refusal's number.
-pub fn updated(count: u64) -> u64 {
+// Ends of iterations on a fresh record, where two or three samples with such sums wait: the record's word, or a refusal's number.
+pub fn updated(room: &mut Room, count: u64) -> u64 {
+    sum_pairs(room);
     let mut record = StatisticsAccumulator::new();
     let mut i: u64 = 0;
     while i < count {
-        match iteration(record, i) {
+        let at = (i % 1024) as usize;
+        record.sum = room[2 * at];
+        record.sum_sq = room[2 * at + 1];
+        record.new_samples = 2 + i % 2;
+        match record.update_iter(false) {
             Updated::Refused(number) => return number,
             Updated::Record(_, after) => record = after,
         }

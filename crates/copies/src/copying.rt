@@ -15,9 +15,9 @@ use crate::onward;
 use crate::parts;
 use ground::accounts;
 use ground::laying;
-use ground::layout;
-use ground::state;
+use judges::state;
 use lent::AxesAt;
+use lent::layout;
 use plan::Needs;
 
 // Nothing waits in any axis: edges, importances, extremes, counters and re-cuts stay.

@@ -8,7 +8,7 @@ ghost use Rattle.lent.specs.Founded.{laidAxes, laidOwn, laidChild, laidChildren
 use crate::laying;
 use accumulator::StatisticsAccumulator;
 use ground::accounts;
-use ground::layout;
+use lent::layout;
 
 // An axes grid: a fresh own accumulator, and axes of even bins.
 fn lay_axes_grid(table: &[u64], reals: &mut [f64], counts: &mut [u64], w: usize)

@@ -1,4 +1,5 @@
 pub mod Truth
+pub mod Runs
 pub mod Order
 pub mod Fractions
 pub mod Exact

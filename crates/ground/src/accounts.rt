@@ -3,7 +3,6 @@ ghost use mathlib.Core.Path.{_≡_};
 ghost use Prim.Native.Nat.{_+_, _≤_};
 ghost use lib.ListN.{length};
 ghost use lib.Ieee.{nan};
-ghost use Rattle.accumulator.specs.Record.{wellFormed};
 ghost use Rattle.lent.specs.Memory.{memory, fromOn, recordAt, stored};
 ghost use Rattle.lent.specs.Cleared.{clearedAt};
 use crate::parts;
@@ -103,16 +102,4 @@ pub fn clear(reals: &mut [f64], counts: &mut [u64], r: usize, c: usize)
     let n = [0; 2];
     parts::set_reals(reals, r, &x);
     parts::set_counts(counts, c, &n);
-}
-
-// Whether the record at r and c is well formed: finite kept sums, counts within their bound.
-pub(crate) fn is_sound(reals: &[f64], counts: &[u64], r: usize, c: usize) -> bool
-    requires { ⌜ (r + 14 ≤ length (now reals)) × (c + 7 ≤ length (now counts)) ⌝ }
-    ensures { λ o. ⌜ o ≡ wellFormed (recordAt (now (reals .entry)) (now (counts .entry)) r c) ⌝ }
-{
-    let sums = (real::finite(reals[r]) & real::finite(reals[r + 1])) & real::finite(reals[r + 2]);
-    let waiting = (counts[c] <= 9007199254740992) & (counts[c + 1] <= 9007199254740992);
-    let processed = (waiting & (counts[c + 2] <= 9007199254740992))
-        & (counts[c + 3] <= 9007199254740992);
-    (sums & real::finite(reals[r + 3])) & (processed & (counts[c + 6] <= 9007199254740992))
 }

@@ -3,7 +3,7 @@ ghost use mathlib.Core.Path.{_≡_};
 ghost use Rattle.lent.specs.Memory.{memory};
 ghost use Rattle.lent.specs.Laid.{Roomy, waitlessAt, waitlessOf, forgottenAt, emptyAt, emptyOf};
 use crate::clearing;
-use crate::room;
+use lent::room;
 
 // Nothing waits in the first n bins of an axis that there is room for.
 fn clear_waiting_there(

@@ -65,3 +65,4 @@ pub mod FreshState
 pub mod Histories
 pub mod UnitedOwn
 pub mod UnitedTree
+pub mod Unique

@@ -1,5 +1,9 @@
 // Grids in lent memory, as definitions: what stands where, what each call answers and leaves (specs/), and the laws of it (proofs/).
-// Of code there are only the records that the definitions speak of.
+// Of code there are the records that the definitions speak of, and what all crates ask of a place: where axes stand, and whether there is
+// room for them.
+pub mod layout;
+pub mod room;
+
 use stream::MonteCarloRng;
 
 // An axes grid's plan in numbers, and where its axes' reals and counts begin: each axis has room for `most` bins.

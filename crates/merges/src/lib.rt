@@ -8,7 +8,7 @@ mod uniting;
 ghost use mathlib.Core.Path.{_≡_};
 ghost use Rattle.lent.specs.Calls.{stateEnd, mergeableOf, mergeIntoOf};
 ghost use Rattle.lent.specs.Memory.{memory};
-use ground::state;
+use judges::state;
 
 // Whether another grid may be merged: 0, or what stands against it. Refused: 10, 12, 4, 11.
 pub fn is_mergeable(

@@ -16,7 +16,7 @@ ghost use Rattle.lent.specs.Matched.{obstacle, worseOf, gridObstacle, childObst
 use crate::merging;
 use accumulator::Changed;
 use ground::accounts;
-use ground::layout;
+use lent::layout;
 
 // Of two findings the one that comes first: 4, 11, 8.
 fn worse(a: u64, b: u64) -> u64

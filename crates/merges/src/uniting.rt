@@ -9,7 +9,7 @@ ghost use Rattle.lent.specs.United.{joinedRecord, unitedAxes, unitedOwn, united
 use crate::merging;
 use accumulator::Changed;
 use ground::accounts;
-use ground::layout;
+use lent::layout;
 
 // The record at r and c takes the waiting samples of the other's at q and d.
 fn join_account(

@@ -1,19 +1,11 @@
--- From a call's result and the branch on it to the decider that its contract names, and from a ladder of deciders to its rungs.
-use mathlib.Core.Path.{_≡_, refl, sym, _∙_}
-use mathlib.Core.Bool.{Bool, true, false, not, _&&_, cond}
+-- From a decider that passes to what it says of its numbers, and from a ladder of deciders to its rungs.
+use mathlib.Core.Path.{_≡_, refl, sym}
+use mathlib.Core.Bool.{Bool, true, false, _&&_, cond}
 use Prim.Native.Nat.{ℕ, _≤_, _<_}
 use native.Mathlib.Omega.{arith}
 use lib.Dec.{leb, eqb}
-use borrow.Author.Tests.{not-true, not-false, leb-true, eqb-false}
+use borrow.Author.Tests.{leb-true, eqb-false}
 use Rattle.plan.specs.Ranges.{within}
-
--- the branch was taken: the decider fails
-pub failed : {r b : Bool} → r ≡ b → not r ≡ true → b ≡ false
-failed {r} e t = sym e ∙ not-true r t
-
--- it was not: the decider passes
-pub passed : {r b : Bool} → r ≡ b → not r ≡ false → b ≡ true
-passed {r} e t = sym e ∙ not-false r t
 
 pub never : {P : Type 0} → true ≡ false → P
 never e = let z : _≡_ {A = ℕ} 0 1 = cc in absurd (omega arith)

@@ -228,12 +228,6 @@ module _ (bs : List ℕ) (l : ℕ) (p : Place) where
         kids-sound : SoundAll bs (l - 1) (b .bins) (x .past) (kids .children) (w .stop)
         kids-sound = sound-all bs (w .inside .small) (l - 1) (p .tally .words + 7) (b .bins) (x .past) (kids .children) (w .stop) (kids .read)
 
-        pub bins-room : p .tally .words + 7 ≤ n
-        bins-room =
-            let k = kids-sound in
-            let u = ap (λ (y : Tally). y .words) (k .end) in
-            omega (arith, rows-all-words (l - 1) (kids .children) (x .past .tally) (k .plan), past-words, w .room)
-
         pub all-writable : (m : ℕ) → m ≡ n → AllWritable bs (l - 1) (b .bins) (p .tally .words + 7) (x .past) m
         all-writable m z = record {
           inside = past-inside l (w .inside) x e;

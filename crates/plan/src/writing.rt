@@ -18,23 +18,38 @@ use crate::bytes::byte_at;
 use crate::bytes::pair_at;
 use crate::fields::field_at;
 
+// Writes words over those from a place on, as many as there is room for.
+fn set_words(table: &mut [u64], at: usize, part: &[u64])
+    ensures { λ _. ⌜ now (table .exit) ≡ sets (now (table .entry)) at (now (part .entry)) ⌝ }
+{
+    let mut i = 0;
+    while i < part.len() {
+        if table.len() - i <= at {
+            return;
+        }
+        table[at + i] = part[i];
+        i += 1;
+    }
+}
+
 // The record of an axes grid, whose bin evolution follows.
 fn put_axes(table: &mut [u64], level: usize, a: AxesPlan, t: Tally)
-    requires { ⌜ t .words + 11 ≤ length (now table) ⌝ }
     ensures { λ r. ⌜ now (table .exit) ≡ sets (now (table .entry)) (t .words) (headAxes level a t) ⌝ }
 {
-    let w = t.words;
-    table[w] = 1;
-    table[w + 1] = level as u64;
-    table[w + 2] = a.axes as u64;
-    table[w + 3] = a.bins as u64;
-    table[w + 4] = a.least as u64;
-    table[w + 5] = a.flag as u64;
-    table[w + 6] = a.floor;
-    table[w + 7] = a.most as u64;
-    table[w + 8] = a.values as u64;
-    table[w + 9] = t.reals as u64;
-    table[w + 10] = t.counts as u64;
+    let head = [
+        1,
+        level as u64,
+        a.axes as u64,
+        a.bins as u64,
+        a.least as u64,
+        a.flag as u64,
+        a.floor,
+        a.most as u64,
+        a.values as u64,
+        t.reals as u64,
+        t.counts as u64,
+    ];
+    set_words(table, t.words, &head);
 }
 
 // The values of a bin evolution.
@@ -52,17 +67,18 @@ fn put_values(table: &mut [u64], w: usize, bytes: &[u8], at: usize, values: usiz
 
 // The record of a bins grid, whose links follow.
 fn put_bins(table: &mut [u64], level: usize, b: BinsPlan, t: Tally)
-    requires { ⌜ t .words + 7 ≤ length (now table) ⌝ }
     ensures { λ r. ⌜ now (table .exit) ≡ sets (now (table .entry)) (t .words) (headBins level b t) ⌝ }
 {
-    let w = t.words;
-    table[w] = 2;
-    table[w + 1] = level as u64;
-    table[w + 2] = b.bins as u64;
-    table[w + 3] = b.ratio;
-    table[w + 4] = b.flag as u64;
-    table[w + 5] = t.reals as u64;
-    table[w + 6] = t.counts as u64;
+    let head = [
+        2,
+        level as u64,
+        b.bins as u64,
+        b.ratio,
+        b.flag as u64,
+        t.reals as u64,
+        t.counts as u64,
+    ];
+    set_words(table, t.words, &head);
 }
 
 // Where the grid that comes next is to stand, 0 where none comes.

@@ -13,8 +13,8 @@ ghost use Rattle.lent.specs.Sampled.{ChildLaid, soundChild};
 ghost use Rattle.lent.specs.Probed.{coordinatesOf, pathFrom, endsAt};
 use crate::probing;
 use axis::Probed;
-use ground::layout;
 use lent::Region;
+use lent::layout;
 
 // Whether the path ends here and no coordinates are given.
 fn ends_at(p: Region, depth: usize) -> bool

@@ -11,7 +11,7 @@ ghost use Rattle.lent.specs.Calls.{probeOf, summaryOf, liveOf, liveOfBin};
 use accumulator::Estimated;
 use accumulator::Summed;
 use axis::Probed;
-use ground::state;
+use judges::state;
 use lent::Region;
 
 // The weight at a point, or over the region that open coordinates leave; where the path ends at a bin and no coordinates are given,

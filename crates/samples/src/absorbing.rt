@@ -15,7 +15,7 @@ ghost use Rattle.lent.specs.Found.{Held, HeldChild, held, heldChild};
 use crate::acceptance;
 use crate::adding;
 use crate::training;
-use ground::layout;
+use lent::layout;
 
 // At an axes grid: a bin of each axis, then its own accumulator.
 fn absorb_axes(

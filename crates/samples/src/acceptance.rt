@@ -13,7 +13,7 @@ ghost use Rattle.lent.specs.Absorbed.{pathLeft, weightsLeft, placesIn, formOf, 
 ghost use Rattle.lent.specs.Found.{Found, FoundChild};
 use crate::adding;
 use crate::training;
-use ground::layout;
+use lent::layout;
 
 // At an axes grid: its own accumulator and a bin of each axis.
 fn axes_accept(

@@ -14,7 +14,7 @@ ghost use Rattle.lent.specs.Calls.{drawnAs, drawOf, stateEnd, trainCallOf};
 ghost use Rattle.lent.specs.Batched.{batchEnd, batchOf};
 ghost use Rattle.lent.specs.Memory.{memory};
 ghost use Rattle.lent.specs.Sampled.{sampleOf};
-use ground::state;
+use judges::state;
 use lent::Batched;
 use lent::Drawn;
 use lent::Sample;

@@ -10,10 +10,10 @@ ghost use Rattle.model.specs.Draw.{reached, drawAxes, drawNothing, drawGrid, dr
 ghost use Rattle.lent.specs.Tree.{axesGridAt, headAt, childIn, binsIn, gridAt, AxesLaid, BinsLaid, Laid};
 ghost use Rattle.lent.specs.Sampled.{laidDrawing, ChildLaid, soundChild, TracesAxes, Traces};
 use crate::axes;
-use ground::layout;
 use lent::Drawing;
 use lent::Sample;
 use lent::Traced;
+use lent::layout;
 use stream::MonteCarloRng;
 
 // The first bin whose running sum of probabilities is at least the draw; if none, the last.

@@ -14,10 +14,10 @@ use crate::renewal;
 use accumulator::StatisticsAccumulator;
 use accumulator::Updated;
 use ground::accounts;
-use ground::judging;
-use ground::layout;
+use judges::judging;
 use lent::Found;
 use lent::Rule;
+use lent::layout;
 
 // What was found in either of two.
 fn either(a: Found, b: Found) -> Found

@@ -9,7 +9,7 @@ ghost use Rattle.lent.specs.Tree.{Laid};
 ghost use Rattle.lent.specs.Calls.{stateEnd, renewedOver, updatedBy};
 use crate::adapting;
 use crate::parts;
-use ground::state;
+use judges::state;
 use plan::Needs;
 
 // Whether a rate is a number in [0, 10].

@@ -1,5 +1,5 @@
-//! `bench_update N` times N iterations of two samples of an accumulator and prints the xor of its words. What the record holds
-//! at an iteration's end is hidden from the compiler, which could else work the number of samples, two, into the update.
+//! `bench_update N` times N ends of an iteration of an accumulator, where two or three samples with the sums of a list wait, and
+//! prints the xor of its words. What the record holds is hidden from the compiler, which could else work some of it into the update.
 
 use std::hint::black_box;
 use std::time::Instant;
@@ -17,11 +17,15 @@ fn main() {
         eprintln!("usage: bench_update N");
         std::process::exit(2);
     };
+    let mut sums = [[0.0; 2]; 1024];
+    for i in 0..1024 {
+        let (a, b) = (evaluation(i), evaluation(i ^ 341));
+        sums[i as usize] = [a + b, a * a + b * b];
+    }
     let mut accumulator = StatisticsAccumulator::<f64>::new();
     let start = Instant::now();
     for i in 0..count {
-        accumulator.add_sample(evaluation(i), i % 1024);
-        accumulator.add_sample(evaluation(i ^ 341), i % 1024);
+        accumulator.set_waiting(sums[i as usize % 1024], 2 + i as usize % 2);
         black_box(&mut accumulator).update_iter(false);
     }
     let words = black_box(accumulator).record().words();

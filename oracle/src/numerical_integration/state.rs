@@ -123,6 +123,12 @@ impl StatisticsAccumulator<f64> {
         }
     }
 
+    /// So many samples wait, and these are their sum and the sum of their squares.
+    pub fn set_waiting(&mut self, sums: [f64; 2], count: usize) {
+        [self.sum, self.sum_sq] = sums;
+        self.new_samples = count;
+    }
+
     pub fn from_record(record: &Record) -> StatisticsAccumulator<f64> {
         StatisticsAccumulator {
             sum: record.sum,

@@ -12,7 +12,7 @@ use Rattle.merges.proofs.is_mergeable.Tie as tie
 use Rattle.merges.proofs.is_mergeable.Reads as reads
 use Rattle.merges.proofs.is_mergeable.Lts as lts
 use Rattle.merges.proofs.matching.grid_obstacle.Reads as grid-obstacle-reads
-use Rattle.ground.proofs.state.pair_fault.Reads as pair-fault-reads
+use Rattle.judges.proofs.state.pair_fault.Reads as pair-fault-reads
 
 -- src/lib.rt:174:9
 pair-fault-requires : tie.Need-pair-fault-requires

@@ -17,7 +17,7 @@ use Rattle.merges.proofs.merge.Tie as tie
 use Rattle.merges.proofs.merge.Reads as reads
 use Rattle.merges.proofs.merge.Lts as lts
 use Rattle.merges.proofs.matching.grid_obstacle.Reads as grid-obstacle-reads
-use Rattle.ground.proofs.state.pair_fault.Reads as pair-fault-reads
+use Rattle.judges.proofs.state.pair_fault.Reads as pair-fault-reads
 use Rattle.merges.proofs.uniting.merge_grid.Reads as merge-grid-reads
 
 -- src/lib.rt:198:9

@@ -12,7 +12,7 @@ use Rattle.probes.proofs.live_estimate.Tie as tie
 use Rattle.probes.proofs.live_estimate.Reads as reads
 use Rattle.probes.proofs.live_estimate.Lts as lts
 use Rattle.accumulator.proofs.StatisticsAccumulator.get_live_estimate.Reads as get-live-estimate-reads
-use Rattle.ground.proofs.state.fault.Reads as fault-reads
+use Rattle.judges.proofs.state.fault.Reads as fault-reads
 use Rattle.probes.proofs.along.own.Reads as own-reads
 
 -- src/lib.rt:76:9

@@ -15,7 +15,7 @@ use Rattle.probes.proofs.live_estimate_of_bin.Tie as tie
 use Rattle.probes.proofs.live_estimate_of_bin.Reads as reads
 use Rattle.probes.proofs.live_estimate_of_bin.Lts as lts
 use Rattle.probes.proofs.along.estimate_along.Reads as estimate-along-reads
-use Rattle.ground.proofs.state.fault.Reads as fault-reads
+use Rattle.judges.proofs.state.fault.Reads as fault-reads
 
 -- src/lib.rt:117:9
 fault-requires : tie.Need-fault-requires

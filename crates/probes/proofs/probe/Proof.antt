@@ -14,7 +14,7 @@ use Rattle.probes.proofs.probe.Tie as tie
 use Rattle.probes.proofs.probe.Reads as reads
 use Rattle.probes.proofs.probe.Lts as lts
 use Rattle.probes.proofs.descent.probe_grid.Reads as probe-grid-reads
-use Rattle.ground.proofs.state.fault.Reads as fault-reads
+use Rattle.judges.proofs.state.fault.Reads as fault-reads
 
 -- src/lib.rt:154:9
 fault-requires : tie.Need-fault-requires

@@ -12,7 +12,7 @@ use Rattle.probes.proofs.summary.Tie as tie
 use Rattle.probes.proofs.summary.Reads as reads
 use Rattle.probes.proofs.summary.Lts as lts
 use Rattle.accumulator.proofs.StatisticsAccumulator.summary.Reads as summary-reads
-use Rattle.ground.proofs.state.fault.Reads as fault-reads
+use Rattle.judges.proofs.state.fault.Reads as fault-reads
 use Rattle.probes.proofs.along.own.Reads as own-reads
 
 -- src/lib.rt:65:9

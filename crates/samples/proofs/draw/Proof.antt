@@ -14,7 +14,7 @@ use Rattle.samples.proofs.draw.Reads as reads
 use Rattle.samples.proofs.draw.Lts as lts
 use Rattle.samples.proofs.sampling.draw_root.Reads as draw-root-reads
 use Rattle.samples.proofs.sampling.draw_nothing.Reads as draw-nothing-reads
-use Rattle.ground.proofs.state.fault.Reads as fault-reads
+use Rattle.judges.proofs.state.fault.Reads as fault-reads
 
 -- src/lib.rt:49:9
 fault-requires : tie.Need-fault-requires

@@ -8,7 +8,7 @@ use Rattle.samples.proofs.draw_and_train.Tie as tie
 use Rattle.samples.proofs.draw_and_train.Reads as reads
 use Rattle.samples.proofs.draw_and_train.Lts as lts
 use Rattle.samples.proofs.batching.steps.Reads as steps-reads
-use Rattle.ground.proofs.state.fault.Reads as fault-reads
+use Rattle.judges.proofs.state.fault.Reads as fault-reads
 
 -- src/lib.rt:251:9
 fault-requires : tie.Need-fault-requires

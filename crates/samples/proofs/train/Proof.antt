@@ -10,7 +10,7 @@ use Rattle.samples.proofs.train.Tie as tie
 use Rattle.samples.proofs.train.Reads as reads
 use Rattle.samples.proofs.train.Lts as lts
 use Rattle.samples.proofs.absorbing.admit.Reads as admit-reads
-use Rattle.ground.proofs.state.fault.Reads as fault-reads
+use Rattle.judges.proofs.state.fault.Reads as fault-reads
 use Rattle.samples.proofs.forms.fault_of.Reads as fault-of-reads
 
 -- src/lib.rt:229:9

@@ -1,14 +1,17 @@
--- The counter stays within its bound.
+-- The counter stays within its bound, and the remainder within the list.
 use borrow.Author.Needs.{needs}
 use Prim.Native.Nat.{_-_, _≤_}
 use Rattle.bench.proofs.records.updated.Statement.{statement}
 use Rattle.bench.proofs.records.updated.Tie as tie
 
 abbrev Inv-loop : tie.InvT-loop
-Inv-loop count record₀ i₀ «record» i = i ≤ count
+Inv-loop room count record₀ i₀ «record» i = i ≤ count
 
 abbrev μ-loop : tie.MeasureT-loop
-μ-loop count record₀ i₀ «record» i = count - i
+μ-loop room count record₀ i₀ «record» i = count - i
+
+sum-pairs-requires : tie.Need-sum-pairs-requires Inv-loop μ-loop
+sum-pairs-requires c κs = search needs
 
 new-requires : tie.Need-new-requires Inv-loop μ-loop
 new-requires c κs = search needs
@@ -16,8 +19,32 @@ new-requires c κs = search needs
 loop-holds : tie.Need-loop-holds Inv-loop μ-loop
 loop-holds c = search needs
 
-iteration-requires : tie.Need-iteration-requires Inv-loop μ-loop
-iteration-requires c κs = search needs
+mul-record : tie.Need-mul-record Inv-loop μ-loop
+mul-record c = search needs
+
+mul-record-2 : tie.Need-mul-record-2 Inv-loop μ-loop
+mul-record-2 c = search needs
+
+element-copy-out-record : tie.Need-element-copy-out-record Inv-loop μ-loop
+element-copy-out-record c = search needs
+
+mul-record-3 : tie.Need-mul-record-3 Inv-loop μ-loop
+mul-record-3 c = search needs
+
+add-record : tie.Need-add-record Inv-loop μ-loop
+add-record c = search needs
+
+mul-record-4 : tie.Need-mul-record-4 Inv-loop μ-loop
+mul-record-4 c = search needs
+
+element-copy-out-record-2 : tie.Need-element-copy-out-record-2 Inv-loop μ-loop
+element-copy-out-record-2 c = search needs
+
+add-record-2 : tie.Need-add-record-2 Inv-loop μ-loop
+add-record-2 c = search needs
+
+update-iter-requires : tie.Need-update-iter-requires Inv-loop μ-loop
+update-iter-requires c κs = search needs
 
 enum-known-number : tie.Need-enum-known-number Inv-loop μ-loop
 enum-known-number c = search needs
@@ -49,9 +76,18 @@ updated-spec =
     (tie.spec
     Inv-loop
     μ-loop
+    sum-pairs-requires
     new-requires
     loop-holds
-    iteration-requires
+    mul-record
+    mul-record-2
+    element-copy-out-record
+    mul-record-3
+    add-record
+    mul-record-4
+    element-copy-out-record-2
+    add-record-2
+    update-iter-requires
     enum-known-number
     returns
     enum-known-after

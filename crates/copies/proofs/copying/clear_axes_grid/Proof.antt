@@ -12,7 +12,7 @@ use Rattle.copies.proofs.copying.clear_axes_grid.Reads as reads
 use Rattle.copies.proofs.copying.clear_axes_grid.Lts as lts
 use Rattle.ground.proofs.accounts.clear.Reads as clear-reads
 use Rattle.copies.proofs.copying.clear_axes.Reads as clear-axes-reads
-use Rattle.ground.proofs.layout.axes_place.Reads as axes-place-reads
+use Rattle.lent.proofs.layout.axes_place.Reads as axes-place-reads
 
 -- where the axes stand
 there : (c : tie.After-axes-place) → c .axes-place .result ≡ axesPlace (c .before .before .before .before .args .table .now) (c .before .before .before .before .args .w)

@@ -14,7 +14,7 @@ use Rattle.copies.proofs.copying.copy_grid.Lts as lts
 use Rattle.copies.proofs.copying.clear_root.Reads as clear-root-reads
 use Rattle.copies.proofs.parts.put_counts.Reads as put-counts-reads
 use Rattle.copies.proofs.parts.put_reals.Reads as put-reals-reads
-use Rattle.ground.proofs.state.fault_to.Reads as fault-to-reads
+use Rattle.judges.proofs.state.fault_to.Reads as fault-to-reads
 
 -- src/copying.rt:92:9
 fault-to-requires : tie.Need-fault-to-requires

@@ -13,7 +13,7 @@ use Rattle.copies.proofs.founding.lay_axes_grid.Lts as lts
 use Rattle.accumulator.proofs.StatisticsAccumulator.new.Reads as new-reads
 use Rattle.ground.proofs.accounts.store.Reads as store-reads
 use Rattle.copies.proofs.laying.lay_axes.Reads as lay-axes-reads
-use Rattle.ground.proofs.layout.axes_place.Reads as axes-place-reads
+use Rattle.lent.proofs.layout.axes_place.Reads as axes-place-reads
 
 -- where the axes stand
 there : (c : tie.After-axes-place) → c .axes-place .result ≡ axesPlace (c .before .before .before .before .args .table .now) (c .before .before .before .before .args .w)

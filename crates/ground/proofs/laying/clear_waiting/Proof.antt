@@ -8,7 +8,7 @@ use Rattle.ground.proofs.laying.clear_waiting.Tie as tie
 use Rattle.ground.proofs.laying.clear_waiting.Reads as reads
 use Rattle.ground.proofs.laying.clear_waiting.Lts as lts
 use Rattle.ground.proofs.laying.clear_waiting_there.Reads as clear-waiting-there-reads
-use Rattle.ground.proofs.room.is_roomy.Reads as is-roomy-reads
+use Rattle.lent.proofs.room.is_roomy.Reads as is-roomy-reads
 
 is-roomy-requires : tie.Need-is-roomy-requires
 is-roomy-requires c κs = search needs

@@ -4,7 +4,7 @@ use Prim.Native.Nat.{_+_, _-_, _≤_}
 use native.Mathlib.Omega.{arith}
 use lib.ListN.{length, drop, getD, length-set}
 use lib.Seq.{sets}
-use Rattle.lent.proofs.Runs.{sets-out, sets-next, sets-done, ended}
+use Rattle.doubles.proofs.Runs.{sets-out, sets-next, sets-done, ended}
 use Rattle.ground.proofs.parts.set_counts.Statement.{statement}
 use Rattle.ground.proofs.parts.set_counts.Tie as tie
 use Rattle.ground.proofs.parts.set_counts.Reads as reads

@@ -5,7 +5,7 @@ use native.Mathlib.Omega.{arith}
 use lib.ListN.{length, drop, getD, length-set}
 use lib.Seq.{sets}
 use lib.Ieee.{nan}
-use Rattle.lent.proofs.Runs.{sets-out, sets-next, sets-done, ended}
+use Rattle.doubles.proofs.Runs.{sets-out, sets-next, sets-done, ended}
 use Rattle.ground.proofs.parts.set_reals.Statement.{statement}
 use Rattle.ground.proofs.parts.set_reals.Tie as tie
 use Rattle.ground.proofs.parts.set_reals.Reads as reads

@@ -17,7 +17,7 @@ use Rattle.merges.proofs.matching.axes_obstacle.Statement.{statement}
 use Rattle.merges.proofs.matching.axes_obstacle.Tie as tie
 use Rattle.merges.proofs.matching.axes_obstacle.Reads as reads
 use Rattle.merges.proofs.matching.axes_obstacle.Lts as lts
-use Rattle.ground.proofs.layout.axes_place.Reads as axes-place-reads
+use Rattle.lent.proofs.layout.axes_place.Reads as axes-place-reads
 use Rattle.merges.proofs.matching.account_fits.Reads as account-fits-reads
 use Rattle.merges.proofs.merging.equal_edges.Reads as equal-edges-reads
 use Rattle.merges.proofs.merging.merged_fit.Reads as merged-fit-reads

@@ -11,7 +11,7 @@ use Rattle.merges.proofs.uniting.merge_axes_grid.Statement.{statement}
 use Rattle.merges.proofs.uniting.merge_axes_grid.Tie as tie
 use Rattle.merges.proofs.uniting.merge_axes_grid.Reads as reads
 use Rattle.merges.proofs.uniting.merge_axes_grid.Lts as lts
-use Rattle.ground.proofs.layout.axes_place.Reads as axes-place-reads
+use Rattle.lent.proofs.layout.axes_place.Reads as axes-place-reads
 use Rattle.merges.proofs.merging.merge_axes.Reads as merge-axes-reads
 use Rattle.merges.proofs.uniting.join_account.Reads as join-account-reads
 

@@ -1,7 +1,7 @@
 -- Each branch is a rung of the ladder.
 use borrow.Author.Tests.{eq-eqb, ne-eqb, le-leb, lt-leb}
 use mathlib.Core.Path.{sym, _∙_}
-use Rattle.plan.proofs.Flags.{failed, passed}
+use Rattle.doubles.proofs.Truth.{failed, passed}
 use Rattle.plan.specs.Fields.{axesFault}
 use borrow.Author.Needs.{needs}
 use Rattle.plan.proofs.fields.axes_fault.Statement.{statement}

@@ -8,7 +8,7 @@ use mathlib.Core.Path.{sym, _∙_}
 use native.Mathlib.Omega.{arith}
 use borrow.Author.Tests.{ne-eqb}
 use Rattle.plan.specs.Fields.{axesField}
-use Rattle.plan.proofs.Flags.{failed, passed}
+use Rattle.doubles.proofs.Truth.{failed, passed}
 use Rattle.plan.proofs.Here.{whole}
 use borrow.Author.Needs.{needs}
 use Rattle.plan.proofs.fields.axes_field.Statement.{statement}

@@ -2,7 +2,7 @@
 use mathlib.Core.Path.{sym, _∙_}
 use borrow.Author.Tests.{ne-eqb}
 use Rattle.plan.specs.Fields.{binsField}
-use Rattle.plan.proofs.Flags.{failed, passed}
+use Rattle.doubles.proofs.Truth.{failed, passed}
 use Rattle.plan.proofs.Faults.{bins-fit}
 use borrow.Author.Needs.{needs}
 use Rattle.plan.proofs.fields.bins_field.Statement.{statement}

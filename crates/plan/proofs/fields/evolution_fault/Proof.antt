@@ -2,7 +2,7 @@
 use native.Mathlib.Omega.{arith}
 use borrow.Author.Tests.{eq-eqb, ne-eqb, le-leb, lt-leb}
 use Rattle.plan.specs.Fields.{evolutionFault}
-use Rattle.plan.proofs.Flags.{failed, passed}
+use Rattle.doubles.proofs.Truth.{failed, passed}
 use Rattle.plan.proofs.Ranges.{scan-found, scan-failed}
 use borrow.Author.Needs.{needs}
 use Rattle.plan.proofs.fields.evolution_fault.Statement.{statement}

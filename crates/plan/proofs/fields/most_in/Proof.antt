@@ -3,7 +3,7 @@ use Prim.Native.Nat.{_+_, _-_, _*_}
 use native.Mathlib.Omega.{arith}
 use borrow.Author.Needs.{needs}
 use Rattle.plan.specs.Numbers.{numberAt, valuesAt}
-use Rattle.plan.proofs.Flags.{failed, passed}
+use Rattle.doubles.proofs.Truth.{failed, passed}
 use Rattle.plan.proofs.Runs.{Scanning, scanning-from, scanning-all, scanning-out, scanning-next}
 use Rattle.plan.proofs.fields.most_in.Statement.{statement}
 use Rattle.plan.proofs.fields.most_in.Tie as tie

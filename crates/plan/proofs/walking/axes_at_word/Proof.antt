@@ -4,7 +4,8 @@ use mathlib.Core.Path.{sym, _∙_}
 use native.Mathlib.Omega.{arith}
 use borrow.Author.Tests.{ne-eqb}
 use Rattle.plan.specs.Walk.{axesAtWord}
-use Rattle.plan.proofs.Flags.{failed, passed, at-least}
+use Rattle.doubles.proofs.Truth.{failed, passed}
+use Rattle.plan.proofs.Flags.{at-least}
 use Rattle.plan.proofs.Faults.{axes-free}
 use borrow.Author.Needs.{needs}
 use Rattle.plan.proofs.walking.axes_at_word.Statement.{statement}

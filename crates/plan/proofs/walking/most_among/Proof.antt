@@ -4,7 +4,7 @@ use native.Mathlib.Omega.{arith}
 use lib.ListN.{getD}
 use borrow.Author.Needs.{needs}
 use Rattle.plan.specs.Numbers.{wordsAt}
-use Rattle.plan.proofs.Flags.{failed, passed}
+use Rattle.doubles.proofs.Truth.{failed, passed}
 use Rattle.plan.proofs.Runs.{Scanning, scanning-from, scanning-all, scanning-out, scanning-next}
 use Rattle.plan.proofs.walking.most_among.Statement.{statement}
 use Rattle.plan.proofs.walking.most_among.Tie as tie

@@ -4,7 +4,7 @@ use mathlib.Core.Path.{sym, _∙_}
 use native.Mathlib.Omega.{arith}
 use borrow.Author.Needs.{needs}
 use Rattle.plan.proofs.Here.{deep}
-use Rattle.plan.proofs.Writes.{Writing, writing-from, slot-in, writing-child, writing-next, writing-stop, writing-end, wrote-stop, wrote-nothing, axes-few, axes-room, wrote-axes, bins-room, all-writable, wrote-bins}
+use Rattle.plan.proofs.Writes.{Writing, writing-from, slot-in, writing-child, writing-next, writing-stop, writing-end, wrote-stop, wrote-nothing, axes-few, axes-room, wrote-axes, all-writable, wrote-bins}
 use Prim.Native.Nat.{ℕ, _<_}
 use borrow.Fn.Kinds.{In}
 use borrow.Fn.PlainCycle.{Measures, is, falls, and}
@@ -123,8 +123,7 @@ write-put-axes-requires : (t : ℕ) → write-lts.Need-put-axes-requires (
   write-all-below t,
   write-all.Post,
 ) (write-at t) write.Post
-write-put-axes-requires t c κs = let k = c .before .before in let b = k .before .before .before .before in let f = b .before .before in
-    omega (arith, axes-room _ _ _ (sym (b .bin .given .1) ∙ f .field-at .ensures) (k .child .given .1) (f .before .before .before .before .pre .1))
+write-put-axes-requires t c κs = tt
 
 write-add-put-values : (t : ℕ) → write-lts.Need-add-put-values (
   field-at-reads.Asked,
@@ -198,8 +197,7 @@ write-put-bins-requires : (t : ℕ) → write-lts.Need-put-bins-requires (
   write-all-below t,
   write-all.Post,
 ) (write-at t) write.Post
-write-put-bins-requires t c κs = let k = c .before .before in let b = k .before .before .before .before in let f = b .before .before in
-    bins-room _ _ _ (sym (b .bin .given .1) ∙ f .field-at .ensures) (k .child2 .given .1) (f .before .before .before .before .pre .1)
+write-put-bins-requires t c κs = tt
 
 write-sub-write-all : (t : ℕ) → write-lts.Need-sub-write-all (
   field-at-reads.Asked,

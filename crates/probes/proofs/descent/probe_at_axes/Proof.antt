@@ -12,7 +12,7 @@ use Rattle.probes.proofs.descent.probe_at_axes.Statement.{statement}
 use Rattle.probes.proofs.descent.probe_at_axes.Tie as tie
 use Rattle.probes.proofs.descent.probe_at_axes.Reads as reads
 use Rattle.probes.proofs.descent.probe_at_axes.Lts as lts
-use Rattle.ground.proofs.layout.axes_place.Reads as axes-place-reads
+use Rattle.lent.proofs.layout.axes_place.Reads as axes-place-reads
 use Rattle.probes.proofs.probing.probe_axes.Reads as probe-axes-reads
 
 -- src/descent.rt:53:9

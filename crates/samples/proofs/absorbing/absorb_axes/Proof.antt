@@ -14,7 +14,7 @@ use Rattle.samples.proofs.absorbing.absorb_axes.Reads as reads
 use Rattle.samples.proofs.absorbing.absorb_axes.Lts as lts
 use Rattle.samples.proofs.adding.put.Reads as put-reads
 use Rattle.samples.proofs.adding.gain_at.Reads as gain-at-reads
-use Rattle.ground.proofs.layout.axes_place.Reads as axes-place-reads
+use Rattle.lent.proofs.layout.axes_place.Reads as axes-place-reads
 use Rattle.samples.proofs.training.train_axes.Reads as train-axes-reads
 
 -- src/absorbing.rt:35:18

@@ -14,7 +14,7 @@ use Rattle.samples.proofs.acceptance.axes_accept.Tie as tie
 use Rattle.samples.proofs.acceptance.axes_accept.Reads as reads
 use Rattle.samples.proofs.acceptance.axes_accept.Lts as lts
 use Rattle.samples.proofs.adding.fits_with.Reads as fits-with-reads
-use Rattle.ground.proofs.layout.axes_place.Reads as axes-place-reads
+use Rattle.lent.proofs.layout.axes_place.Reads as axes-place-reads
 use Rattle.samples.proofs.training.axes_fit.Reads as axes-fit-reads
 
 -- src/acceptance.rt:38:18

@@ -9,7 +9,7 @@ use Rattle.samples.proofs.sampling.draw_from_axes.Tie as tie
 use Rattle.samples.proofs.sampling.draw_from_axes.Reads as reads
 use Rattle.samples.proofs.sampling.draw_from_axes.Lts as lts
 use Rattle.samples.proofs.axes.draw_axes.Reads as draw-axes-reads
-use Rattle.ground.proofs.layout.axes_place.Reads as axes-place-reads
+use Rattle.lent.proofs.layout.axes_place.Reads as axes-place-reads
 
 -- src/sampling.rt:78:9
 axes-place-requires : tie.Need-axes-place-requires

@@ -16,8 +16,8 @@ use Rattle.updates.proofs.adapting.update_axes_grid.Lts as lts
 use Rattle.updates.proofs.adapting.either.Reads as either-reads
 use Rattle.updates.proofs.adapting.rule_at.Reads as rule-at-reads
 use Rattle.updates.proofs.adapting.update_account.Reads as update-account-reads
-use Rattle.ground.proofs.judging.axes_fit.Reads as axes-fit-reads
-use Rattle.ground.proofs.layout.axes_place.Reads as axes-place-reads
+use Rattle.judges.proofs.judging.axes_fit.Reads as axes-fit-reads
+use Rattle.lent.proofs.layout.axes_place.Reads as axes-place-reads
 use Rattle.updates.proofs.renewal.update_axes.Reads as update-axes-reads
 
 -- where the axes stand

@@ -11,7 +11,7 @@ use Rattle.updates.proofs.updating.update_state.Statement.{statement}
 use Rattle.updates.proofs.updating.update_state.Tie as tie
 use Rattle.updates.proofs.updating.update_state.Reads as reads
 use Rattle.updates.proofs.updating.update_state.Lts as lts
-use Rattle.ground.proofs.state.fault_to.Reads as fault-to-reads
+use Rattle.judges.proofs.state.fault_to.Reads as fault-to-reads
 use Rattle.updates.proofs.updating.is_rate.Reads as is-rate-reads
 use Rattle.updates.proofs.updating.update_over.Reads as update-over-reads
 
