@@ -184,18 +184,17 @@ pub fn admit(
     coordinates: &[f64; 8],
     evaluation: f64,
     number: u64,
-    near: &[usize; 8],
+    spots: &mut [usize; 8],
     levels: usize,
     weighed: usize,
     many: usize,
     form: u64,
 ) -> u64
     requires { ⌜ Laid 4 (now table) (length (now reals)) (length (now counts)) 0 × (sound (rootOf (now table) (now reals) (now counts)) ≡ true)
-        × (form ≡ formOf (rootOf (now table) (now reals) (now counts)) (sampleIn (now path) levels (now weights) weighed (now coordinates) many)) ⌝ }
+        × (form ≡ formOf (rootOf (now table) (now reals) (now counts)) (sampleIn (now path) levels (now weights) weighed (now coordinates) many)) × (length (now spots) ≡ 8) ⌝ }
     ensures { λ n. ⌜ (n ≡ objectionOf (trainOf (rootOf (now (table .entry)) (now (reals .entry)) (now (counts .entry))) (sampleOf (sampleIn (now (path .entry)) levels (now (weights .entry)) weighed (now (coordinates .entry)) many)) evaluation number))
         × (memory (now (reals .exit)) (now (counts .exit)) ≡ admitted n (now (table .entry)) (sampleIn (now (path .entry)) levels (now (weights .entry)) weighed (now (coordinates .entry)) many) evaluation number (memory (now (reals .entry)) (now (counts .entry)))) ⌝ }
 {
-    let mut spots = [0usize; 8];
     let refused = acceptance::objection(
         table,
         reals,
@@ -205,8 +204,7 @@ pub fn admit(
         coordinates,
         evaluation,
         number,
-        near,
-        &mut spots,
+        spots,
         levels,
         weighed,
         many,
@@ -226,7 +224,7 @@ pub fn admit(
         0,
         evaluation,
         number,
-        &spots,
+        spots,
     );
     refused
 }

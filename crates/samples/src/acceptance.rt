@@ -27,7 +27,6 @@ fn axes_accept(
     depth: usize,
     evaluation: f64,
     number: u64,
-    near: &[usize; 8],
     spots: &mut [usize; 8],
 ) -> bool
     requires { ⌜ AxesLaid (now table) (length (now reals)) (length (now counts)) w × (depth ≤ 4) × Offered (now path) (now weights) (now coordinates) (axes (axesGridAt (now table) (now reals) (now counts) w)) depth number × (length (now spots) ≡ 8) ⌝ }
@@ -37,15 +36,7 @@ fn axes_accept(
 {
     let weight = weights[depth];
     let g = layout::axes_place(table, w);
-    let fit = training::axes_fit(
-        reals,
-        counts,
-        g,
-        coordinates,
-        near,
-        weight * evaluation,
-        spots,
-    );
+    let fit = training::axes_fit(reals, counts, g, coordinates, weight * evaluation, spots);
     let r = table[w + 9] as usize;
     let c = table[w + 10] as usize;
     let own = adding::fits_with(reals, counts, r, c, evaluation * weight, number);
@@ -65,7 +56,6 @@ fn child_accepts(
     depth: usize,
     evaluation: f64,
     number: u64,
-    near: &[usize; 8],
     spots: &mut [usize; 8],
 ) -> bool
     requires { ⌜ ChildLaid level (now table) (length (now reals)) (length (now counts)) link × (depth + level ≤ 4) × OfferedChild (now path) (now weights) (now coordinates) (childIn (gridAt level (now table) (now reals) (now counts)) link) depth number × (length (now spots) ≡ 8) ⌝ }
@@ -88,7 +78,6 @@ fn child_accepts(
         depth,
         evaluation,
         number,
-        near,
         spots,
     )
 }
@@ -106,7 +95,6 @@ fn bins_accept(
     depth: usize,
     evaluation: f64,
     number: u64,
-    near: &[usize; 8],
     spots: &mut [usize; 8],
 ) -> bool
     requires { ⌜ BinsLaid (Laid level (now table) (length (now reals)) (length (now counts))) (now table) (length (now reals)) (length (now counts)) w × (depth + level ≤ 3)
@@ -140,7 +128,6 @@ fn bins_accept(
         depth + 1,
         evaluation,
         number,
-        near,
         spots,
     );
     own & (inner & below)
@@ -159,7 +146,6 @@ pub fn grid_accepts(
     depth: usize,
     evaluation: f64,
     number: u64,
-    near: &[usize; 8],
     spots: &mut [usize; 8],
 ) -> bool
     requires { ⌜ Laid level (now table) (length (now reals)) (length (now counts)) w × (depth + level ≤ 4) × Offered (now path) (now weights) (now coordinates) (gridAt level (now table) (now reals) (now counts) w) depth number × (length (now spots) ≡ 8) ⌝ }
@@ -179,7 +165,6 @@ pub fn grid_accepts(
             depth,
             evaluation,
             number,
-            near,
             spots,
         );
     }
@@ -195,7 +180,6 @@ pub fn grid_accepts(
         depth,
         evaluation,
         number,
-        near,
         spots,
     )
 }
@@ -210,7 +194,6 @@ pub fn objection(
     coordinates: &[f64; 8],
     evaluation: f64,
     number: u64,
-    near: &[usize; 8],
     spots: &mut [usize; 8],
     levels: usize,
     weighed: usize,
@@ -249,7 +232,6 @@ pub fn objection(
         0,
         evaluation,
         number,
-        near,
         spots,
     ) {
         return 8;

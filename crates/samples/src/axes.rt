@@ -52,10 +52,10 @@ fn walk_axes(
     evenly: bool,
     start: MonteCarloRng,
     coordinates: &mut [f64; 8],
-    near: &mut [usize; 8],
+    spots: &mut [usize; 8],
 ) -> Walked
     requires { ⌜ Stands (now reals) (now counts) g × (length (now coordinates) ≡ 8) ⌝ }
-    ensures { λ w. ⌜ Places (g .axes) (walked evenly (axesAt (now (reals .entry)) (now (counts .entry)) g) one64 start) w (now (coordinates .entry)) (now (coordinates .exit)) ⌝ }
+    ensures { λ w. ⌜ Places (g .axes) (walked evenly (axesAt (now (reals .entry)) (now (counts .entry)) g) one64 start) w (now (coordinates .entry)) (now (coordinates .exit)) × (length (now (spots .exit)) ≡ length (now (spots .entry))) ⌝ }
 {
     let mut weight = 1.0;
     let mut stream = start;
@@ -75,7 +75,7 @@ fn walk_axes(
         stream = word.stream;
         at = at + (6 * g.most + 1);
         place = place + (3 * g.most + 2);
-        near[done] = spot.bin;
+        spots[done] = spot.bin;
         done += 1;
     }
     Walked { weight, stream }
@@ -112,14 +112,14 @@ pub fn draw_axes(
     g: AxesAt,
     start: MonteCarloRng,
     coordinates: &mut [f64; 8],
-    near: &mut [usize; 8],
+    spots: &mut [usize; 8],
 ) -> Walked
     requires { ⌜ Stands (now reals) (now counts) g × (length (now coordinates) ≡ 8) ⌝ }
-    ensures { λ w. ⌜ Places (g .axes) (underFloor (g .floor) (placedFrom (g .floor) (axesAt (now (reals .entry)) (now (counts .entry)) g) start)) w (now (coordinates .entry)) (now (coordinates .exit)) ⌝ }
+    ensures { λ w. ⌜ Places (g .axes) (underFloor (g .floor) (placedFrom (g .floor) (axesAt (now (reals .entry)) (now (counts .entry)) g) start)) w (now (coordinates .entry)) (now (coordinates .exit)) × (length (now (spots .exit)) ≡ length (now (spots .entry))) ⌝ }
 {
     let choice = choose(g.floor, start);
     let stream = choice.stream;
-    let mut walked = walk_axes(reals, counts, g, choice.evenly, stream, coordinates, near);
+    let mut walked = walk_axes(reals, counts, g, choice.evenly, stream, coordinates, spots);
     walked.weight = floors::floored(g.floor, walked.weight);
     walked
 }

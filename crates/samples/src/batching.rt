@@ -27,7 +27,7 @@ fn step(
     ensures { λ r. ⌜ stepEnd (r .refused) (r .stream) (memory (now (reals .exit)) (now (counts .exit))) ≡
         stepOf (now (table .entry)) (memory (now (reals .entry)) (now (counts .entry))) start evaluation number ⌝ }
 {
-    let mut near = [0usize; 8];
+    let mut spots = [0usize; 8];
     let mut path = [0usize; 4];
     let mut weights = [0.0f64; 5];
     let mut coordinates = [0.0f64; 8];
@@ -41,7 +41,7 @@ fn step(
         &mut path,
         &mut weights,
         &mut coordinates,
-        &mut near,
+        &mut spots,
         0,
     );
     let refused = absorbing::admit(
@@ -53,7 +53,7 @@ fn step(
         &coordinates,
         evaluation,
         number,
-        &near,
+        &mut spots,
         drawn.levels,
         drawn.given,
         drawn.axes,

@@ -39,8 +39,8 @@ pub fn draw(table: &[u64], reals: &[f64], counts: &[u64], start: MonteCarloRng) 
         let drawing = sampling::draw_nothing(start);
         return Drawn { refused, drawing };
     }
-    let mut near = [0usize; 8];
-    let drawing = sampling::draw_root(table, reals, counts, start, &mut near);
+    let mut spots = [0usize; 8];
+    let drawing = sampling::draw_root(table, reals, counts, start, &mut spots);
     Drawn { refused, drawing }
 }
 
@@ -62,7 +62,7 @@ pub fn train(
         return refused;
     }
     let form = forms::fault_of(table, reals, counts, s);
-    let near = [0usize; 8];
+    let mut spots = [0usize; 8];
     let path = s.path;
     let weights = s.weights;
     let coordinates = s.coordinates;
@@ -75,7 +75,7 @@ pub fn train(
         &coordinates,
         evaluation,
         number,
-        &near,
+        &mut spots,
         s.levels,
         s.given,
         s.axes,

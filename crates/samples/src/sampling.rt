@@ -59,15 +59,15 @@ fn draw_from_axes(
     start: MonteCarloRng,
     weights: &mut [f64; 5],
     coordinates: &mut [f64; 8],
-    near: &mut [usize; 8],
+    spots: &mut [usize; 8],
     depth: usize,
 ) -> Traced
     requires { ⌜ AxesLaid (now table) (length (now reals)) (length (now counts)) w × (sound (axes (axesGridAt (now table) (now reals) (now counts) w)) ≡ true) × (depth ≤ 4) × (length (now coordinates) ≡ 8) ⌝ }
     ensures { λ t. ⌜ TracesAxes depth (drawAxes (axesGridAt (now (table .entry)) (now (reals .entry)) (now (counts .entry)) w) start) t
-        (now (weights .entry)) (now (weights .exit)) (now (coordinates .entry)) (now (coordinates .exit)) ⌝ }
+        (now (weights .entry)) (now (weights .exit)) (now (coordinates .entry)) (now (coordinates .exit)) × (length (now (spots .exit)) ≡ length (now (spots .entry))) ⌝ }
 {
     let g = layout::axes_place(table, w);
-    let walked = axes::draw_axes(reals, counts, g, start, coordinates, near);
+    let walked = axes::draw_axes(reals, counts, g, start, coordinates, spots);
     weights[depth] = walked.weight;
     let stream = walked.stream;
     Traced {
@@ -90,12 +90,12 @@ fn draw_child(
     path: &mut [usize; 4],
     weights: &mut [f64; 5],
     coordinates: &mut [f64; 8],
-    near: &mut [usize; 8],
+    spots: &mut [usize; 8],
     depth: usize,
 ) -> Traced
     requires { ⌜ ChildLaid level (now table) (length (now reals)) (length (now counts)) link × (depth + level ≤ 4) × (soundChild (childIn (gridAt level (now table) (now reals) (now counts)) link) ≡ true) × (length (now coordinates) ≡ 8) ⌝ }
     ensures { λ t. ⌜ Traces level depth (drawChild (childIn (gridAt level (now (table .entry)) (now (reals .entry)) (now (counts .entry))) link) start) t
-        (now (path .entry)) (now (path .exit)) (now (weights .entry)) (now (weights .exit)) (now (coordinates .entry)) (now (coordinates .exit)) ⌝ }
+        (now (path .entry)) (now (path .exit)) (now (weights .entry)) (now (weights .exit)) (now (coordinates .entry)) (now (coordinates .exit)) × (length (now (spots .exit)) ≡ length (now (spots .entry))) ⌝ }
 {
     if link == 0 {
         return Traced {
@@ -116,7 +116,7 @@ fn draw_child(
         path,
         weights,
         coordinates,
-        near,
+        spots,
         depth,
     )
 }
@@ -132,14 +132,14 @@ fn draw_from_bins(
     path: &mut [usize; 4],
     weights: &mut [f64; 5],
     coordinates: &mut [f64; 8],
-    near: &mut [usize; 8],
+    spots: &mut [usize; 8],
     depth: usize,
 ) -> Traced
     requires { ⌜ BinsLaid (Laid level (now table) (length (now reals)) (length (now counts))) (now table) (length (now reals)) (length (now counts)) w × (depth + level ≤ 3)
         × (sound (bins (headAt (now table) (now reals) (now counts) w) (binsIn (gridAt level (now table) (now reals) (now counts)) (now table) (now reals) (now counts) w 0 (getD (now table) (w + 2) 0))) ≡ true) × (length (now coordinates) ≡ 8) ⌝ }
     ensures { λ t. ⌜ Traces (level + 1) depth (drawGrid (bins (headAt (now (table .entry)) (now (reals .entry)) (now (counts .entry)) w)
         (binsIn (gridAt level (now (table .entry)) (now (reals .entry)) (now (counts .entry))) (now (table .entry)) (now (reals .entry)) (now (counts .entry)) w 0 (getD (now (table .entry)) (w + 2) 0))) start) t
-        (now (path .entry)) (now (path .exit)) (now (weights .entry)) (now (weights .exit)) (now (coordinates .entry)) (now (coordinates .exit)) ⌝ }
+        (now (path .entry)) (now (path .exit)) (now (weights .entry)) (now (weights .exit)) (now (coordinates .entry)) (now (coordinates .exit)) × (length (now (spots .exit)) ≡ length (now (spots .entry))) ⌝ }
 {
     let unit = start.unit();
     let next = unit.stream;
@@ -159,7 +159,7 @@ fn draw_from_bins(
         path,
         weights,
         coordinates,
-        near,
+        spots,
         depth + 1,
     );
     let weight = real::inv(chance) * traced.weight;
@@ -179,12 +179,12 @@ pub fn draw_grid(
     path: &mut [usize; 4],
     weights: &mut [f64; 5],
     coordinates: &mut [f64; 8],
-    near: &mut [usize; 8],
+    spots: &mut [usize; 8],
     depth: usize,
 ) -> Traced
     requires { ⌜ Laid level (now table) (length (now reals)) (length (now counts)) w × (depth + level ≤ 4) × (sound (gridAt level (now table) (now reals) (now counts) w) ≡ true) × (length (now coordinates) ≡ 8) ⌝ }
     ensures { λ t. ⌜ Traces level depth (drawGrid (gridAt level (now (table .entry)) (now (reals .entry)) (now (counts .entry)) w) start) t
-        (now (path .entry)) (now (path .exit)) (now (weights .entry)) (now (weights .exit)) (now (coordinates .entry)) (now (coordinates .exit)) ⌝ }
+        (now (path .entry)) (now (path .exit)) (now (weights .entry)) (now (weights .exit)) (now (coordinates .entry)) (now (coordinates .exit)) × (length (now (spots .exit)) ≡ length (now (spots .entry))) ⌝ }
 {
     if table[w] == 1 {
         return draw_from_axes(
@@ -195,7 +195,7 @@ pub fn draw_grid(
             start,
             weights,
             coordinates,
-            near,
+            spots,
             depth,
         );
     }
@@ -209,7 +209,7 @@ pub fn draw_grid(
         path,
         weights,
         coordinates,
-        near,
+        spots,
         depth,
     )
 }
@@ -220,7 +220,7 @@ pub fn draw_root(
     reals: &[f64],
     counts: &[u64],
     start: MonteCarloRng,
-    near: &mut [usize; 8],
+    spots: &mut [usize; 8],
 ) -> Drawing
     requires { ⌜ Laid 4 (now table) (length (now reals)) (length (now counts)) 0 × (sound (gridAt 4 (now table) (now reals) (now counts) 0) ≡ true) ⌝ }
     ensures { λ d. ⌜ d ≡ laidDrawing (drawGrid (gridAt 4 (now (table .entry)) (now (reals .entry)) (now (counts .entry)) 0) start) ⌝ }
@@ -238,7 +238,7 @@ pub fn draw_root(
         &mut path,
         &mut weights,
         &mut coordinates,
-        near,
+        spots,
         0,
     );
     let stream = traced.stream;

@@ -91,13 +91,13 @@ fn cell_fits(
     (are_sums_finite(sum, squares) & (waiting <= 9007199254740992)) & (zeros <= 9007199254740992)
 }
 
-// Whether v may join each coordinate's bin on its axis; for each bin a guess, which may be any number. The bins are written to spots.
+// Whether v may join each coordinate's bin on its axis. For each bin there is a guess in spots, which may be any number; the bin is written
+// over it.
 pub fn axes_fit(
     reals: &[f64],
     counts: &[u64],
     g: AxesAt,
     xs: &[f64; 8],
-    near: &[usize; 8],
     v: f64,
     spots: &mut [usize; 8],
 ) -> bool
@@ -112,7 +112,7 @@ pub fn axes_fit(
     while done < g.axes {
         let held = counts[place] as usize;
         let end = at + held + 1;
-        let bin = bin_near(&reals[at..end], xs[done], near[done]);
+        let bin = bin_near(&reals[at..end], xs[done], spots[done]);
         spots[done] = bin;
         ok = ok & cell_fits(reals, counts, g.most, at, place, bin, v);
         at = at + (6 * g.most + 1);

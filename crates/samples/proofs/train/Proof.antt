@@ -1,5 +1,5 @@
 -- Nothing stands against the state nor against the sample, so the grid takes it; else nothing is written.
-use mathlib.Core.Path.{sym, _∙_}
+use mathlib.Core.Path.{refl, sym, _∙_}
 use native.Mathlib.Omega.{arith}
 use Rattle.lent.specs.Memory.{memory}
 use Rattle.lent.proofs.States.{clear}
@@ -34,7 +34,7 @@ fault-of-requires c κs = let state = clear (c .before .before .before .before .
 
 -- src/lib.rt:237:5
 admit-requires : tie.Need-admit-requires
-admit-requires c κs = let state = clear (c .before .before .before .before .before .before .before .before .before .before .before .before .before .before .before .before .before .before .before .args .table .now) (c .before .before .before .before .before .before .before .before .before .before .before .before .before .before .before .before .before .before .before .args .reals .now) (c .before .before .before .before .before .before .before .before .before .before .before .before .before .before .before .before .before .before .before .args .counts .now) (λ i. omega (arith, c .before .before .before .before .before .before .before .before .before .before .before .before .before .before .before .before .before .before .shared-slice-known .given i)) (sym (c .before .before .before .before .before .before .before .before .before .before .before .before .before .fault .ensures) ∙ c .before .before .before .before .before .before .before .before .before .before .before .before .if1 .left) in (state .laid, state .well, c .before .before .before .before .before .before .before .before .before .fault-of .ensures)
+admit-requires c κs = let state = clear (c .before .before .before .before .before .before .before .before .before .before .before .before .before .before .before .before .before .before .before .args .table .now) (c .before .before .before .before .before .before .before .before .before .before .before .before .before .before .before .before .before .before .before .args .reals .now) (c .before .before .before .before .before .before .before .before .before .before .before .before .before .before .before .before .before .before .before .args .counts .now) (λ i. omega (arith, c .before .before .before .before .before .before .before .before .before .before .before .before .before .before .before .before .before .before .shared-slice-known .given i)) (sym (c .before .before .before .before .before .before .before .before .before .before .before .before .before .fault .ensures) ∙ c .before .before .before .before .before .before .before .before .before .before .before .before .if1 .left) in (state .laid, state .well, c .before .before .before .before .before .before .before .before .before .fault-of .ensures, refl)
 
 -- src/lib.rt:218:1
 same-length-3 : tie.Need-same-length-3

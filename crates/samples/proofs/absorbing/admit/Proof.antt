@@ -1,5 +1,5 @@
 -- Nothing stands against the sample, so the grid takes it; else nothing is written.
-use mathlib.Core.Path.{refl, sym, _∙_}
+use mathlib.Core.Path.{sym, _∙_}
 use native.Mathlib.Omega.{arith}
 use Rattle.lent.specs.Memory.{memory}
 use Rattle.lent.specs.State.{rootOf}
@@ -17,7 +17,7 @@ use Rattle.samples.proofs.acceptance.objection.Reads as objection-reads
 
 -- src/absorbing.rt:227:9
 objection-requires : tie.Need-objection-requires
-objection-requires c κs = let o = c .before .before .before .before .before .before in (o .pre .0, o .pre .1, o .pre .2, refl)
+objection-requires c κs = let o = c .before .before .before .before .before .before in (o .pre .0, o .pre .1, o .pre .2, o .pre .3)
 
 -- src/absorbing.rt:242:9
 same-length : tie.Need-same-length

@@ -32,45 +32,45 @@ use Rattle.samples.proofs.adding.fits_with.Reads as fits-with-reads
 use Rattle.samples.proofs.acceptance.+bins_accept+child_accepts+grid_accepts.{statement}
 use Rattle.samples.proofs.acceptance.+bins_accept+child_accepts+grid_accepts.Tie.{close}
 
-abbrev μ-bins-accept : Measures 8 bins-accept-kinds.ps ℕ
+abbrev μ-bins-accept : Measures 7 bins-accept-kinds.ps ℕ
 μ-bins-accept κs a = 3 * a .1 .1 .1 .0 + 2
 
-abbrev μ-child-accepts : Measures 8 child-accepts-kinds.ps ℕ
+abbrev μ-child-accepts : Measures 7 child-accepts-kinds.ps ℕ
 μ-child-accepts κs a = 3 * a .1 .1 .1 .0 + 1
 
-abbrev μ-grid-accepts : Measures 8 grid-accepts-kinds.ps ℕ
+abbrev μ-grid-accepts : Measures 7 grid-accepts-kinds.ps ℕ
 μ-grid-accepts κs a = 3 * a .1 .1 .1 .0
 
-abbrev bins-accept-at : ℕ → In 8 bins-accept-kinds.ps
+abbrev bins-accept-at : ℕ → In 7 bins-accept-kinds.ps
 bins-accept-at t =
-    and 8 bins-accept-kinds.ps (is 8 bins-accept-kinds.ps μ-bins-accept t) bins-accept.Pre
+    and 7 bins-accept-kinds.ps (is 7 bins-accept-kinds.ps μ-bins-accept t) bins-accept.Pre
 
-abbrev bins-accept-below : ℕ → In 8 bins-accept-kinds.ps
+abbrev bins-accept-below : ℕ → In 7 bins-accept-kinds.ps
 bins-accept-below t =
-    and 8 bins-accept-kinds.ps (falls 8 bins-accept-kinds.ps _<_ μ-bins-accept t) bins-accept.Pre
+    and 7 bins-accept-kinds.ps (falls 7 bins-accept-kinds.ps _<_ μ-bins-accept t) bins-accept.Pre
 
-abbrev child-accepts-at : ℕ → In 8 child-accepts-kinds.ps
+abbrev child-accepts-at : ℕ → In 7 child-accepts-kinds.ps
 child-accepts-at t =
-    and 8 child-accepts-kinds.ps (is 8 child-accepts-kinds.ps μ-child-accepts t) child-accepts.Pre
+    and 7 child-accepts-kinds.ps (is 7 child-accepts-kinds.ps μ-child-accepts t) child-accepts.Pre
 
-abbrev child-accepts-below : ℕ → In 8 child-accepts-kinds.ps
+abbrev child-accepts-below : ℕ → In 7 child-accepts-kinds.ps
 child-accepts-below t =
     and
-    8
+    7
     child-accepts-kinds.ps
-    (falls 8 child-accepts-kinds.ps _<_ μ-child-accepts t)
+    (falls 7 child-accepts-kinds.ps _<_ μ-child-accepts t)
     child-accepts.Pre
 
-abbrev grid-accepts-at : ℕ → In 8 grid-accepts-kinds.ps
+abbrev grid-accepts-at : ℕ → In 7 grid-accepts-kinds.ps
 grid-accepts-at t =
-    and 8 grid-accepts-kinds.ps (is 8 grid-accepts-kinds.ps μ-grid-accepts t) grid-accepts.Pre
+    and 7 grid-accepts-kinds.ps (is 7 grid-accepts-kinds.ps μ-grid-accepts t) grid-accepts.Pre
 
-abbrev grid-accepts-below : ℕ → In 8 grid-accepts-kinds.ps
+abbrev grid-accepts-below : ℕ → In 7 grid-accepts-kinds.ps
 grid-accepts-below t =
     and
-    8
+    7
     grid-accepts-kinds.ps
-    (falls 8 grid-accepts-kinds.ps _<_ μ-grid-accepts t)
+    (falls 7 grid-accepts-kinds.ps _<_ μ-grid-accepts t)
     grid-accepts.Pre
 
 -- src/acceptance.rt:115:15
@@ -372,7 +372,7 @@ bins-accept-returns : (t : ℕ) → bins-accept-lts.Need-returns (
   child-accepts.Post,
 ) (bins-accept-at t) bins-accept.Post
 unfolding binIn headAt
-bins-accept-returns t c s = (ap₂ _&&_ (c .before .before .before .before .fits-with .ensures) (ap₂ _&&_ (c .before .before .before .fits-with2 .ensures) (c .child-accepts .ensures (offered-below (gridAt (c .before .before .before .before .before .before .before .before .before .before .before .before .before .before .args .level) (c .before .before .before .before .before .before .before .before .before .before .before .before .before .before .args .table .now) (c .before .before .before .before .before .before .before .before .before .before .before .before .before .before .args .reals .now) (c .before .before .before .before .before .before .before .before .before .before .before .before .before .before .args .counts .now)) (c .before .before .before .before .before .before .before .before .before .before .before .before .before .before .args .table .now) (c .before .before .before .before .before .before .before .before .before .before .before .before .before .before .args .reals .now) (c .before .before .before .before .before .before .before .before .before .before .before .before .before .before .args .counts .now) (c .before .before .before .before .before .before .before .before .before .before .before .before .before .before .args .w) (getD (c .before .before .before .before .before .before .before .before .before .before .before .before .before .before .args .table .now) (c .before .before .before .before .before .before .before .before .before .before .before .before .before .before .args .w + 2) 0) (headAt (c .before .before .before .before .before .before .before .before .before .before .before .before .before .before .args .table .now) (c .before .before .before .before .before .before .before .before .before .before .before .before .before .before .args .reals .now) (c .before .before .before .before .before .before .before .before .before .before .before .before .before .before .args .counts .now) (c .before .before .before .before .before .before .before .before .before .before .before .before .before .before .args .w)) s) .0)) ∙ bins-told (gridAt (c .before .before .before .before .before .before .before .before .before .before .before .before .before .before .args .level) (c .before .before .before .before .before .before .before .before .before .before .before .before .before .before .args .table .now) (c .before .before .before .before .before .before .before .before .before .before .before .before .before .before .args .reals .now) (c .before .before .before .before .before .before .before .before .before .before .before .before .before .before .args .counts .now)) (c .before .before .before .before .before .before .before .before .before .before .before .before .before .before .args .table .now) (c .before .before .before .before .before .before .before .before .before .before .before .before .before .before .args .reals .now) (c .before .before .before .before .before .before .before .before .before .before .before .before .before .before .args .counts .now) (c .before .before .before .before .before .before .before .before .before .before .before .before .before .before .args .w) (getD (c .before .before .before .before .before .before .before .before .before .before .before .before .before .before .args .table .now) ((c .before .before .before .before .before .before .before .before .before .before .before .before .before .before .args .w) + 2) 0) (headAt (c .before .before .before .before .before .before .before .before .before .before .before .before .before .before .args .table .now) (c .before .before .before .before .before .before .before .before .before .before .before .before .before .before .args .reals .now) (c .before .before .before .before .before .before .before .before .before .before .before .before .before .before .args .counts .now) (c .before .before .before .before .before .before .before .before .before .before .before .before .before .before .args .w)) (offered s) (c .before .before .before .before .before .before .before .before .before .before .before .before .before .before .args .depth) (c .before .before .before .before .before .before .before .before .before .before .before .before .before .before .args .number) (s .takes) (c .before .before .before .before .before .before .before .before .before .before .before .before .before .before .args .evaluation), bins-found (gridAt (c .before .before .before .before .before .before .before .before .before .before .before .before .before .before .args .level) (c .before .before .before .before .before .before .before .before .before .before .before .before .before .before .args .table .now) (c .before .before .before .before .before .before .before .before .before .before .before .before .before .before .args .reals .now) (c .before .before .before .before .before .before .before .before .before .before .before .before .before .before .args .counts .now)) (c .before .before .before .before .before .before .before .before .before .before .before .before .before .before .args .table .now) (c .before .before .before .before .before .before .before .before .before .before .before .before .before .before .args .reals .now) (c .before .before .before .before .before .before .before .before .before .before .before .before .before .before .args .counts .now) (c .before .before .before .before .before .before .before .before .before .before .before .before .before .before .args .w) (getD (c .before .before .before .before .before .before .before .before .before .before .before .before .before .before .args .table .now) ((c .before .before .before .before .before .before .before .before .before .before .before .before .before .before .args .w) + 2) 0) (headAt (c .before .before .before .before .before .before .before .before .before .before .before .before .before .before .args .table .now) (c .before .before .before .before .before .before .before .before .before .before .before .before .before .before .args .reals .now) (c .before .before .before .before .before .before .before .before .before .before .before .before .before .before .args .counts .now) (c .before .before .before .before .before .before .before .before .before .before .before .before .before .before .args .w)) (offered s) (c .before .before .before .before .before .before .before .before .before .before .before .before .before .before .args .depth) (c .before .before .before .before .before .before .before .before .before .before .before .before .before .before .args .number) (s .takes) (c .child-accepts .last .1 .1 .1 .1 .1 .1 .1 .1 .1 .1 .1 .1 .0) (c .child-accepts .ensures (offered-below (gridAt (c .before .before .before .before .before .before .before .before .before .before .before .before .before .before .args .level) (c .before .before .before .before .before .before .before .before .before .before .before .before .before .before .args .table .now) (c .before .before .before .before .before .before .before .before .before .before .before .before .before .before .args .reals .now) (c .before .before .before .before .before .before .before .before .before .before .before .before .before .before .args .counts .now)) (c .before .before .before .before .before .before .before .before .before .before .before .before .before .before .args .table .now) (c .before .before .before .before .before .before .before .before .before .before .before .before .before .before .args .reals .now) (c .before .before .before .before .before .before .before .before .before .before .before .before .before .before .args .counts .now) (c .before .before .before .before .before .before .before .before .before .before .before .before .before .before .args .w) (getD (c .before .before .before .before .before .before .before .before .before .before .before .before .before .before .args .table .now) (c .before .before .before .before .before .before .before .before .before .before .before .before .before .before .args .w + 2) 0) (headAt (c .before .before .before .before .before .before .before .before .before .before .before .before .before .before .args .table .now) (c .before .before .before .before .before .before .before .before .before .before .before .before .before .before .args .reals .now) (c .before .before .before .before .before .before .before .before .before .before .before .before .before .before .args .counts .now) (c .before .before .before .before .before .before .before .before .before .before .before .before .before .before .args .w)) s) .1))
+bins-accept-returns t c s = (ap₂ _&&_ (c .before .before .before .before .fits-with .ensures) (ap₂ _&&_ (c .before .before .before .fits-with2 .ensures) (c .child-accepts .ensures (offered-below (gridAt (c .before .before .before .before .before .before .before .before .before .before .before .before .before .before .args .level) (c .before .before .before .before .before .before .before .before .before .before .before .before .before .before .args .table .now) (c .before .before .before .before .before .before .before .before .before .before .before .before .before .before .args .reals .now) (c .before .before .before .before .before .before .before .before .before .before .before .before .before .before .args .counts .now)) (c .before .before .before .before .before .before .before .before .before .before .before .before .before .before .args .table .now) (c .before .before .before .before .before .before .before .before .before .before .before .before .before .before .args .reals .now) (c .before .before .before .before .before .before .before .before .before .before .before .before .before .before .args .counts .now) (c .before .before .before .before .before .before .before .before .before .before .before .before .before .before .args .w) (getD (c .before .before .before .before .before .before .before .before .before .before .before .before .before .before .args .table .now) (c .before .before .before .before .before .before .before .before .before .before .before .before .before .before .args .w + 2) 0) (headAt (c .before .before .before .before .before .before .before .before .before .before .before .before .before .before .args .table .now) (c .before .before .before .before .before .before .before .before .before .before .before .before .before .before .args .reals .now) (c .before .before .before .before .before .before .before .before .before .before .before .before .before .before .args .counts .now) (c .before .before .before .before .before .before .before .before .before .before .before .before .before .before .args .w)) s) .0)) ∙ bins-told (gridAt (c .before .before .before .before .before .before .before .before .before .before .before .before .before .before .args .level) (c .before .before .before .before .before .before .before .before .before .before .before .before .before .before .args .table .now) (c .before .before .before .before .before .before .before .before .before .before .before .before .before .before .args .reals .now) (c .before .before .before .before .before .before .before .before .before .before .before .before .before .before .args .counts .now)) (c .before .before .before .before .before .before .before .before .before .before .before .before .before .before .args .table .now) (c .before .before .before .before .before .before .before .before .before .before .before .before .before .before .args .reals .now) (c .before .before .before .before .before .before .before .before .before .before .before .before .before .before .args .counts .now) (c .before .before .before .before .before .before .before .before .before .before .before .before .before .before .args .w) (getD (c .before .before .before .before .before .before .before .before .before .before .before .before .before .before .args .table .now) ((c .before .before .before .before .before .before .before .before .before .before .before .before .before .before .args .w) + 2) 0) (headAt (c .before .before .before .before .before .before .before .before .before .before .before .before .before .before .args .table .now) (c .before .before .before .before .before .before .before .before .before .before .before .before .before .before .args .reals .now) (c .before .before .before .before .before .before .before .before .before .before .before .before .before .before .args .counts .now) (c .before .before .before .before .before .before .before .before .before .before .before .before .before .before .args .w)) (offered s) (c .before .before .before .before .before .before .before .before .before .before .before .before .before .before .args .depth) (c .before .before .before .before .before .before .before .before .before .before .before .before .before .before .args .number) (s .takes) (c .before .before .before .before .before .before .before .before .before .before .before .before .before .before .args .evaluation), bins-found (gridAt (c .before .before .before .before .before .before .before .before .before .before .before .before .before .before .args .level) (c .before .before .before .before .before .before .before .before .before .before .before .before .before .before .args .table .now) (c .before .before .before .before .before .before .before .before .before .before .before .before .before .before .args .reals .now) (c .before .before .before .before .before .before .before .before .before .before .before .before .before .before .args .counts .now)) (c .before .before .before .before .before .before .before .before .before .before .before .before .before .before .args .table .now) (c .before .before .before .before .before .before .before .before .before .before .before .before .before .before .args .reals .now) (c .before .before .before .before .before .before .before .before .before .before .before .before .before .before .args .counts .now) (c .before .before .before .before .before .before .before .before .before .before .before .before .before .before .args .w) (getD (c .before .before .before .before .before .before .before .before .before .before .before .before .before .before .args .table .now) ((c .before .before .before .before .before .before .before .before .before .before .before .before .before .before .args .w) + 2) 0) (headAt (c .before .before .before .before .before .before .before .before .before .before .before .before .before .before .args .table .now) (c .before .before .before .before .before .before .before .before .before .before .before .before .before .before .args .reals .now) (c .before .before .before .before .before .before .before .before .before .before .before .before .before .before .args .counts .now) (c .before .before .before .before .before .before .before .before .before .before .before .before .before .before .args .w)) (offered s) (c .before .before .before .before .before .before .before .before .before .before .before .before .before .before .args .depth) (c .before .before .before .before .before .before .before .before .before .before .before .before .before .before .args .number) (s .takes) (c .child-accepts .last .1 .1 .1 .1 .1 .1 .1 .1 .1 .1 .1 .0) (c .child-accepts .ensures (offered-below (gridAt (c .before .before .before .before .before .before .before .before .before .before .before .before .before .before .args .level) (c .before .before .before .before .before .before .before .before .before .before .before .before .before .before .args .table .now) (c .before .before .before .before .before .before .before .before .before .before .before .before .before .before .args .reals .now) (c .before .before .before .before .before .before .before .before .before .before .before .before .before .before .args .counts .now)) (c .before .before .before .before .before .before .before .before .before .before .before .before .before .before .args .table .now) (c .before .before .before .before .before .before .before .before .before .before .before .before .before .before .args .reals .now) (c .before .before .before .before .before .before .before .before .before .before .before .before .before .before .args .counts .now) (c .before .before .before .before .before .before .before .before .before .before .before .before .before .before .args .w) (getD (c .before .before .before .before .before .before .before .before .before .before .before .before .before .before .args .table .now) (c .before .before .before .before .before .before .before .before .before .before .before .before .before .before .args .w + 2) 0) (headAt (c .before .before .before .before .before .before .before .before .before .before .before .before .before .before .args .table .now) (c .before .before .before .before .before .before .before .before .before .before .before .before .before .before .args .reals .now) (c .before .before .before .before .before .before .before .before .before .before .before .before .before .before .args .counts .now) (c .before .before .before .before .before .before .before .before .before .before .before .before .before .before .args .w)) s) .1))
 
 -- src/acceptance.rt:70:9
 child-accepts-returns : (t : ℕ) → child-accepts-lts.Need-returns (
@@ -394,7 +394,7 @@ child-accepts-returns-2 : (t : ℕ) → child-accepts-lts.Need-returns-2 (
   grid-accepts-below t,
   grid-accepts.Post,
 ) (child-accepts-at t) child-accepts.Post
-child-accepts-returns-2 t c s = (c .grid-accepts .ensures (offered-grid (gridAt (c .before .before .before .before .before .before .args .level) (c .before .before .before .before .before .before .args .table .now) (c .before .before .before .before .before .before .args .reals .now) (c .before .before .before .before .before .before .args .counts .now)) (c .before .before .before .before .before .before .args .link) (c .before .before .if1 .left) s) .0 ∙ grid-told (gridAt (c .before .before .before .before .before .before .args .level) (c .before .before .before .before .before .before .args .table .now) (c .before .before .before .before .before .before .args .reals .now) (c .before .before .before .before .before .before .args .counts .now)) (c .before .before .before .before .before .before .args .link) (pathLeft (offeredChild s) (c .before .before .before .before .before .before .args .depth)) (weightsLeft (offeredChild s) (c .before .before .before .before .before .before .args .depth)) (placesIn (offeredChild s)) (c .before .before .before .before .before .before .args .evaluation) (c .before .before .before .before .before .before .args .number) (c .before .before .if1 .left), grid-found (gridAt (c .before .before .before .before .before .before .args .level) (c .before .before .before .before .before .before .args .table .now) (c .before .before .before .before .before .before .args .reals .now) (c .before .before .before .before .before .before .args .counts .now)) (c .before .before .before .before .before .before .args .link) (offeredChild s) (c .before .before .before .before .before .before .args .depth) (c .grid-accepts .last .1 .1 .1 .1 .1 .1 .1 .1 .1 .1 .1 .1 .0) (c .before .before .if1 .left) (c .grid-accepts .ensures (offered-grid (gridAt (c .before .before .before .before .before .before .args .level) (c .before .before .before .before .before .before .args .table .now) (c .before .before .before .before .before .before .args .reals .now) (c .before .before .before .before .before .before .args .counts .now)) (c .before .before .before .before .before .before .args .link) (c .before .before .if1 .left) s) .1))
+child-accepts-returns-2 t c s = (c .grid-accepts .ensures (offered-grid (gridAt (c .before .before .before .before .before .before .args .level) (c .before .before .before .before .before .before .args .table .now) (c .before .before .before .before .before .before .args .reals .now) (c .before .before .before .before .before .before .args .counts .now)) (c .before .before .before .before .before .before .args .link) (c .before .before .if1 .left) s) .0 ∙ grid-told (gridAt (c .before .before .before .before .before .before .args .level) (c .before .before .before .before .before .before .args .table .now) (c .before .before .before .before .before .before .args .reals .now) (c .before .before .before .before .before .before .args .counts .now)) (c .before .before .before .before .before .before .args .link) (pathLeft (offeredChild s) (c .before .before .before .before .before .before .args .depth)) (weightsLeft (offeredChild s) (c .before .before .before .before .before .before .args .depth)) (placesIn (offeredChild s)) (c .before .before .before .before .before .before .args .evaluation) (c .before .before .before .before .before .before .args .number) (c .before .before .if1 .left), grid-found (gridAt (c .before .before .before .before .before .before .args .level) (c .before .before .before .before .before .before .args .table .now) (c .before .before .before .before .before .before .args .reals .now) (c .before .before .before .before .before .before .args .counts .now)) (c .before .before .before .before .before .before .args .link) (offeredChild s) (c .before .before .before .before .before .before .args .depth) (c .grid-accepts .last .1 .1 .1 .1 .1 .1 .1 .1 .1 .1 .1 .0) (c .before .before .if1 .left) (c .grid-accepts .ensures (offered-grid (gridAt (c .before .before .before .before .before .before .args .level) (c .before .before .before .before .before .before .args .table .now) (c .before .before .before .before .before .before .args .reals .now) (c .before .before .before .before .before .before .args .counts .now)) (c .before .before .before .before .before .before .args .link) (c .before .before .if1 .left) s) .1))
 
 -- src/acceptance.rt:167:8
 grid-accepts-mul-if1 : (t : ℕ) → grid-accepts-lts.Need-mul-if1 (
@@ -430,7 +430,7 @@ grid-accepts-returns : (t : ℕ) → grid-accepts-lts.Need-returns (
   bins-accept-below t,
   bins-accept.Post,
 ) (grid-accepts-at t) grid-accepts.Post
-grid-accepts-returns t c s = (c .axes-accept .ensures (offered-as (node-axes (c .before .before .before .before .before .before .before .args .level) (c .before .before .before .before .before .before .before .args .table .now) (c .before .before .before .before .before .before .before .args .reals .now) (c .before .before .before .before .before .before .before .args .counts .now) (c .before .before .before .before .before .before .before .args .w) (c .before .before .if1 .taken)) s) .0 ∙ ap (λ (g : Grid). keptGrid (trainGrid g (pathLeft (offered s) (c .before .before .before .before .before .before .before .args .depth)) (weightsLeft (offered s) (c .before .before .before .before .before .before .before .args .depth)) (placesIn (offered s)) (c .before .before .before .before .before .before .before .args .evaluation) (c .before .before .before .before .before .before .before .args .number))) (sym (node-axes (c .before .before .before .before .before .before .before .args .level) (c .before .before .before .before .before .before .before .args .table .now) (c .before .before .before .before .before .before .before .args .reals .now) (c .before .before .before .before .before .before .before .args .counts .now) (c .before .before .before .before .before .before .before .args .w) (c .before .before .if1 .taken))), subst (λ (g : Grid). Found (c .axes-accept .last .1 .1 .1 .1 .1 .1 .1 .1 .1 .1 .1 .0) g (offered s) (c .before .before .before .before .before .before .before .args .depth)) (sym (node-axes (c .before .before .before .before .before .before .before .args .level) (c .before .before .before .before .before .before .before .args .table .now) (c .before .before .before .before .before .before .before .args .reals .now) (c .before .before .before .before .before .before .before .args .counts .now) (c .before .before .before .before .before .before .before .args .w) (c .before .before .if1 .taken))) (c .axes-accept .ensures (offered-as (node-axes (c .before .before .before .before .before .before .before .args .level) (c .before .before .before .before .before .before .before .args .table .now) (c .before .before .before .before .before .before .before .args .reals .now) (c .before .before .before .before .before .before .before .args .counts .now) (c .before .before .before .before .before .before .before .args .w) (c .before .before .if1 .taken)) s) .1))
+grid-accepts-returns t c s = (c .axes-accept .ensures (offered-as (node-axes (c .before .before .before .before .before .before .before .args .level) (c .before .before .before .before .before .before .before .args .table .now) (c .before .before .before .before .before .before .before .args .reals .now) (c .before .before .before .before .before .before .before .args .counts .now) (c .before .before .before .before .before .before .before .args .w) (c .before .before .if1 .taken)) s) .0 ∙ ap (λ (g : Grid). keptGrid (trainGrid g (pathLeft (offered s) (c .before .before .before .before .before .before .before .args .depth)) (weightsLeft (offered s) (c .before .before .before .before .before .before .before .args .depth)) (placesIn (offered s)) (c .before .before .before .before .before .before .before .args .evaluation) (c .before .before .before .before .before .before .before .args .number))) (sym (node-axes (c .before .before .before .before .before .before .before .args .level) (c .before .before .before .before .before .before .before .args .table .now) (c .before .before .before .before .before .before .before .args .reals .now) (c .before .before .before .before .before .before .before .args .counts .now) (c .before .before .before .before .before .before .before .args .w) (c .before .before .if1 .taken))), subst (λ (g : Grid). Found (c .axes-accept .last .1 .1 .1 .1 .1 .1 .1 .1 .1 .1 .0) g (offered s) (c .before .before .before .before .before .before .before .args .depth)) (sym (node-axes (c .before .before .before .before .before .before .before .args .level) (c .before .before .before .before .before .before .before .args .table .now) (c .before .before .before .before .before .before .before .args .reals .now) (c .before .before .before .before .before .before .before .args .counts .now) (c .before .before .before .before .before .before .before .args .w) (c .before .before .if1 .taken))) (c .axes-accept .ensures (offered-as (node-axes (c .before .before .before .before .before .before .before .args .level) (c .before .before .before .before .before .before .before .args .table .now) (c .before .before .before .before .before .before .before .args .reals .now) (c .before .before .before .before .before .before .before .args .counts .now) (c .before .before .before .before .before .before .before .args .w) (c .before .before .if1 .taken)) s) .1))
 
 -- src/acceptance.rt:174:9
 grid-accepts-sub-bins-accept : (t : ℕ) → grid-accepts-lts.Need-sub-bins-accept (
@@ -457,7 +457,7 @@ grid-accepts-returns-2 : (t : ℕ) → grid-accepts-lts.Need-returns-2 (
   bins-accept-below t,
   bins-accept.Post,
 ) (grid-accepts-at t) grid-accepts.Post
-grid-accepts-returns-2 t c s = (c .bins-accept .ensures (offered-as (node-bins (c .before .before .before .before .before .before .before .args .level) (c .before .before .before .before .before .before .before .args .table .now) (c .before .before .before .before .before .before .before .args .reals .now) (c .before .before .before .before .before .before .before .args .counts .now) (c .before .before .before .before .before .before .before .args .w) (c .before .before .if1 .left) ((laid-bins (c .before .before .before .before .before .before .before .args .level) (c .before .before .before .before .before .before .before .args .table .now) (length (c .before .before .before .before .before .before .before .args .reals .now)) (length (c .before .before .before .before .before .before .before .args .counts .now)) (c .before .before .before .before .before .before .before .args .w) (c .before .before .before .before .before .before .before .pre .1 .0) (c .before .before .if1 .left)) .level)) s) .0 ∙ ap (λ (g : Grid). keptGrid (trainGrid g (pathLeft (offered s) (c .before .before .before .before .before .before .before .args .depth)) (weightsLeft (offered s) (c .before .before .before .before .before .before .before .args .depth)) (placesIn (offered s)) (c .before .before .before .before .before .before .before .args .evaluation) (c .before .before .before .before .before .before .before .args .number))) (sym (node-bins (c .before .before .before .before .before .before .before .args .level) (c .before .before .before .before .before .before .before .args .table .now) (c .before .before .before .before .before .before .before .args .reals .now) (c .before .before .before .before .before .before .before .args .counts .now) (c .before .before .before .before .before .before .before .args .w) (c .before .before .if1 .left) ((laid-bins (c .before .before .before .before .before .before .before .args .level) (c .before .before .before .before .before .before .before .args .table .now) (length (c .before .before .before .before .before .before .before .args .reals .now)) (length (c .before .before .before .before .before .before .before .args .counts .now)) (c .before .before .before .before .before .before .before .args .w) (c .before .before .before .before .before .before .before .pre .1 .0) (c .before .before .if1 .left)) .level))), subst (λ (g : Grid). Found (c .bins-accept .last .1 .1 .1 .1 .1 .1 .1 .1 .1 .1 .1 .1 .0) g (offered s) (c .before .before .before .before .before .before .before .args .depth)) (sym (node-bins (c .before .before .before .before .before .before .before .args .level) (c .before .before .before .before .before .before .before .args .table .now) (c .before .before .before .before .before .before .before .args .reals .now) (c .before .before .before .before .before .before .before .args .counts .now) (c .before .before .before .before .before .before .before .args .w) (c .before .before .if1 .left) ((laid-bins (c .before .before .before .before .before .before .before .args .level) (c .before .before .before .before .before .before .before .args .table .now) (length (c .before .before .before .before .before .before .before .args .reals .now)) (length (c .before .before .before .before .before .before .before .args .counts .now)) (c .before .before .before .before .before .before .before .args .w) (c .before .before .before .before .before .before .before .pre .1 .0) (c .before .before .if1 .left)) .level))) (c .bins-accept .ensures (offered-as (node-bins (c .before .before .before .before .before .before .before .args .level) (c .before .before .before .before .before .before .before .args .table .now) (c .before .before .before .before .before .before .before .args .reals .now) (c .before .before .before .before .before .before .before .args .counts .now) (c .before .before .before .before .before .before .before .args .w) (c .before .before .if1 .left) ((laid-bins (c .before .before .before .before .before .before .before .args .level) (c .before .before .before .before .before .before .before .args .table .now) (length (c .before .before .before .before .before .before .before .args .reals .now)) (length (c .before .before .before .before .before .before .before .args .counts .now)) (c .before .before .before .before .before .before .before .args .w) (c .before .before .before .before .before .before .before .pre .1 .0) (c .before .before .if1 .left)) .level)) s) .1))
+grid-accepts-returns-2 t c s = (c .bins-accept .ensures (offered-as (node-bins (c .before .before .before .before .before .before .before .args .level) (c .before .before .before .before .before .before .before .args .table .now) (c .before .before .before .before .before .before .before .args .reals .now) (c .before .before .before .before .before .before .before .args .counts .now) (c .before .before .before .before .before .before .before .args .w) (c .before .before .if1 .left) ((laid-bins (c .before .before .before .before .before .before .before .args .level) (c .before .before .before .before .before .before .before .args .table .now) (length (c .before .before .before .before .before .before .before .args .reals .now)) (length (c .before .before .before .before .before .before .before .args .counts .now)) (c .before .before .before .before .before .before .before .args .w) (c .before .before .before .before .before .before .before .pre .1 .0) (c .before .before .if1 .left)) .level)) s) .0 ∙ ap (λ (g : Grid). keptGrid (trainGrid g (pathLeft (offered s) (c .before .before .before .before .before .before .before .args .depth)) (weightsLeft (offered s) (c .before .before .before .before .before .before .before .args .depth)) (placesIn (offered s)) (c .before .before .before .before .before .before .before .args .evaluation) (c .before .before .before .before .before .before .before .args .number))) (sym (node-bins (c .before .before .before .before .before .before .before .args .level) (c .before .before .before .before .before .before .before .args .table .now) (c .before .before .before .before .before .before .before .args .reals .now) (c .before .before .before .before .before .before .before .args .counts .now) (c .before .before .before .before .before .before .before .args .w) (c .before .before .if1 .left) ((laid-bins (c .before .before .before .before .before .before .before .args .level) (c .before .before .before .before .before .before .before .args .table .now) (length (c .before .before .before .before .before .before .before .args .reals .now)) (length (c .before .before .before .before .before .before .before .args .counts .now)) (c .before .before .before .before .before .before .before .args .w) (c .before .before .before .before .before .before .before .pre .1 .0) (c .before .before .if1 .left)) .level))), subst (λ (g : Grid). Found (c .bins-accept .last .1 .1 .1 .1 .1 .1 .1 .1 .1 .1 .1 .0) g (offered s) (c .before .before .before .before .before .before .before .args .depth)) (sym (node-bins (c .before .before .before .before .before .before .before .args .level) (c .before .before .before .before .before .before .before .args .table .now) (c .before .before .before .before .before .before .before .args .reals .now) (c .before .before .before .before .before .before .before .args .counts .now) (c .before .before .before .before .before .before .before .args .w) (c .before .before .if1 .left) ((laid-bins (c .before .before .before .before .before .before .before .args .level) (c .before .before .before .before .before .before .before .args .table .now) (length (c .before .before .before .before .before .before .before .args .reals .now)) (length (c .before .before .before .before .before .before .before .args .counts .now)) (c .before .before .before .before .before .before .before .args .w) (c .before .before .before .before .before .before .before .pre .1 .0) (c .before .before .if1 .left)) .level))) (c .bins-accept .ensures (offered-as (node-bins (c .before .before .before .before .before .before .before .args .level) (c .before .before .before .before .before .before .before .args .table .now) (c .before .before .before .before .before .before .before .args .reals .now) (c .before .before .before .before .before .before .before .args .counts .now) (c .before .before .before .before .before .before .before .args .w) (c .before .before .if1 .left) ((laid-bins (c .before .before .before .before .before .before .before .args .level) (c .before .before .before .before .before .before .before .args .table .now) (length (c .before .before .before .before .before .before .before .args .reals .now)) (length (c .before .before .before .before .before .before .before .args .counts .now)) (c .before .before .before .before .before .before .before .args .w) (c .before .before .before .before .before .before .before .pre .1 .0) (c .before .before .if1 .left)) .level)) s) .1))
 
 pub +bins-accept+child-accepts+grid-accepts-spec : {M : Type 1} → statement M
 +bins-accept+child-accepts+grid-accepts-spec =

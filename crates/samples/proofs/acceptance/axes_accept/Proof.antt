@@ -77,7 +77,7 @@ returns c q =
     let fit = c .before .before .before .axes-fit in (
       ap₂ _&&_ (c .fits-with .ensures) (fit .ensures .0 ∙ fit-there (o .args .table .now) (o .args .reals .now) (o .args .counts .now) (o .args .w) s (o .args .depth) (o .args .number) (o .pre .0) (q .takes) (place .result) at (mul binary64 (getD (o .args .weights .now) (o .args .depth) nan) (o .args .evaluation)))
           ∙ axes-told (o .args .table .now) (o .args .reals .now) (o .args .counts .now) (o .args .w) s (o .args .depth) (o .args .number) (o .pre .0) (q .takes) (o .args .evaluation),
-      axes-found (o .args .table .now) (o .args .reals .now) (o .args .counts .now) (o .args .w) s (o .args .depth) (o .args .number) (o .pre .0) (q .takes) (place .result) at (fit .last .1 .1 .1 .1 .1 .1 .0) (fit .ensures .1),
+      axes-found (o .args .table .now) (o .args .reals .now) (o .args .counts .now) (o .args .w) s (o .args .depth) (o .args .number) (o .pre .0) (q .takes) (place .result) at (fit .last .1 .1 .1 .1 .1 .0) (fit .ensures .1),
     )
 
 pub axes-accept-spec : {M : Type 1} → statement M

@@ -30,11 +30,14 @@ unfolding underFloor
 returns c =
     let a = c .before .before .before .before .before .before .before .before .args in
     let axs = axesAt (a .reals .now) (a .counts .now) (a .g) in
-    let drawn = subst (λ (p : Placed). Places (a .g .axes) p (c .before .walk-axes .result) (a .coordinates .now) (c .before .walk-axes .last .1 .1 .1 .1 .1 .0)) (sym (c .before .before .before .before .before .choose .ensures axs)) (c .before .walk-axes .ensures) in (
-      ap (λ (x : Float). record { weight = x; stream = c .before .walk-axes .result .stream }) (c .floored .ensures)
-          ∙ ap (λ (v : Walked). record { weight = flooredOf (a .g .floor) (v .weight); stream = v .stream }) (drawn .0),
-      drawn .1,
-      drawn .2,
+    let drawn = subst (λ (p : Placed). Places (a .g .axes) p (c .before .walk-axes .result) (a .coordinates .now) (c .before .walk-axes .last .1 .1 .1 .1 .1 .0)) (sym (c .before .before .before .before .before .choose .ensures axs)) (c .before .walk-axes .ensures .0) in (
+      (
+        ap (λ (x : Float). record { weight = x; stream = c .before .walk-axes .result .stream }) (c .floored .ensures)
+            ∙ ap (λ (v : Walked). record { weight = flooredOf (a .g .floor) (v .weight); stream = v .stream }) (drawn .0),
+        drawn .1,
+        drawn .2,
+      ),
+      c .before .walk-axes .ensures .1,
     )
 
 pub draw-axes-spec : {M : Type 1} → statement M

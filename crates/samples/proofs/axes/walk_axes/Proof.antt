@@ -19,18 +19,18 @@ use Rattle.stream.proofs.unit_of.Reads as unit-of-reads
 use Rattle.samples.proofs.axes.guess_of.Reads as guess-of-reads
 
 abbrev Inv-loop : tie.InvT-loop
-Inv-loop reals counts g evenly coordinates₀ near₀ weight₀ stream₀ at₀ place₀ done₀ coordinates near weight stream at place done =
+Inv-loop reals counts g evenly coordinates₀ spots₀ weight₀ stream₀ at₀ place₀ done₀ coordinates spots weight stream at place done =
     (done ≤ g .axes) × (length coordinates ≡ 8) × Standing (g .most) reals counts (g .axes - done) at place
     × (behind (take done coordinates) (walked evenly (axesFrom (g .most) reals counts (g .axes - done) at place) weight stream) ≡ walked evenly (axesFrom (g .most) reals counts (g .axes) (g .reals) (g .counts)) one64 stream₀)
-    × (drop done coordinates ≡ drop done coordinates₀)
+    × (drop done coordinates ≡ drop done coordinates₀) × (length spots ≡ length spots₀)
 
 abbrev μ-loop : tie.MeasureT-loop
-μ-loop reals counts g evenly coordinates₀ near₀ weight₀ stream₀ at₀ place₀ done₀ coordinates near weight stream at place done =
+μ-loop reals counts g evenly coordinates₀ spots₀ weight₀ stream₀ at₀ place₀ done₀ coordinates spots weight stream at place done =
     g .axes - done
 
 -- src/axes.rt:28:5
 loop-holds : tie.Need-loop-holds Inv-loop μ-loop
-loop-holds c = let e : c .before .before .args .g .axes - 0 ≡ c .before .before .args .g .axes = omega arith in (omega arith, c .before .before .pre .1, rw e (c .before .before .pre .0 .2), rw e, refl)
+loop-holds c = let e : c .before .before .args .g .axes - 0 ≡ c .before .before .args .g .axes = omega arith in (omega arith, c .before .before .pre .1, rw e (c .before .before .pre .0 .2), rw e, refl, refl)
 
 -- src/axes.rt:29:20
 mul-held : tie.Need-mul-held Inv-loop μ-loop
@@ -110,11 +110,11 @@ add-place c = let n = next (c .before .before .before .before .before .before .b
 add-place-2 : tie.Need-add-place-2 Inv-loop μ-loop
 add-place-2 c = let n = next (c .before .before .before .before .before .before .before .before .before .before .before .before .before .before .before .args .g .most) (c .before .before .before .before .before .before .before .before .before .before .before .before .before .before .before .args .reals .now) (c .before .before .before .before .before .before .before .before .before .before .before .before .before .before .before .args .counts .now) (c .before .before .before .before .before .before .before .before .before .before .before .before .before .before .before .args .g .axes) (c .before .before .before .before .before .before .before .before .before .before .before .before .loop .done) (c .before .before .before .before .before .before .before .before .before .before .before .before .loop .at) (c .before .before .before .before .before .before .before .before .before .before .before .before .loop .place) (c .before .before .before .before .before .before .before .before .before .before .if1 .taken) (c .before .before .before .before .before .before .before .before .before .before .before .before .loop .inv .2) in omega (arith, c .before .before .before .before .before .before .before .before .before .before .before .before .before .before .before .good .1 .0, c .before .before .before .before .before .before .before .before .before .before .before .before .before .before .before .pre .0 .1)
 
-mul-near : tie.Need-mul-near Inv-loop μ-loop
-mul-near c = omega (arith, c .before .before .before .before .before .before .before .before .before .before .before .before .before .before .before .pre .0 .0, c .before .before .before .before .before .before .before .before .before .before .if1 .taken)
+mul-spots : tie.Need-mul-spots Inv-loop μ-loop
+mul-spots c = omega (arith, c .before .before .before .before .before .before .before .before .before .before .before .before .before .before .before .pre .0 .0, c .before .before .before .before .before .before .before .before .before .before .if1 .taken)
 
-element-write-near : tie.Need-element-write-near Inv-loop μ-loop
-element-write-near c = omega (arith, c .before .before .before .before .before .before .before .before .before .before .before .before .before .before .before .pre .0 .0, c .before .before .before .before .before .before .before .before .before .before .if1 .taken)
+element-write-spots : tie.Need-element-write-spots Inv-loop μ-loop
+element-write-spots c = omega (arith, c .before .before .before .before .before .before .before .before .before .before .before .before .before .before .before .pre .0 .0, c .before .before .before .before .before .before .before .before .before .before .if1 .taken)
 
 add-done : tie.Need-add-done Inv-loop μ-loop
 add-done c = omega (arith, c .before .before .before .before .before .before .before .before .before .before .before .before .before .before .before .pre .0 .0, c .before .before .before .before .before .before .before .before .before .before .if1 .taken)
@@ -129,14 +129,17 @@ loop-again c = let n = next (c .before .before .before .before .before .before .
   n .rest,
   drawn-on (c .before .before .before .before .before .before .before .before .before .before .before .before .before .before .before .args .g .most) (c .before .before .before .before .before .before .before .before .before .before .before .before .before .before .before .args .reals .now) (c .before .before .before .before .before .before .before .before .before .before .before .before .before .before .before .args .counts .now) (c .before .before .before .before .before .before .before .before .before .before .before .before .before .before .before .args .evenly) (c .before .before .before .before .before .before .before .before .before .before .before .before .before .before .before .args .g .axes) (c .before .before .before .before .before .before .before .before .before .before .before .before .loop .done) (c .before .before .before .before .before .before .before .before .before .before .before .before .loop .at) (c .before .before .before .before .before .before .before .before .before .before .before .before .loop .place) (c .before .before .before .before .before .before .before .before .before .before .before .before .loop .coordinates) (c .before .before .before .before .before .before .before .before .before .before .before .before .loop .weight) (c .before .before .before .before .before .before .before .before .before .before .before .before .loop .stream) (c .before .before .before .before .before .before .before .before .next-u64 .result) (c .before .before .before .before .before .before .before .unit-of .result) (c .before .before .before .before .place-on .result .point) (c .before .before .before .before .before .before .before .before .before .before .if1 .taken) (omega (arith, c .before .before .before .before .before .before .before .before .before .before .before .before .before .before .before .pre .0 .0, c .before .before .before .before .before .before .before .before .before .before .before .before .loop .inv .1, c .before .before .before .before .before .before .before .before .before .before .if1 .taken)) (c .before .before .before .before .before .before .before .before .next-u64 .ensures) (c .before .before .before .before .before .before .before .unit-of .ensures) (c .before .before .before .before .place-on .ensures) ∙ c .before .before .before .before .before .before .before .before .before .before .before .before .loop .inv .3,
   kept-on (c .before .before .before .before .before .before .before .before .before .before .before .before .before .before .before .args .coordinates .now) (c .before .before .before .before .before .before .before .before .before .before .before .before .loop .coordinates) (c .before .before .before .before .before .before .before .before .before .before .before .before .loop .done) (c .before .before .before .before .place-on .result .point .at) (c .before .before .before .before .before .before .before .before .before .before .before .before .loop .inv .4),
+  simp length-set (c .before .before .before .before .before .before .before .before .before .before .before .before .loop .inv .5),
 )
 
 -- src/axes.rt:18:1
 returns : tie.Need-returns Inv-loop μ-loop
 returns c =
-    let same : c .before .before .loop .done ≡ (c .before .before .before .before .before .args .g .axes) = omega (arith, c .before .before .loop .inv .0, c .if1 .left) in
-    walk-made (c .before .before .before .before .before .args .coordinates .now) (c .before .before .loop .coordinates) (c .before .before .before .before .before .args .g .axes) (c .before .before .loop .done) (c .before .before .loop .weight) (c .before .before .loop .stream) _ same (c .before .before .before .before .before .pre .0 .0) (c .before .before .loop .inv .1) (c .before .before .before .before .before .pre .1) (c .before .before .loop .inv .4)
-    (sym (drawn-out (c .before .before .before .before .before .args .g .most) (c .before .before .before .before .before .args .reals .now) (c .before .before .before .before .before .args .counts .now) (c .before .before .before .before .before .args .evenly) (c .before .before .before .before .before .args .g .axes) (c .before .before .loop .done) (c .before .before .loop .at) (c .before .before .loop .place) (c .before .before .loop .coordinates) (c .before .before .loop .weight) (c .before .before .loop .stream) (c .before .before .loop .inv .0) (c .if1 .left)) ∙ c .before .before .loop .inv .3)
+    let same : c .before .before .loop .done ≡ (c .before .before .before .before .before .args .g .axes) = omega (arith, c .before .before .loop .inv .0, c .if1 .left) in (
+      walk-made (c .before .before .before .before .before .args .coordinates .now) (c .before .before .loop .coordinates) (c .before .before .before .before .before .args .g .axes) (c .before .before .loop .done) (c .before .before .loop .weight) (c .before .before .loop .stream) _ same (c .before .before .before .before .before .pre .0 .0) (c .before .before .loop .inv .1) (c .before .before .before .before .before .pre .1) (c .before .before .loop .inv .4)
+          (sym (drawn-out (c .before .before .before .before .before .args .g .most) (c .before .before .before .before .before .args .reals .now) (c .before .before .before .before .before .args .counts .now) (c .before .before .before .before .before .args .evenly) (c .before .before .before .before .before .args .g .axes) (c .before .before .loop .done) (c .before .before .loop .at) (c .before .before .loop .place) (c .before .before .loop .coordinates) (c .before .before .loop .weight) (c .before .before .loop .stream) (c .before .before .loop .inv .0) (c .if1 .left)) ∙ c .before .before .loop .inv .3),
+      c .before .before .loop .inv .5,
+    )
 
 pub walk-axes-spec : {M : Type 1} → statement M
 walk-axes-spec =
@@ -165,8 +168,8 @@ walk-axes-spec =
     mul-place
     add-place
     add-place-2
-    mul-near
-    element-write-near
+    mul-spots
+    element-write-spots
     add-done
     loop-less
     loop-again

@@ -34,9 +34,9 @@ admit-requires c κs =
     let a = c .before .before .before .before .before .before .before .before .before .before .before .before .before .before .before .before .args in
     let drawn = c .before .before .before .before .before .before .draw-grid in
     let g = rootOf (a .table .now) (a .reals .now) (a .counts .now) in
-    let made = root-made (drawGrid g (a .start)) (drawn .result) (drawn .last .1 .1 .1 .1 .1 .1 .0) (drawn .last .1 .1 .1 .1 .1 .1 .1 .0) (drawn .last .1 .1 .1 .1 .1 .1 .1 .1 .0) (drawn .ensures) in
-    let form = ap (λ (d : Drawing). formOf g (d .sample)) made ∙ form-laid (a .table .now) (a .reals .now) (a .counts .now) (length (a .reals .now)) (length (a .counts .now)) (a .start) (state .laid) (state .well) (drawn .ensures .4) in
-    (state .laid, state .well, sym form)
+    let made = root-made (drawGrid g (a .start)) (drawn .result) (drawn .last .1 .1 .1 .1 .1 .1 .0) (drawn .last .1 .1 .1 .1 .1 .1 .1 .0) (drawn .last .1 .1 .1 .1 .1 .1 .1 .1 .0) (drawn .ensures .0) in
+    let form = ap (λ (d : Drawing). formOf g (d .sample)) made ∙ form-laid (a .table .now) (a .reals .now) (a .counts .now) (length (a .reals .now)) (length (a .counts .now)) (a .start) (state .laid) (state .well) (drawn .ensures .0 .4) in
+    (state .laid, state .well, sym form, drawn .ensures .1)
 
 -- src/batching.rt:62:9
 same-length : tie.Need-same-length
@@ -49,7 +49,7 @@ same-length-2 c = search needs
 -- src/batching.rt:62:9
 returns : tie.Need-returns
 returns c = ap (stepEnd (c .before .before .before .before .before .admit .result) (c .before .before .before .before .before .before .before .before .before .before .before .before .before .before .before .before .before .before .before .before .before .before .args .start)) (c .before .before .before .before .before .admit .ensures .1 ∙ admitted-none (c .before .before .before .before .before .admit .result) (c .before .before .before .before .before .before .before .before .before .before .before .before .before .before .before .before .before .before .before .before .before .before .args .table .now) (sampleIn (c .before .before .before .before .before .before .before .before .before .before .before .before .draw-grid .last .1 .1 .1 .1 .1 .1 .0) (c .before .before .before .before .before .before .before .before .before .before .before .before .draw-grid .result .levels) (c .before .before .before .before .before .before .before .before .before .before .before .before .draw-grid .last .1 .1 .1 .1 .1 .1 .1 .0) (c .before .before .before .before .before .before .before .before .before .before .before .before .draw-grid .result .given) (c .before .before .before .before .before .before .before .before .before .before .before .before .draw-grid .last .1 .1 .1 .1 .1 .1 .1 .1 .0) (c .before .before .before .before .before .before .before .before .before .before .before .before .draw-grid .result .axes)) (c .before .before .before .before .before .before .before .before .before .before .before .before .before .before .before .before .before .before .before .before .before .before .args .evaluation) (c .before .before .before .before .before .before .before .before .before .before .before .before .before .before .before .before .before .before .before .before .before .before .args .number) (memory (c .before .before .before .before .before .before .before .before .before .before .before .before .before .before .before .before .before .before .before .before .before .before .args .reals .now) (c .before .before .before .before .before .before .before .before .before .before .before .before .before .before .before .before .before .before .before .before .before .before .args .counts .now)) (c .if1 .taken))
-    ∙ step-objected (c .before .before .before .before .before .before .before .before .before .before .before .before .before .before .before .before .before .before .before .before .before .before .args .table .now) (memory (c .before .before .before .before .before .before .before .before .before .before .before .before .before .before .before .before .before .before .before .before .before .before .args .reals .now) (c .before .before .before .before .before .before .before .before .before .before .before .before .before .before .before .before .before .before .before .before .before .before .args .counts .now)) (c .before .before .before .before .before .before .before .before .before .before .before .before .before .before .before .before .before .before .before .before .before .before .args .start) (c .before .before .before .before .before .before .before .before .before .before .before .before .before .before .before .before .before .before .before .before .before .before .args .evaluation) (c .before .before .before .before .before .before .before .before .before .before .before .before .before .before .before .before .before .before .before .before .before .before .args .number) (c .before .before .before .before .before .before .before .before .before .before .before .before .before .before .before .before .before .before .before .before .before .before .pre) (record { sample = (sampleIn (c .before .before .before .before .before .before .before .before .before .before .before .before .draw-grid .last .1 .1 .1 .1 .1 .1 .0) (c .before .before .before .before .before .before .before .before .before .before .before .before .draw-grid .result .levels) (c .before .before .before .before .before .before .before .before .before .before .before .before .draw-grid .last .1 .1 .1 .1 .1 .1 .1 .0) (c .before .before .before .before .before .before .before .before .before .before .before .before .draw-grid .result .given) (c .before .before .before .before .before .before .before .before .before .before .before .before .draw-grid .last .1 .1 .1 .1 .1 .1 .1 .1 .0) (c .before .before .before .before .before .before .before .before .before .before .before .before .draw-grid .result .axes)); stream = c .before .before .before .before .before .before .before .before .before .before .before .before .draw-grid .result .stream }) (c .before .before .before .before .before .admit .result) (root-made (drawGrid (rootOf (c .before .before .before .before .before .before .before .before .before .before .before .before .before .before .before .before .before .before .before .before .before .before .args .table .now) (c .before .before .before .before .before .before .before .before .before .before .before .before .before .before .before .before .before .before .before .before .before .before .args .reals .now) (c .before .before .before .before .before .before .before .before .before .before .before .before .before .before .before .before .before .before .before .before .before .before .args .counts .now)) (c .before .before .before .before .before .before .before .before .before .before .before .before .before .before .before .before .before .before .before .before .before .before .args .start)) (c .before .before .before .before .before .before .before .before .before .before .before .before .draw-grid .result) (c .before .before .before .before .before .before .before .before .before .before .before .before .draw-grid .last .1 .1 .1 .1 .1 .1 .0) (c .before .before .before .before .before .before .before .before .before .before .before .before .draw-grid .last .1 .1 .1 .1 .1 .1 .1 .0) (c .before .before .before .before .before .before .before .before .before .before .before .before .draw-grid .last .1 .1 .1 .1 .1 .1 .1 .1 .0) (c .before .before .before .before .before .before .before .before .before .before .before .before .draw-grid .ensures)) (c .before .before .before .before .before .admit .ensures .0) (c .if1 .taken)
+    ∙ step-objected (c .before .before .before .before .before .before .before .before .before .before .before .before .before .before .before .before .before .before .before .before .before .before .args .table .now) (memory (c .before .before .before .before .before .before .before .before .before .before .before .before .before .before .before .before .before .before .before .before .before .before .args .reals .now) (c .before .before .before .before .before .before .before .before .before .before .before .before .before .before .before .before .before .before .before .before .before .before .args .counts .now)) (c .before .before .before .before .before .before .before .before .before .before .before .before .before .before .before .before .before .before .before .before .before .before .args .start) (c .before .before .before .before .before .before .before .before .before .before .before .before .before .before .before .before .before .before .before .before .before .before .args .evaluation) (c .before .before .before .before .before .before .before .before .before .before .before .before .before .before .before .before .before .before .before .before .before .before .args .number) (c .before .before .before .before .before .before .before .before .before .before .before .before .before .before .before .before .before .before .before .before .before .before .pre) (record { sample = (sampleIn (c .before .before .before .before .before .before .before .before .before .before .before .before .draw-grid .last .1 .1 .1 .1 .1 .1 .0) (c .before .before .before .before .before .before .before .before .before .before .before .before .draw-grid .result .levels) (c .before .before .before .before .before .before .before .before .before .before .before .before .draw-grid .last .1 .1 .1 .1 .1 .1 .1 .0) (c .before .before .before .before .before .before .before .before .before .before .before .before .draw-grid .result .given) (c .before .before .before .before .before .before .before .before .before .before .before .before .draw-grid .last .1 .1 .1 .1 .1 .1 .1 .1 .0) (c .before .before .before .before .before .before .before .before .before .before .before .before .draw-grid .result .axes)); stream = c .before .before .before .before .before .before .before .before .before .before .before .before .draw-grid .result .stream }) (c .before .before .before .before .before .admit .result) (root-made (drawGrid (rootOf (c .before .before .before .before .before .before .before .before .before .before .before .before .before .before .before .before .before .before .before .before .before .before .args .table .now) (c .before .before .before .before .before .before .before .before .before .before .before .before .before .before .before .before .before .before .before .before .before .before .args .reals .now) (c .before .before .before .before .before .before .before .before .before .before .before .before .before .before .before .before .before .before .before .before .before .before .args .counts .now)) (c .before .before .before .before .before .before .before .before .before .before .before .before .before .before .before .before .before .before .before .before .before .before .args .start)) (c .before .before .before .before .before .before .before .before .before .before .before .before .draw-grid .result) (c .before .before .before .before .before .before .before .before .before .before .before .before .draw-grid .last .1 .1 .1 .1 .1 .1 .0) (c .before .before .before .before .before .before .before .before .before .before .before .before .draw-grid .last .1 .1 .1 .1 .1 .1 .1 .0) (c .before .before .before .before .before .before .before .before .before .before .before .before .draw-grid .last .1 .1 .1 .1 .1 .1 .1 .1 .0) (c .before .before .before .before .before .before .before .before .before .before .before .before .draw-grid .ensures .0)) (c .before .before .before .before .before .admit .ensures .0) (c .if1 .taken)
 
 -- src/batching.rt:18:1
 same-length-3 : tie.Need-same-length-3
@@ -61,7 +61,7 @@ same-length-4 c = search needs
 
 -- src/batching.rt:18:1
 returns-2 : tie.Need-returns-2
-returns-2 c = step-done (c .before .before .before .before .before .before .before .before .before .before .before .before .before .before .before .before .before .before .before .before .before .before .before .args .table .now) (memory (c .before .before .before .before .before .before .before .before .before .before .before .before .before .before .before .before .before .before .before .before .before .before .before .args .reals .now) (c .before .before .before .before .before .before .before .before .before .before .before .before .before .before .before .before .before .before .before .before .before .before .before .args .counts .now)) (c .before .before .before .before .before .before .before .before .before .before .before .before .before .before .before .before .before .before .before .before .before .before .before .args .start) (c .before .before .before .before .before .before .before .before .before .before .before .before .before .before .before .before .before .before .before .before .before .before .before .args .evaluation) (c .before .before .before .before .before .before .before .before .before .before .before .before .before .before .before .before .before .before .before .before .before .before .before .args .number) (c .before .before .before .before .before .before .before .before .before .before .before .before .before .before .before .before .before .before .before .before .before .before .before .pre) (record { sample = (sampleIn (c .before .before .before .before .before .before .before .before .before .before .before .before .before .draw-grid .last .1 .1 .1 .1 .1 .1 .0) (c .before .before .before .before .before .before .before .before .before .before .before .before .before .draw-grid .result .levels) (c .before .before .before .before .before .before .before .before .before .before .before .before .before .draw-grid .last .1 .1 .1 .1 .1 .1 .1 .0) (c .before .before .before .before .before .before .before .before .before .before .before .before .before .draw-grid .result .given) (c .before .before .before .before .before .before .before .before .before .before .before .before .before .draw-grid .last .1 .1 .1 .1 .1 .1 .1 .1 .0) (c .before .before .before .before .before .before .before .before .before .before .before .before .before .draw-grid .result .axes)); stream = c .before .before .before .before .before .before .before .before .before .before .before .before .before .draw-grid .result .stream }) (c .before .before .before .before .before .before .admit .result) (memory (c .before .before .before .before .before .before .admit .last .1 .0) (c .before .before .before .before .before .before .admit .last .1 .1 .0)) (root-made (drawGrid (rootOf (c .before .before .before .before .before .before .before .before .before .before .before .before .before .before .before .before .before .before .before .before .before .before .before .args .table .now) (c .before .before .before .before .before .before .before .before .before .before .before .before .before .before .before .before .before .before .before .before .before .before .before .args .reals .now) (c .before .before .before .before .before .before .before .before .before .before .before .before .before .before .before .before .before .before .before .before .before .before .before .args .counts .now)) (c .before .before .before .before .before .before .before .before .before .before .before .before .before .before .before .before .before .before .before .before .before .before .before .args .start)) (c .before .before .before .before .before .before .before .before .before .before .before .before .before .draw-grid .result) (c .before .before .before .before .before .before .before .before .before .before .before .before .before .draw-grid .last .1 .1 .1 .1 .1 .1 .0) (c .before .before .before .before .before .before .before .before .before .before .before .before .before .draw-grid .last .1 .1 .1 .1 .1 .1 .1 .0) (c .before .before .before .before .before .before .before .before .before .before .before .before .before .draw-grid .last .1 .1 .1 .1 .1 .1 .1 .1 .0) (c .before .before .before .before .before .before .before .before .before .before .before .before .before .draw-grid .ensures)) (c .before .before .before .before .before .before .admit .ensures .0) (c .before .if1 .left) (c .before .before .before .before .before .before .admit .ensures .1 ∙ admitted-all (c .before .before .before .before .before .before .admit .result) (c .before .before .before .before .before .before .before .before .before .before .before .before .before .before .before .before .before .before .before .before .before .before .before .args .table .now) (sampleIn (c .before .before .before .before .before .before .before .before .before .before .before .before .before .draw-grid .last .1 .1 .1 .1 .1 .1 .0) (c .before .before .before .before .before .before .before .before .before .before .before .before .before .draw-grid .result .levels) (c .before .before .before .before .before .before .before .before .before .before .before .before .before .draw-grid .last .1 .1 .1 .1 .1 .1 .1 .0) (c .before .before .before .before .before .before .before .before .before .before .before .before .before .draw-grid .result .given) (c .before .before .before .before .before .before .before .before .before .before .before .before .before .draw-grid .last .1 .1 .1 .1 .1 .1 .1 .1 .0) (c .before .before .before .before .before .before .before .before .before .before .before .before .before .draw-grid .result .axes)) (c .before .before .before .before .before .before .before .before .before .before .before .before .before .before .before .before .before .before .before .before .before .before .before .args .evaluation) (c .before .before .before .before .before .before .before .before .before .before .before .before .before .before .before .before .before .before .before .before .before .before .before .args .number) (memory (c .before .before .before .before .before .before .before .before .before .before .before .before .before .before .before .before .before .before .before .before .before .before .before .args .reals .now) (c .before .before .before .before .before .before .before .before .before .before .before .before .before .before .before .before .before .before .before .before .before .before .before .args .counts .now)) (c .before .if1 .left))
+returns-2 c = step-done (c .before .before .before .before .before .before .before .before .before .before .before .before .before .before .before .before .before .before .before .before .before .before .before .args .table .now) (memory (c .before .before .before .before .before .before .before .before .before .before .before .before .before .before .before .before .before .before .before .before .before .before .before .args .reals .now) (c .before .before .before .before .before .before .before .before .before .before .before .before .before .before .before .before .before .before .before .before .before .before .before .args .counts .now)) (c .before .before .before .before .before .before .before .before .before .before .before .before .before .before .before .before .before .before .before .before .before .before .before .args .start) (c .before .before .before .before .before .before .before .before .before .before .before .before .before .before .before .before .before .before .before .before .before .before .before .args .evaluation) (c .before .before .before .before .before .before .before .before .before .before .before .before .before .before .before .before .before .before .before .before .before .before .before .args .number) (c .before .before .before .before .before .before .before .before .before .before .before .before .before .before .before .before .before .before .before .before .before .before .before .pre) (record { sample = (sampleIn (c .before .before .before .before .before .before .before .before .before .before .before .before .before .draw-grid .last .1 .1 .1 .1 .1 .1 .0) (c .before .before .before .before .before .before .before .before .before .before .before .before .before .draw-grid .result .levels) (c .before .before .before .before .before .before .before .before .before .before .before .before .before .draw-grid .last .1 .1 .1 .1 .1 .1 .1 .0) (c .before .before .before .before .before .before .before .before .before .before .before .before .before .draw-grid .result .given) (c .before .before .before .before .before .before .before .before .before .before .before .before .before .draw-grid .last .1 .1 .1 .1 .1 .1 .1 .1 .0) (c .before .before .before .before .before .before .before .before .before .before .before .before .before .draw-grid .result .axes)); stream = c .before .before .before .before .before .before .before .before .before .before .before .before .before .draw-grid .result .stream }) (c .before .before .before .before .before .before .admit .result) (memory (c .before .before .before .before .before .before .admit .last .1 .0) (c .before .before .before .before .before .before .admit .last .1 .1 .0)) (root-made (drawGrid (rootOf (c .before .before .before .before .before .before .before .before .before .before .before .before .before .before .before .before .before .before .before .before .before .before .before .args .table .now) (c .before .before .before .before .before .before .before .before .before .before .before .before .before .before .before .before .before .before .before .before .before .before .before .args .reals .now) (c .before .before .before .before .before .before .before .before .before .before .before .before .before .before .before .before .before .before .before .before .before .before .before .args .counts .now)) (c .before .before .before .before .before .before .before .before .before .before .before .before .before .before .before .before .before .before .before .before .before .before .before .args .start)) (c .before .before .before .before .before .before .before .before .before .before .before .before .before .draw-grid .result) (c .before .before .before .before .before .before .before .before .before .before .before .before .before .draw-grid .last .1 .1 .1 .1 .1 .1 .0) (c .before .before .before .before .before .before .before .before .before .before .before .before .before .draw-grid .last .1 .1 .1 .1 .1 .1 .1 .0) (c .before .before .before .before .before .before .before .before .before .before .before .before .before .draw-grid .last .1 .1 .1 .1 .1 .1 .1 .1 .0) (c .before .before .before .before .before .before .before .before .before .before .before .before .before .draw-grid .ensures .0)) (c .before .before .before .before .before .before .admit .ensures .0) (c .before .if1 .left) (c .before .before .before .before .before .before .admit .ensures .1 ∙ admitted-all (c .before .before .before .before .before .before .admit .result) (c .before .before .before .before .before .before .before .before .before .before .before .before .before .before .before .before .before .before .before .before .before .before .before .args .table .now) (sampleIn (c .before .before .before .before .before .before .before .before .before .before .before .before .before .draw-grid .last .1 .1 .1 .1 .1 .1 .0) (c .before .before .before .before .before .before .before .before .before .before .before .before .before .draw-grid .result .levels) (c .before .before .before .before .before .before .before .before .before .before .before .before .before .draw-grid .last .1 .1 .1 .1 .1 .1 .1 .0) (c .before .before .before .before .before .before .before .before .before .before .before .before .before .draw-grid .result .given) (c .before .before .before .before .before .before .before .before .before .before .before .before .before .draw-grid .last .1 .1 .1 .1 .1 .1 .1 .1 .0) (c .before .before .before .before .before .before .before .before .before .before .before .before .before .draw-grid .result .axes)) (c .before .before .before .before .before .before .before .before .before .before .before .before .before .before .before .before .before .before .before .before .before .before .before .args .evaluation) (c .before .before .before .before .before .before .before .before .before .before .before .before .before .before .before .before .before .before .before .before .before .before .before .args .number) (memory (c .before .before .before .before .before .before .before .before .before .before .before .before .before .before .before .before .before .before .before .before .before .before .before .args .reals .now) (c .before .before .before .before .before .before .before .before .before .before .before .before .before .before .before .before .before .before .before .before .before .before .before .args .counts .now)) (c .before .if1 .left))
 
 pub step-spec : {M : Type 1} → statement M
 step-spec =

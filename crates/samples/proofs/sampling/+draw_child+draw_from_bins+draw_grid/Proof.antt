@@ -76,7 +76,7 @@ draw-child-returns :
     (draw-grid-below t, draw-grid.Post)
     (draw-child-at t)
     draw-child.Post
-draw-child-returns t c = nothing-made (c .before .before .before .before .args .level) (c .before .before .before .before .args .depth) (c .before .before .before .before .args .start) _ (c .before .before .before .before .args .path .now) (c .before .before .before .before .args .weights .now) (c .before .before .before .before .args .coordinates .now) (sym (child-none (gridAt (c .before .before .before .before .args .level) (c .before .before .before .before .args .table .now) (c .before .before .before .before .args .reals .now) (c .before .before .before .before .args .counts .now)) (c .before .before .before .before .args .link) (c .before .before .before .before .args .start) (c .if1 .taken)))
+draw-child-returns t c = (nothing-made (c .before .before .before .before .args .level) (c .before .before .before .before .args .depth) (c .before .before .before .before .args .start) _ (c .before .before .before .before .args .path .now) (c .before .before .before .before .args .weights .now) (c .before .before .before .before .args .coordinates .now) (sym (child-none (gridAt (c .before .before .before .before .args .level) (c .before .before .before .before .args .table .now) (c .before .before .before .before .args .reals .now) (c .before .before .before .before .args .counts .now)) (c .before .before .before .before .args .link) (c .before .before .before .before .args .start) (c .if1 .taken))), refl)
 
 -- src/sampling.rt:118:5
 draw-child-draw-grid-requires : (t : ℕ) → draw-child-lts.Need-draw-grid-requires (
@@ -93,7 +93,7 @@ draw-child-returns-2 :
     (draw-grid-below t, draw-grid.Post)
     (draw-child-at t)
     draw-child.Post
-draw-child-returns-2 t c = subst (λ (d : Drawing). Traces (c .before .before .before .before .before .before .before .before .before .args .level) (c .before .before .before .before .before .before .before .before .before .args .depth) d (c .draw-grid .result) (c .before .before .before .before .before .before .before .before .before .args .path .now) (c .draw-grid .last .1 .1 .1 .1 .1 .1 .0) (c .before .before .before .before .before .before .before .before .before .args .weights .now) (c .draw-grid .last .1 .1 .1 .1 .1 .1 .1 .0) (c .before .before .before .before .before .before .before .before .before .args .coordinates .now) (c .draw-grid .last .1 .1 .1 .1 .1 .1 .1 .1 .0)) (sym (child-is (gridAt (c .before .before .before .before .before .before .before .before .before .args .level) (c .before .before .before .before .before .before .before .before .before .args .table .now) (c .before .before .before .before .before .before .before .before .before .args .reals .now) (c .before .before .before .before .before .before .before .before .before .args .counts .now)) (c .before .before .before .before .before .before .before .before .before .args .link) (c .before .before .before .before .before .before .before .before .before .args .start) (c .before .before .before .before .before .if1 .left))) (c .draw-grid .ensures)
+draw-child-returns-2 t c = (subst (λ (d : Drawing). Traces (c .before .before .before .before .before .before .before .before .before .args .level) (c .before .before .before .before .before .before .before .before .before .args .depth) d (c .draw-grid .result) (c .before .before .before .before .before .before .before .before .before .args .path .now) (c .draw-grid .last .1 .1 .1 .1 .1 .1 .0) (c .before .before .before .before .before .before .before .before .before .args .weights .now) (c .draw-grid .last .1 .1 .1 .1 .1 .1 .1 .0) (c .before .before .before .before .before .before .before .before .before .args .coordinates .now) (c .draw-grid .last .1 .1 .1 .1 .1 .1 .1 .1 .0)) (sym (child-is (gridAt (c .before .before .before .before .before .before .before .before .before .args .level) (c .before .before .before .before .before .before .before .before .before .args .table .now) (c .before .before .before .before .before .before .before .before .before .args .reals .now) (c .before .before .before .before .before .before .before .before .before .args .counts .now)) (c .before .before .before .before .before .before .before .before .before .args .link) (c .before .before .before .before .before .before .before .before .before .args .start) (c .before .before .before .before .before .if1 .left))) (c .draw-grid .ensures .0), c .draw-grid .ensures .1)
 
 -- src/sampling.rt:153:9
 draw-from-bins-unit-requires : (t : ℕ) → draw-from-bins-lts.Need-unit-requires (
@@ -472,7 +472,7 @@ draw-from-bins-returns : (t : ℕ) → draw-from-bins-lts.Need-returns (
   inv-reads.Asked,
   inv-reads.Learnt,
 ) (draw-from-bins-at t) draw-from-bins.Post
-draw-from-bins-returns t c = bins-made (gridAt (c .before .before .before .before .before .before .before .before .before .before .before .before .before .before .before .before .before .before .args .level) (c .before .before .before .before .before .before .before .before .before .before .before .before .before .before .before .before .before .before .args .table .now) (c .before .before .before .before .before .before .before .before .before .before .before .before .before .before .before .before .before .before .args .reals .now) (c .before .before .before .before .before .before .before .before .before .before .before .before .before .before .before .before .before .before .args .counts .now)) (c .before .before .before .before .before .before .before .before .before .before .before .before .before .before .before .before .before .before .args .table .now) (c .before .before .before .before .before .before .before .before .before .before .before .before .before .before .before .before .before .before .args .reals .now) (c .before .before .before .before .before .before .before .before .before .before .before .before .before .before .before .before .before .before .args .counts .now) (c .before .before .before .before .before .before .before .before .before .before .before .before .before .before .before .before .before .before .args .w) (headAt (c .before .before .before .before .before .before .before .before .before .before .before .before .before .before .before .before .before .before .args .table .now) (c .before .before .before .before .before .before .before .before .before .before .before .before .before .before .before .before .before .before .args .reals .now) (c .before .before .before .before .before .before .before .before .before .before .before .before .before .before .before .before .before .before .args .counts .now) (c .before .before .before .before .before .before .before .before .before .before .before .before .before .before .before .before .before .before .args .w)) (c .before .before .before .before .before .before .before .before .before .before .before .before .before .before .before .before .before .before .args .level) (c .before .before .before .before .before .before .before .before .before .before .before .before .before .before .before .before .before .before .args .depth) (c .before .before .before .before .before .before .before .before .before .before .before .before .before .before .before .before .before .before .args .start) (c .before .before .before .before .before .before .before .before .before .before .before .before .before .before .unit .result) (c .before .before .before .before .before .before .before .before .before .reach .result) (drawChild (childIn (gridAt (c .before .before .before .before .before .before .before .before .before .before .before .before .before .before .before .before .before .before .args .level) (c .before .before .before .before .before .before .before .before .before .before .before .before .before .before .before .before .before .before .args .table .now) (c .before .before .before .before .before .before .before .before .before .before .before .before .before .before .before .before .before .before .args .reals .now) (c .before .before .before .before .before .before .before .before .before .before .before .before .before .before .before .before .before .before .args .counts .now)) (getD (c .before .before .before .before .before .before .before .before .before .before .before .before .before .before .before .before .before .before .args .table .now) ((c .before .before .before .before .before .before .before .before .before .before .before .before .before .before .before .before .before .before .args .w) + 7 + (c .before .before .before .before .before .before .before .before .before .reach .result)) 0)) (c .before .before .before .before .before .before .before .before .before .before .before .before .before .before .unit .result .stream)) (c .before .before .draw-child .result) (c .before .inv .result) (c .before .before .before .before .before .before .before .before .before .before .before .before .before .before .before .before .before .before .args .path .now) (c .before .before .draw-child .last .1 .1 .1 .1 .1 .1 .0) (c .before .before .before .before .before .before .before .before .before .before .before .before .before .before .before .before .before .before .args .weights .now) (c .before .before .draw-child .last .1 .1 .1 .1 .1 .1 .1 .0) (c .before .before .before .before .before .before .before .before .before .before .before .before .before .before .before .before .before .before .args .coordinates .now) (c .before .before .draw-child .last .1 .1 .1 .1 .1 .1 .1 .1 .0) (omega (arith, (c .before .before .before .before .before .before .before .before .before .before .before .before .before .before .before .before .before .before .pre .1) .0)) (c .before .before .before .before .before .before .before .before .before .before .before .before .before .before .unit .ensures) (c .before .before .before .before .before .before .before .before .before .reach .ensures .0) (omega (arith, c .before .before .before .before .before .before .before .before .before .reach .ensures .1, (length-chances (getD (c .before .before .before .before .before .before .before .before .before .before .before .before .before .before .before .before .before .before .args .table .now) ((c .before .before .before .before .before .before .before .before .before .before .before .before .before .before .before .before .before .before .args .w) + 5) 0 + 14) (getD (c .before .before .before .before .before .before .before .before .before .before .before .before .before .before .before .before .before .before .args .table .now) ((c .before .before .before .before .before .before .before .before .before .before .before .before .before .before .before .before .before .before .args .w) + 2) 0) (c .before .before .before .before .before .before .before .before .before .before .before .before .before .before .before .before .before .before .args .reals .now) (omega (arith, (c .before .before .before .before .before .before .before .before .before .before .before .before .before .before .before .before .before .before .pre .1) .0))))) refl (c .before .before .draw-child .ensures) (c .before .inv .ensures)
+draw-from-bins-returns t c = (bins-made (gridAt (c .before .before .before .before .before .before .before .before .before .before .before .before .before .before .before .before .before .before .args .level) (c .before .before .before .before .before .before .before .before .before .before .before .before .before .before .before .before .before .before .args .table .now) (c .before .before .before .before .before .before .before .before .before .before .before .before .before .before .before .before .before .before .args .reals .now) (c .before .before .before .before .before .before .before .before .before .before .before .before .before .before .before .before .before .before .args .counts .now)) (c .before .before .before .before .before .before .before .before .before .before .before .before .before .before .before .before .before .before .args .table .now) (c .before .before .before .before .before .before .before .before .before .before .before .before .before .before .before .before .before .before .args .reals .now) (c .before .before .before .before .before .before .before .before .before .before .before .before .before .before .before .before .before .before .args .counts .now) (c .before .before .before .before .before .before .before .before .before .before .before .before .before .before .before .before .before .before .args .w) (headAt (c .before .before .before .before .before .before .before .before .before .before .before .before .before .before .before .before .before .before .args .table .now) (c .before .before .before .before .before .before .before .before .before .before .before .before .before .before .before .before .before .before .args .reals .now) (c .before .before .before .before .before .before .before .before .before .before .before .before .before .before .before .before .before .before .args .counts .now) (c .before .before .before .before .before .before .before .before .before .before .before .before .before .before .before .before .before .before .args .w)) (c .before .before .before .before .before .before .before .before .before .before .before .before .before .before .before .before .before .before .args .level) (c .before .before .before .before .before .before .before .before .before .before .before .before .before .before .before .before .before .before .args .depth) (c .before .before .before .before .before .before .before .before .before .before .before .before .before .before .before .before .before .before .args .start) (c .before .before .before .before .before .before .before .before .before .before .before .before .before .before .unit .result) (c .before .before .before .before .before .before .before .before .before .reach .result) (drawChild (childIn (gridAt (c .before .before .before .before .before .before .before .before .before .before .before .before .before .before .before .before .before .before .args .level) (c .before .before .before .before .before .before .before .before .before .before .before .before .before .before .before .before .before .before .args .table .now) (c .before .before .before .before .before .before .before .before .before .before .before .before .before .before .before .before .before .before .args .reals .now) (c .before .before .before .before .before .before .before .before .before .before .before .before .before .before .before .before .before .before .args .counts .now)) (getD (c .before .before .before .before .before .before .before .before .before .before .before .before .before .before .before .before .before .before .args .table .now) ((c .before .before .before .before .before .before .before .before .before .before .before .before .before .before .before .before .before .before .args .w) + 7 + (c .before .before .before .before .before .before .before .before .before .reach .result)) 0)) (c .before .before .before .before .before .before .before .before .before .before .before .before .before .before .unit .result .stream)) (c .before .before .draw-child .result) (c .before .inv .result) (c .before .before .before .before .before .before .before .before .before .before .before .before .before .before .before .before .before .before .args .path .now) (c .before .before .draw-child .last .1 .1 .1 .1 .1 .1 .0) (c .before .before .before .before .before .before .before .before .before .before .before .before .before .before .before .before .before .before .args .weights .now) (c .before .before .draw-child .last .1 .1 .1 .1 .1 .1 .1 .0) (c .before .before .before .before .before .before .before .before .before .before .before .before .before .before .before .before .before .before .args .coordinates .now) (c .before .before .draw-child .last .1 .1 .1 .1 .1 .1 .1 .1 .0) (omega (arith, (c .before .before .before .before .before .before .before .before .before .before .before .before .before .before .before .before .before .before .pre .1) .0)) (c .before .before .before .before .before .before .before .before .before .before .before .before .before .before .unit .ensures) (c .before .before .before .before .before .before .before .before .before .reach .ensures .0) (omega (arith, c .before .before .before .before .before .before .before .before .before .reach .ensures .1, (length-chances (getD (c .before .before .before .before .before .before .before .before .before .before .before .before .before .before .before .before .before .before .args .table .now) ((c .before .before .before .before .before .before .before .before .before .before .before .before .before .before .before .before .before .before .args .w) + 5) 0 + 14) (getD (c .before .before .before .before .before .before .before .before .before .before .before .before .before .before .before .before .before .before .args .table .now) ((c .before .before .before .before .before .before .before .before .before .before .before .before .before .before .before .before .before .before .args .w) + 2) 0) (c .before .before .before .before .before .before .before .before .before .before .before .before .before .before .before .before .before .before .args .reals .now) (omega (arith, (c .before .before .before .before .before .before .before .before .before .before .before .before .before .before .before .before .before .before .pre .1) .0))))) refl (c .before .before .draw-child .ensures .0) (c .before .inv .ensures), c .before .before .draw-child .ensures .1)
 
 -- src/sampling.rt:198:8
 draw-grid-mul-if1 : (t : ℕ) → draw-grid-lts.Need-mul-if1 (
@@ -509,7 +509,7 @@ draw-grid-returns : (t : ℕ) → draw-grid-lts.Need-returns (
   draw-from-bins.Post,
 ) (draw-grid-at t) draw-grid.Post
 unfolding drawGrid drawAxes
-draw-grid-returns t c = let q = shorter 0 (c .before .before .before .before .before .before .before .before .before .args .level) _ (omega arith) (c .draw-from-axes .ensures .3) in subst (λ (g : Grid). Traces (c .before .before .before .before .before .before .before .before .before .args .level) (c .before .before .before .before .before .before .before .before .before .args .depth) (drawGrid g (c .before .before .before .before .before .before .before .before .before .args .start)) (c .draw-from-axes .result) (c .before .before .before .before .before .before .before .before .before .args .path .now) (c .before .before .before .before .before .before .before .before .before .args .path .now) (c .before .before .before .before .before .before .before .before .before .args .weights .now) (c .draw-from-axes .last .1 .1 .1 .1 .1 .0) (c .before .before .before .before .before .before .before .before .before .args .coordinates .now) (c .draw-from-axes .last .1 .1 .1 .1 .1 .1 .0)) (sym (node-axes (c .before .before .before .before .before .before .before .before .before .args .level) (c .before .before .before .before .before .before .before .before .before .args .table .now) (c .before .before .before .before .before .before .before .before .before .args .reals .now) (c .before .before .before .before .before .before .before .before .before .args .counts .now) (c .before .before .before .before .before .before .before .before .before .args .w) (c .before .before .before .before .if1 .taken))) (c .draw-from-axes .ensures .0, refl, c .draw-from-axes .ensures .1, c .draw-from-axes .ensures .2, q)
+draw-grid-returns t c = let q = shorter 0 (c .before .before .before .before .before .before .before .before .before .args .level) _ (omega arith) (c .draw-from-axes .ensures .0 .3) in (subst (λ (g : Grid). Traces (c .before .before .before .before .before .before .before .before .before .args .level) (c .before .before .before .before .before .before .before .before .before .args .depth) (drawGrid g (c .before .before .before .before .before .before .before .before .before .args .start)) (c .draw-from-axes .result) (c .before .before .before .before .before .before .before .before .before .args .path .now) (c .before .before .before .before .before .before .before .before .before .args .path .now) (c .before .before .before .before .before .before .before .before .before .args .weights .now) (c .draw-from-axes .last .1 .1 .1 .1 .1 .0) (c .before .before .before .before .before .before .before .before .before .args .coordinates .now) (c .draw-from-axes .last .1 .1 .1 .1 .1 .1 .0)) (sym (node-axes (c .before .before .before .before .before .before .before .before .before .args .level) (c .before .before .before .before .before .before .before .before .before .args .table .now) (c .before .before .before .before .before .before .before .before .before .args .reals .now) (c .before .before .before .before .before .before .before .before .before .args .counts .now) (c .before .before .before .before .before .before .before .before .before .args .w) (c .before .before .before .before .if1 .taken))) (c .draw-from-axes .ensures .0 .0, refl, c .draw-from-axes .ensures .0 .1, c .draw-from-axes .ensures .0 .2, q), c .draw-from-axes .ensures .1)
 
 -- src/sampling.rt:215:9
 draw-grid-sub-draw-from-bins : (t : ℕ) → draw-grid-lts.Need-sub-draw-from-bins (
@@ -536,7 +536,7 @@ draw-grid-returns-2 : (t : ℕ) → draw-grid-lts.Need-returns-2 (
   draw-from-bins-below t,
   draw-from-bins.Post,
 ) (draw-grid-at t) draw-grid.Post
-draw-grid-returns-2 t c = let d = laid-bins (c .before .before .before .before .before .before .before .before .before .before .args .level) (c .before .before .before .before .before .before .before .before .before .before .args .table .now) (length (c .before .before .before .before .before .before .before .before .before .before .args .reals .now)) (length (c .before .before .before .before .before .before .before .before .before .before .args .counts .now)) (c .before .before .before .before .before .before .before .before .before .before .args .w) ((c .before .before .before .before .before .before .before .before .before .before .pre .1) .0) (c .before .before .before .before .before .if1 .left) in let e : (c .before .before .before .before .before .before .before .before .before .before .args .level) - 1 + 1 ≡ (c .before .before .before .before .before .before .before .before .before .before .args .level) = omega (arith, d .level) in subst (λ (g : Grid). Traces (c .before .before .before .before .before .before .before .before .before .before .args .level) (c .before .before .before .before .before .before .before .before .before .before .args .depth) (drawGrid g (c .before .before .before .before .before .before .before .before .before .before .args .start)) (c .draw-from-bins .result) (c .before .before .before .before .before .before .before .before .before .before .args .path .now) (c .draw-from-bins .last .1 .1 .1 .1 .1 .1 .0) (c .before .before .before .before .before .before .before .before .before .before .args .weights .now) (c .draw-from-bins .last .1 .1 .1 .1 .1 .1 .1 .0) (c .before .before .before .before .before .before .before .before .before .before .args .coordinates .now) (c .draw-from-bins .last .1 .1 .1 .1 .1 .1 .1 .1 .0)) (sym (node-bins (c .before .before .before .before .before .before .before .before .before .before .args .level) (c .before .before .before .before .before .before .before .before .before .before .args .table .now) (c .before .before .before .before .before .before .before .before .before .before .args .reals .now) (c .before .before .before .before .before .before .before .before .before .before .args .counts .now) (c .before .before .before .before .before .before .before .before .before .before .args .w) (c .before .before .before .before .before .if1 .left) (d .level))) (subst (λ (k : ℕ). Traces k (c .before .before .before .before .before .before .before .before .before .before .args .depth) (drawGrid (bins (headAt (c .before .before .before .before .before .before .before .before .before .before .args .table .now) (c .before .before .before .before .before .before .before .before .before .before .args .reals .now) (c .before .before .before .before .before .before .before .before .before .before .args .counts .now) (c .before .before .before .before .before .before .before .before .before .before .args .w)) (binsIn (gridAt ((c .before .before .before .before .before .before .before .before .before .before .args .level) - 1) (c .before .before .before .before .before .before .before .before .before .before .args .table .now) (c .before .before .before .before .before .before .before .before .before .before .args .reals .now) (c .before .before .before .before .before .before .before .before .before .before .args .counts .now)) (c .before .before .before .before .before .before .before .before .before .before .args .table .now) (c .before .before .before .before .before .before .before .before .before .before .args .reals .now) (c .before .before .before .before .before .before .before .before .before .before .args .counts .now) (c .before .before .before .before .before .before .before .before .before .before .args .w) 0 (getD (c .before .before .before .before .before .before .before .before .before .before .args .table .now) ((c .before .before .before .before .before .before .before .before .before .before .args .w) + 2) 0))) (c .before .before .before .before .before .before .before .before .before .before .args .start)) (c .draw-from-bins .result) (c .before .before .before .before .before .before .before .before .before .before .args .path .now) (c .draw-from-bins .last .1 .1 .1 .1 .1 .1 .0) (c .before .before .before .before .before .before .before .before .before .before .args .weights .now) (c .draw-from-bins .last .1 .1 .1 .1 .1 .1 .1 .0) (c .before .before .before .before .before .before .before .before .before .before .args .coordinates .now) (c .draw-from-bins .last .1 .1 .1 .1 .1 .1 .1 .1 .0)) e (c .draw-from-bins .ensures))
+draw-grid-returns-2 t c = let d = laid-bins (c .before .before .before .before .before .before .before .before .before .before .args .level) (c .before .before .before .before .before .before .before .before .before .before .args .table .now) (length (c .before .before .before .before .before .before .before .before .before .before .args .reals .now)) (length (c .before .before .before .before .before .before .before .before .before .before .args .counts .now)) (c .before .before .before .before .before .before .before .before .before .before .args .w) ((c .before .before .before .before .before .before .before .before .before .before .pre .1) .0) (c .before .before .before .before .before .if1 .left) in let e : (c .before .before .before .before .before .before .before .before .before .before .args .level) - 1 + 1 ≡ (c .before .before .before .before .before .before .before .before .before .before .args .level) = omega (arith, d .level) in (subst (λ (g : Grid). Traces (c .before .before .before .before .before .before .before .before .before .before .args .level) (c .before .before .before .before .before .before .before .before .before .before .args .depth) (drawGrid g (c .before .before .before .before .before .before .before .before .before .before .args .start)) (c .draw-from-bins .result) (c .before .before .before .before .before .before .before .before .before .before .args .path .now) (c .draw-from-bins .last .1 .1 .1 .1 .1 .1 .0) (c .before .before .before .before .before .before .before .before .before .before .args .weights .now) (c .draw-from-bins .last .1 .1 .1 .1 .1 .1 .1 .0) (c .before .before .before .before .before .before .before .before .before .before .args .coordinates .now) (c .draw-from-bins .last .1 .1 .1 .1 .1 .1 .1 .1 .0)) (sym (node-bins (c .before .before .before .before .before .before .before .before .before .before .args .level) (c .before .before .before .before .before .before .before .before .before .before .args .table .now) (c .before .before .before .before .before .before .before .before .before .before .args .reals .now) (c .before .before .before .before .before .before .before .before .before .before .args .counts .now) (c .before .before .before .before .before .before .before .before .before .before .args .w) (c .before .before .before .before .before .if1 .left) (d .level))) (subst (λ (k : ℕ). Traces k (c .before .before .before .before .before .before .before .before .before .before .args .depth) (drawGrid (bins (headAt (c .before .before .before .before .before .before .before .before .before .before .args .table .now) (c .before .before .before .before .before .before .before .before .before .before .args .reals .now) (c .before .before .before .before .before .before .before .before .before .before .args .counts .now) (c .before .before .before .before .before .before .before .before .before .before .args .w)) (binsIn (gridAt ((c .before .before .before .before .before .before .before .before .before .before .args .level) - 1) (c .before .before .before .before .before .before .before .before .before .before .args .table .now) (c .before .before .before .before .before .before .before .before .before .before .args .reals .now) (c .before .before .before .before .before .before .before .before .before .before .args .counts .now)) (c .before .before .before .before .before .before .before .before .before .before .args .table .now) (c .before .before .before .before .before .before .before .before .before .before .args .reals .now) (c .before .before .before .before .before .before .before .before .before .before .args .counts .now) (c .before .before .before .before .before .before .before .before .before .before .args .w) 0 (getD (c .before .before .before .before .before .before .before .before .before .before .args .table .now) ((c .before .before .before .before .before .before .before .before .before .before .args .w) + 2) 0))) (c .before .before .before .before .before .before .before .before .before .before .args .start)) (c .draw-from-bins .result) (c .before .before .before .before .before .before .before .before .before .before .args .path .now) (c .draw-from-bins .last .1 .1 .1 .1 .1 .1 .0) (c .before .before .before .before .before .before .before .before .before .before .args .weights .now) (c .draw-from-bins .last .1 .1 .1 .1 .1 .1 .1 .0) (c .before .before .before .before .before .before .before .before .before .before .args .coordinates .now) (c .draw-from-bins .last .1 .1 .1 .1 .1 .1 .1 .1 .0)) e (c .draw-from-bins .ensures .0)), c .draw-from-bins .ensures .1)
 
 pub +draw-child+draw-from-bins+draw-grid-spec : {M : Type 1} → statement M
 +draw-child+draw-from-bins+draw-grid-spec =

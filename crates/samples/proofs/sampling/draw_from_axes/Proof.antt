@@ -34,7 +34,7 @@ add-t15 c = search needs
 -- src/sampling.rt:63:1
 returns : tie.Need-returns
 returns c = let s = subst (λ (g : AxesAt). Stands (c .before .before .before .before .before .before .before .before .args .reals .now) (c .before .before .before .before .before .before .before .before .args .counts .now) g) (sym (placed (c .before .before .before .before .before .before .before .before .args .table .now) (c .before .before .before .before .before .before .before .before .args .w) (c .before .before .before .before .axes-place .ensures) (search needs))) (sound-stands (c .before .before .before .before .before .before .before .before .args .table .now) (c .before .before .before .before .before .before .before .before .args .reals .now) (c .before .before .before .before .before .before .before .before .args .counts .now) (c .before .before .before .before .before .before .before .before .args .w) (c .before .before .before .before .before .before .before .before .pre .0) (c .before .before .before .before .before .before .before .before .pre .1)) in
-    axes-made (c .before .before .before .before .before .before .before .before .args .table .now) (c .before .before .before .before .before .before .before .before .args .reals .now) (c .before .before .before .before .before .before .before .before .args .counts .now) (c .before .before .before .before .before .before .before .before .args .w) (c .before .before .before .before .before .before .before .before .args .depth) (c .before .before .before .before .before .before .before .before .args .start) (c .before .draw-axes .result) (c .before .before .before .before .axes-place .result) (c .before .before .before .before .before .before .before .before .args .weights .now) (c .before .before .before .before .before .before .before .before .args .coordinates .now) (c .before .draw-axes .last .1 .1 .1 .1 .0) (placed (c .before .before .before .before .before .before .before .before .args .table .now) (c .before .before .before .before .before .before .before .before .args .w) (c .before .before .before .before .axes-place .ensures) (search needs)) (s .0) (c .before .draw-axes .ensures)
+    (axes-made (c .before .before .before .before .before .before .before .before .args .table .now) (c .before .before .before .before .before .before .before .before .args .reals .now) (c .before .before .before .before .before .before .before .before .args .counts .now) (c .before .before .before .before .before .before .before .before .args .w) (c .before .before .before .before .before .before .before .before .args .depth) (c .before .before .before .before .before .before .before .before .args .start) (c .before .draw-axes .result) (c .before .before .before .before .axes-place .result) (c .before .before .before .before .before .before .before .before .args .weights .now) (c .before .before .before .before .before .before .before .before .args .coordinates .now) (c .before .draw-axes .last .1 .1 .1 .1 .0) (placed (c .before .before .before .before .before .before .before .before .args .table .now) (c .before .before .before .before .before .before .before .before .args .w) (c .before .before .before .before .axes-place .ensures) (search needs)) (s .0) (c .before .draw-axes .ensures .0), c .before .draw-axes .ensures .1)
 
 pub draw-from-axes-spec : {M : Type 1} → statement M
 draw-from-axes-spec =

@@ -14,7 +14,7 @@ draw-grid-requires c κs = search needs
 
 -- src/sampling.rt:227:1
 returns : tie.Need-returns
-returns c = root-made (drawGrid (gridAt 4 (c .before .before .before .before .before .before .before .before .before .args .table .now) (c .before .before .before .before .before .before .before .before .before .args .reals .now) (c .before .before .before .before .before .before .before .before .before .args .counts .now) 0) (c .before .before .before .before .before .before .before .before .before .args .start)) (c .before .draw-grid .result) (c .before .draw-grid .last .1 .1 .1 .1 .1 .1 .0) (c .before .draw-grid .last .1 .1 .1 .1 .1 .1 .1 .0) (c .before .draw-grid .last .1 .1 .1 .1 .1 .1 .1 .1 .0) (c .before .draw-grid .ensures)
+returns c = root-made (drawGrid (gridAt 4 (c .before .before .before .before .before .before .before .before .before .args .table .now) (c .before .before .before .before .before .before .before .before .before .args .reals .now) (c .before .before .before .before .before .before .before .before .before .args .counts .now) 0) (c .before .before .before .before .before .before .before .before .before .args .start)) (c .before .draw-grid .result) (c .before .draw-grid .last .1 .1 .1 .1 .1 .1 .0) (c .before .draw-grid .last .1 .1 .1 .1 .1 .1 .1 .0) (c .before .draw-grid .last .1 .1 .1 .1 .1 .1 .1 .1 .0) (c .before .draw-grid .ensures .0)
 
 pub draw-root-spec : {M : Type 1} → statement M
 draw-root-spec = tie.close (tie.spec draw-grid-requires returns)

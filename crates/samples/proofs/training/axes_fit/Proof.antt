@@ -18,7 +18,7 @@ use Rattle.samples.proofs.training.bin_near.Reads as bin-near-reads
 use Rattle.samples.proofs.training.cell_fits.Reads as cell-fits-reads
 
 abbrev Inv-loop : tie.InvT-loop
-Inv-loop reals counts g xs near v spots₀ ok₀ at₀ place₀ done₀ spots ok at place done =
+Inv-loop reals counts g xs v spots₀ ok₀ at₀ place₀ done₀ spots ok at place done =
     (done ≤ g .axes) × Left (g .most) (g .axes) xs done at place (memory reals counts)
     × ((ok && cellsFit (g .most) v (spotsLeft (g .most) (g .axes) xs done at place (memory reals counts)) at place (memory reals counts))
     ≡ cellsFit (g .most) v (spotsLeft (g .most) (g .axes) xs 0 (g .reals) (g .counts) (memory reals counts)) (g .reals) (g .counts) (memory reals counts))
@@ -26,7 +26,7 @@ Inv-loop reals counts g xs near v spots₀ ok₀ at₀ place₀ done₀ spots ok
     × (take done spots ++ spotsLeft (g .most) (g .axes) xs done at place (memory reals counts) ≡ spotsLeft (g .most) (g .axes) xs 0 (g .reals) (g .counts) (memory reals counts))
 
 abbrev μ-loop : tie.MeasureT-loop
-μ-loop reals counts g xs near v spots₀ ok₀ at₀ place₀ done₀ spots ok at place done = g .axes - done
+μ-loop reals counts g xs v spots₀ ok₀ at₀ place₀ done₀ spots ok at place done = g .axes - done
 
 loop-holds : tie.Need-loop-holds Inv-loop μ-loop
 loop-holds c =
