@@ -1,11 +1,15 @@
 -- A record whose counts are within their bound, count by count.
 use mathlib.Core.Path.{_≡_}
 use mathlib.Core.Bool.{Bool, true, false, cond, _&&_}
-use Prim.Native.Nat.{ℕ, _^_, _≤_}
+use Prim.Native.Nat.{ℕ, _+_, _^_, _≤_}
 use native.Mathlib.Omega.{arith}
 use borrow.Author.Tests.{leb-true}
-use lib.Ieee.{Float, eq}
+use lib.IntN.{pos}
+use lib.Dec.{T, le→leb}
+use lib.Ieee.{Float, binary64, inFloat, add, eq}
+use Rattle.doubles.specs.Count.{countOf}
 use Rattle.doubles.specs.Numbers.{zero64}
+use Rattle.doubles.proofs.Wholes.{count-add}
 use Rattle.doubles.proofs.Truth.{both}
 use Rattle.accumulator.specs.declared.StatisticsAccumulator.{StatisticsAccumulator}
 use Rattle.accumulator.specs.Record.{bounded, boundedCounts, finiteSums, wellFormed}
@@ -36,6 +40,16 @@ within a e =
       processed = bound (a .«processed_samples») (q .1);
       zeros = bound (a .«num_zero_evaluations») (p .1);
     }
+
+-- such a count is a double as it stands
+pub exact : (n : ℕ) → n ≤ 2 ^ 53 → T (inFloat binary64 (pos n))
+unfolding inFloat
+exact n h = le→leb n (2 ^ 53) h
+
+-- and the doubles of the processed and the waiting samples add up to that of all samples
+pub all-count : (a : StatisticsAccumulator) → boundedCounts a ≡ true
+    → add binary64 (countOf (a .«processed_samples»)) (countOf (a .«new_samples»)) ≡ countOf (a .«processed_samples» + a .«new_samples»)
+all-count a e = let w = within a e in count-add (a .«processed_samples») (a .«new_samples») (w .processed) (w .waiting)
 
 -- a well-formed record has its counts within their bound
 pub counts-of : (a : StatisticsAccumulator) → wellFormed a ≡ true → boundedCounts a ≡ true

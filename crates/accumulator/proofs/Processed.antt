@@ -47,7 +47,7 @@ module _ (weighted : Bool) (a g s : StatisticsAccumulator) (f : Figures) (n all 
         «max_eval_negative» = s .«max_eval_negative»;
       }
 
-  pub steps-are : g ≡ gatheredOf a → n ≡ countOf (a .«new_samples») → all ≡ countOf (g .«processed_samples»)
+  pub steps-are : g ≡ gatheredOf a → n ≡ countOf (a .«new_samples») → all ≡ countOf (a .«processed_samples» + a .«new_samples»)
       → f ≡ figuresOf (a .sum) (a .«sum_sq») n (g .«total_sum») (g .«total_sum_sq») all
       → s ≡ settledOf g f (eqb (a .«cur_iter») 0) → sigma ≡ invOf (s .«weight_sum»)
       → av ≡ cond weighted (mul binary64 sigma (s .«avg_sum»)) (f .avg) → t ≡ cond weighted sigma (f .spread) → er ≡ rootOf t

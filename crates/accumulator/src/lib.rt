@@ -255,7 +255,7 @@ fn sample_refusal(a: StatisticsAccumulator, eval: f64, number: u64) -> u64
     if 9007199254740992 < number {
         return 3;
     }
-    if !real::finite(eval) {
+    if !plain::finite(eval) {
         return 7;
     }
     8

@@ -132,7 +132,7 @@ fn weight(variance: f64) -> f64
     if variance == 0.0 {
         return 18446744073709551616.0;
     }
-    real::inv(variance)
+    plain::inv(variance)
 }
 
 // The figures of an iteration's n samples and of all samples. The two roots are taken together; and since two functions
@@ -142,7 +142,7 @@ fn figures_of(sum: f64, sum_sq: f64, n: f64, total: f64, total_sq: f64, all: f64
 {
     let mean = sum / n;
     let avg = total / all;
-    let roots = real::sqrts(sum_sq / n, total_sq / all);
+    let roots = root::sqrts(sum_sq / n, total_sq / all);
     Figures {
         mean: mean,
         weight: weight(variance(mean, roots.first, n)),
@@ -185,14 +185,14 @@ fn processed(weighted: bool, a: StatisticsAccumulator) -> StatisticsAccumulator
     ensures { λ r. ⌜ r ≡ processedOf weighted a ⌝ }
 {
     let g = gathered(a);
-    let n = real::count(a.new_samples);
-    let all = real::count(g.processed_samples);
+    let n = a.new_samples as f64;
+    let all = (a.processed_samples as f64) + n;
     let f = figures_of(a.sum, a.sum_sq, n, g.total_sum, g.total_sum_sq, all);
     let mut r = settled(g, f, a.cur_iter == 0);
-    let sigma = real::inv(r.weight_sum);
+    let sigma = plain::inv(r.weight_sum);
     let weighted_avg = sigma * r.avg_sum;
     r.avg = either(weighted, weighted_avg, f.avg);
-    r.err = real::sqrt(either(weighted, sigma, f.spread));
+    r.err = root::sqrt(either(weighted, sigma, f.spread));
     r.chi_sq = r.chi_sq_sum - weighted_avg * r.chi_sum;
     r
 }
@@ -235,16 +235,16 @@ pub fn live(a: StatisticsAccumulator) -> Estimate
             chi_sq: a.chi_sq,
         };
     }
-    let n = real::count(a.new_samples);
-    let all = real::count(a.processed_samples + a.new_samples);
+    let n = a.new_samples as f64;
+    let all = (a.processed_samples as f64) + n;
     let total = a.total_sum + a.sum;
     let total_sq = a.total_sum_sq + a.sum_sq;
     let f = figures_of(a.sum, a.sum_sq, n, total, total_sq, all);
     let r = settled(a, f, a.cur_iter == 0);
-    let weighted_avg = real::inv(r.weight_sum) * r.avg_sum;
+    let weighted_avg = plain::inv(r.weight_sum) * r.avg_sum;
     Estimate {
         avg: f.avg,
-        err: real::sqrt(f.spread),
+        err: root::sqrt(f.spread),
         chi_sq: r.chi_sq_sum - weighted_avg * r.chi_sum,
     }
 }

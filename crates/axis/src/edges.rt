@@ -67,20 +67,20 @@ fn width(edges: &[f64], i: usize) -> f64
 pub fn weight_of(edges: &[f64], i: usize) -> f64
     ensures { λ r. ⌜ r ≡ weightOf (now (edges .entry)) i ⌝ }
 {
-    real::count(bins(edges) as u64) * width(edges, i)
+    plain::count(bins(edges) as u64) * width(edges, i)
 }
 
 // The point that the unit draw r gives, with its weight and the bin that it falls to.
 pub fn spot_of(edges: &[f64], r: f64) -> Spot
     ensures { λ q. ⌜ q ≡ spotOf (now (edges .entry)) r ⌝ }
 {
-    let n = real::count(bins(edges) as u64);
+    let n = plain::count(bins(edges) as u64);
     let scaled = n * r;
-    let whole = real::whole(scaled);
+    let whole = plain::whole(scaled);
     let bin = whole as usize;
     let step = width(edges, bin);
     let point = Point {
-        at: edge(edges, bin) + (scaled - real::count(whole)) * step,
+        at: edge(edges, bin) + (scaled - plain::count(whole)) * step,
         weight: n * step,
     };
     Spot { point, bin }
@@ -122,10 +122,10 @@ pub fn point_of(edges: &[f64], r: f64) -> Point
 pub fn lay_even(room: &mut [f64])
     ensures { λ _. ⌜ now (room .exit) ≡ evenFrom (length (now (room .entry))) 0 (binsOf (now (room .entry))) ⌝ }
 {
-    let n = real::count(bins(room) as u64);
+    let n = plain::count(bins(room) as u64);
     let mut i = 0;
     while i < room.len() {
-        room[i] = real::count(i as u64) / n;
+        room[i] = plain::count(i as u64) / n;
         i += 1;
     }
 }

@@ -51,7 +51,7 @@ pub fn are_finite(xs: &[f64]) -> bool
     let mut ok = true;
     let mut k = 0;
     while k < xs.len() {
-        ok = ok & real::finite(xs[k]);
+        ok = ok & plain::finite(xs[k]);
         k += 1;
     }
     ok

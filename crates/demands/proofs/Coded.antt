@@ -19,26 +19,26 @@ use Rattle.lent.specs.declared.Drawn.{Drawn}
 use Rattle.lent.specs.Memory.{memory}
 use Rattle.lent.specs.Calls.{drawnAs, drawOf, summaryOf, liveOf, liveOfBin, freshEnd, freshOf, cloneEnd, cloneOf, probeOf, stateEnd, trainCallOf, updateOf, mergeableOf, mergeIntoOf}
 use Rattle.lent.specs.Batched.{batchEnd, batchOf}
-use Rattle.copies.proofs.clone_without_samples.Kinds as clone-without-samples-kinds
-use Rattle.copies.proofs.clone_without_samples.Reads as clone-without-samples-reads
+use Rattle.quiet.proofs.clone_without_samples.Kinds as clone-without-samples-kinds
+use Rattle.quiet.proofs.clone_without_samples.Reads as clone-without-samples-reads
 use Rattle.samples.proofs.draw.Kinds as draw-kinds
 use Rattle.samples.proofs.draw.Reads as draw-reads
 use Rattle.samples.proofs.draw_and_train.Kinds as draw-and-train-kinds
 use Rattle.samples.proofs.draw_and_train.Reads as draw-and-train-reads
-use Rattle.copies.proofs.fresh.Kinds as fresh-kinds
-use Rattle.copies.proofs.fresh.Reads as fresh-reads
+use Rattle.quiet.proofs.fresh.Kinds as fresh-kinds
+use Rattle.quiet.proofs.fresh.Reads as fresh-reads
 use Rattle.merges.proofs.is_mergeable.Kinds as is-mergeable-kinds
 use Rattle.merges.proofs.is_mergeable.Reads as is-mergeable-reads
-use Rattle.probes.proofs.live_estimate.Kinds as live-estimate-kinds
-use Rattle.probes.proofs.live_estimate.Reads as live-estimate-reads
-use Rattle.probes.proofs.live_estimate_of_bin.Kinds as live-estimate-of-bin-kinds
-use Rattle.probes.proofs.live_estimate_of_bin.Reads as live-estimate-of-bin-reads
+use Rattle.quiet.proofs.live_estimate.Kinds as live-estimate-kinds
+use Rattle.quiet.proofs.live_estimate.Reads as live-estimate-reads
+use Rattle.quiet.proofs.live_estimate_of_bin.Kinds as live-estimate-of-bin-kinds
+use Rattle.quiet.proofs.live_estimate_of_bin.Reads as live-estimate-of-bin-reads
 use Rattle.merges.proofs.merge.Kinds as merge-kinds
 use Rattle.merges.proofs.merge.Reads as merge-reads
-use Rattle.probes.proofs.probe.Kinds as probe-kinds
-use Rattle.probes.proofs.probe.Reads as probe-reads
-use Rattle.probes.proofs.summary.Kinds as summary-kinds
-use Rattle.probes.proofs.summary.Reads as summary-reads
+use Rattle.quiet.proofs.probe.Kinds as probe-kinds
+use Rattle.quiet.proofs.probe.Reads as probe-reads
+use Rattle.quiet.proofs.summary.Kinds as summary-kinds
+use Rattle.quiet.proofs.summary.Reads as summary-reads
 use Rattle.samples.proofs.train.Kinds as train-kinds
 use Rattle.samples.proofs.train.Reads as train-reads
 use Rattle.updates.proofs.update.Kinds as update-kinds

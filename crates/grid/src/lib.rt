@@ -1,6 +1,4 @@
 // Grids in lent memory: the library's public calls, each handed on from the crate that has it, and the records that they take and give.
-pub use copies::clone_without_samples;
-pub use copies::fresh;
 pub use lent::Batched;
 pub use lent::Coordinates;
 pub use lent::Drawing;
@@ -9,10 +7,12 @@ pub use lent::Region;
 pub use lent::Sample;
 pub use merges::is_mergeable;
 pub use merges::merge;
-pub use probes::live_estimate;
-pub use probes::live_estimate_of_bin;
-pub use probes::probe;
-pub use probes::summary;
+pub use quiet::clone_without_samples;
+pub use quiet::fresh;
+pub use quiet::live_estimate;
+pub use quiet::live_estimate_of_bin;
+pub use quiet::probe;
+pub use quiet::summary;
 pub use samples::draw;
 pub use samples::draw_and_train;
 pub use samples::train;

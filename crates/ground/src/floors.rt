@@ -15,5 +15,5 @@ pub fn floored(floor: f64, weight: f64) -> f64
     if weight == 0.0 {
         return 0.0;
     }
-    real::inv((1.0 - floor) / weight + floor)
+    plain::inv((1.0 - floor) / weight + floor)
 }

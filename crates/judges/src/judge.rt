@@ -15,7 +15,7 @@ use lent::layout;
 fn is_chance(p: f64) -> bool
     ensures { λ r. ⌜ r ≡ chance p ⌝ }
 {
-    real::finite(p) & (0.0 < p)
+    plain::finite(p) & (0.0 < p)
 }
 
 // Whether the record at r and c is well formed: finite kept sums, counts within their bound.
@@ -23,11 +23,12 @@ fn is_sound(reals: &[f64], counts: &[u64], r: usize, c: usize) -> bool
     requires { ⌜ (r + 14 ≤ length (now reals)) × (c + 7 ≤ length (now counts)) ⌝ }
     ensures { λ o. ⌜ o ≡ wellFormed (recordAt (now (reals .entry)) (now (counts .entry)) r c) ⌝ }
 {
-    let sums = (real::finite(reals[r]) & real::finite(reals[r + 1])) & real::finite(reals[r + 2]);
+    let sums = (plain::finite(reals[r]) & plain::finite(reals[r + 1]))
+        & plain::finite(reals[r + 2]);
     let waiting = (counts[c] <= 9007199254740992) & (counts[c + 1] <= 9007199254740992);
     let processed = (waiting & (counts[c + 2] <= 9007199254740992))
         & (counts[c + 3] <= 9007199254740992);
-    (sums & real::finite(reals[r + 3])) & (processed & (counts[c + 6] <= 9007199254740992))
+    (sums & plain::finite(reals[r + 3])) & (processed & (counts[c + 6] <= 9007199254740992))
 }
 
 // An axes grid: its own accumulator and its axes.

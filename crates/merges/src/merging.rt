@@ -67,7 +67,7 @@ fn are_finite_with(reals: &[f64], start: usize, theirs: &[f64], from: usize, n: 
     let mut ok = true;
     let mut k = 0;
     while k < n {
-        ok = ok & real::finite(reals[start + k] + theirs[from + k]);
+        ok = ok & plain::finite(reals[start + k] + theirs[from + k]);
         k += 1;
     }
     ok

@@ -7,7 +7,7 @@ use lib.Dec.{ltb, eqb}
 use lib.ListN.{length, getD}
 use lib.Ieee.{Float, binary64, ofBits, mul, le, eq}
 use Rattle.doubles.specs.Numbers.{zero64}
-use Rattle.real.specs.Norm.{normOf}
+use Rattle.plain.specs.Norm.{normOf}
 use Rattle.doubles.specs.Count.{countOf}
 use Rattle.careful.specs.Root.{rootOf}
 use Rattle.doubles.specs.Total.{allFinite}

@@ -6,7 +6,7 @@ use Prim.Native.Nat.{ℕ}
 use lib.Dec.{eqb}
 use lib.Count.{trailingZeros}
 use lib.Ieee.{Float, binary64, ofBits, toBits, odd, size, span, climb, units, round, sum, add, sub, mul, div, neg, lt, le, eq, ofInt, ofFields, toUnsigned}
-use Rattle.real.specs.Norm.{normOf}
+use Rattle.plain.specs.Norm.{normOf}
 use Rattle.doubles.specs.Whole.{wholeOf}
 use Rattle.doubles.specs.Count.{countOf}
 use Rattle.real.specs.Ln.{lnOf, unitsOf, exponentOf, mantissaOf, tailOf, logOf, turnedOf}

@@ -1,3 +1,2 @@
-pub mod Norm
 pub mod Ln
 pub mod Power

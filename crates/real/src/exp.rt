@@ -21,8 +21,8 @@ pub fn ceiling(v: f64) -> u64
     requires { ⌜ Within v 999 × T (positive v) ⌝ }
     ensures { λ r. ⌜ (r ≡ ceilOf v) × (1 ≤ r) × (r < 1000) ⌝ }
 {
-    let n = crate::whole(v);
-    if crate::count(n) < v {
+    let n = plain::whole(v);
+    if plain::count(n) < v {
         return n + 1;
     }
     n

@@ -5,7 +5,7 @@ use mathlib.Core.List.{List, [], _∷_, map}
 use lib.Dec.{ltb}
 use lib.Ieee.{Float, binary64, add, sub, mul, div, eq, ofBits}
 use Rattle.doubles.specs.Numbers.{zero64, one64}
-use Rattle.real.specs.Norm.{normOf}
+use Rattle.plain.specs.Norm.{normOf}
 use Rattle.doubles.specs.Count.{countOf}
 use Rattle.real.specs.Ln.{lnOf}
 use Rattle.real.specs.Power.{powerOf}

@@ -70,7 +70,7 @@ pub fn divide(ps: &mut [f64], total: f64)
 fn is_chance(p: f64) -> bool
     ensures { λ r. ⌜ r ≡ chance p ⌝ }
 {
-    real::finite(p) & (0.0 < p)
+    plain::finite(p) & (0.0 < p)
 }
 
 // Whether every one is.

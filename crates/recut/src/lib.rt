@@ -93,10 +93,10 @@ fn from_damped(edges: &[f64], damped: &[f64], room: &mut [f64]) -> Renewed
     ensures { λ r. ⌜ paperRenewed r (now (room .exit)) ≡ fromDamped (now (edges .entry)) (now (damped .entry)) (length (now (room .entry))) ⌝ }
 {
     let weight = weights::total(damped);
-    if !real::finite(weight) {
+    if !plain::finite(weight) {
         return Renewed::Refused(8);
     }
-    let step = weight / real::count((room.len() - 1) as u64);
+    let step = weight / plain::count((room.len() - 1) as u64);
     cut::cut(edges, damped, step, room);
     if !axis::scans::is_well_formed(room) {
         return Renewed::Refused(9);
@@ -112,7 +112,7 @@ fn from_divided(edges: &[f64], importances: &mut [f64], rate: f64, room: &mut [f
 {
     weights::smoothen(importances);
     let total = weights::total(importances);
-    if !real::finite(total) {
+    if !plain::finite(total) {
         return Renewed::Refused(8);
     }
     weights::damp(importances, total, rate);

@@ -9,9 +9,9 @@ ghost use Rattle.recut.specs.Weights.{perCount, normalised, smoothed, da
 fn per_count(importance: f64, counter: u64) -> f64
     ensures { λ r. ⌜ r ≡ perCount importance counter ⌝ }
 {
-    let size = real::norm(importance);
+    let size = plain::norm(importance);
     if 0 < counter {
-        return size / real::count(counter);
+        return size / plain::count(counter);
     }
     size
 }

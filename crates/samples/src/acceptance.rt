@@ -214,7 +214,7 @@ pub fn objection(
     if form != 0 {
         return form;
     }
-    if !real::finite(evaluation) {
+    if !plain::finite(evaluation) {
         return 7;
     }
     if !training::are_finite(weights, weighed) {

@@ -162,7 +162,7 @@ fn draw_from_bins(
         spots,
         depth + 1,
     );
-    let weight = real::inv(chance) * traced.weight;
+    let weight = plain::inv(chance) * traced.weight;
     weights[depth] = weight;
     traced.weight = weight;
     traced

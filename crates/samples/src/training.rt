@@ -37,7 +37,7 @@ pub fn are_finite(ws: &[f64; 5], n: usize) -> bool
     let mut ok = true;
     let mut i = 0;
     while i < n {
-        ok = ok & real::finite(ws[i]);
+        ok = ok & plain::finite(ws[i]);
         i += 1;
     }
     ok

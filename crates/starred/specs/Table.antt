@@ -8,7 +8,7 @@ use lib.Dec.{eqb}
 use lib.ListN.{replicate}
 use lib.Ieee.{Float, binary64, add, sub, mul, div, lt, le, eq, ofInt, toUnsigned, ofBits, toBits}
 use Rattle.doubles.specs.Numbers.{zero64}
-use Rattle.real.specs.Norm.{normOf}
+use Rattle.plain.specs.Norm.{normOf}
 use Rattle.doubles.specs.Whole.{wholeOf}
 use Rattle.doubles.specs.Total.{totalOf, allFinite}
 use Rattle.doubles.specs.Finite.{finiteOf}

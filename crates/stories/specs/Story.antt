@@ -8,7 +8,7 @@ use lib.ListN.{length}
 use lib.Ieee as Ieee
 use lib.Ieee.{Float, binary64, ofBits, toBits}
 use Rattle.doubles.specs.Numbers.{zero64}
-use Rattle.real.specs.Norm as Norm
+use Rattle.plain.specs.Norm as Norm
 use Rattle.doubles.specs.Whole as Whole
 use Rattle.doubles.specs.Total as Total
 use Rattle.doubles.specs.Finite as Finite

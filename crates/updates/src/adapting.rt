@@ -157,12 +157,12 @@ fn raw_of(averages: bool, a: StatisticsAccumulator) -> f64
     ensures { λ r. ⌜ r ≡ rawOf averages a ⌝ }
 {
     if averages {
-        return real::norm(a.avg);
+        return plain::norm(a.avg);
     }
     if a.processed_samples < 2 {
         return 0.0;
     }
-    a.err * real::sqrt(real::count(a.processed_samples - 1))
+    a.err * root::sqrt(plain::count(a.processed_samples - 1))
 }
 
 // The bins' raw probabilities.

@@ -1,7 +1,8 @@
 -- The record's own estimates, or those of the calls put together.
-use native.Mathlib.Omega.{arith}
+use mathlib.Core.Path.{refl}
 use borrow.Author.Tests.{lt-leb, le-leb}
-use Rattle.accumulator.proofs.Counts.{within}
+use Rattle.doubles.specs.Count.{countOf}
+use Rattle.accumulator.proofs.Counts.{within, exact, all-count}
 use Rattle.accumulator.proofs.Processed.{estimates-are}
 use Rattle.accumulator.specs.Record.{raised}
 use Rattle.accumulator.specs.Update.{enough, updatedOf}
@@ -14,14 +15,11 @@ returns : tie.Need-returns
 unfolding estimatesOf updatedOf enough raised
 returns c = rw (lt-leb _ _ (c .if1 .taken))
 
-count-requires : tie.Need-count-requires
-count-requires c κs = search needs
+int-to-float-n : tie.Need-int-to-float-n
+int-to-float-n c = exact _ (within _ (c .before .before .before .pre) .waiting)
 
-add-count : tie.Need-add-count
-add-count c = let w = within _ (c .before .before .before .before .pre) in omega arith
-
-count-requires-2 : tie.Need-count-requires-2
-count-requires-2 c κs = search needs
+int-to-float-all : tie.Need-int-to-float-all
+int-to-float-all c = exact _ (within _ (c .before .before .before .before .pre) .processed)
 
 figures-of-requires : tie.Need-figures-of-requires
 figures-of-requires c κs = search needs
@@ -36,12 +34,12 @@ sqrt-requires : tie.Need-sqrt-requires
 sqrt-requires c κs = search needs
 
 returns-2 : tie.Need-returns-2
-unfolding updatedOf enough
+unfolding updatedOf enough countOf
 returns-2 c =
-    rw (le-leb _ _ (c .before .before .before .before .before .before .before .before .before .before .before .before .before .if1 .left))
+    rw (le-leb _ _ (c .before .before .before .before .before .before .before .before .before .before .before .before .if1 .left))
     (estimates-are _ _ _ _ _ _ _
-    (c .before .before .before .before .before .before .before .before .before .before .before .before .count .ensures)
-    (c .before .before .before .before .before .before .before .before .before .before .count2 .ensures)
+    refl
+    (all-count _ (c .before .before .before .before .before .before .before .before .before .before .before .before .before .before .pre))
     (c .before .before .before .before .before .before .before .figures-of .ensures)
     (c .before .before .before .before .before .settled .ensures)
     (c .before .before .before .before .inv .ensures)
@@ -52,9 +50,8 @@ live-spec =
     tie.close
     (tie.spec
     returns
-    count-requires
-    add-count
-    count-requires-2
+    int-to-float-n
+    int-to-float-all
     figures-of-requires
     settled-requires
     inv-requires

@@ -1,4 +1,7 @@
 -- The calls, put together, are the definition.
+use mathlib.Core.Path.{refl}
+use Rattle.doubles.specs.Count.{countOf}
+use Rattle.accumulator.proofs.Counts.{within, exact, all-count}
 use Rattle.accumulator.proofs.Processed.{steps-are}
 use borrow.Author.Needs.{needs}
 use Rattle.accumulator.proofs.steps.processed.Statement.{statement}
@@ -7,11 +10,11 @@ use Rattle.accumulator.proofs.steps.processed.Tie as tie
 gathered-requires : tie.Need-gathered-requires
 gathered-requires c κs = search needs
 
-count-requires : tie.Need-count-requires
-count-requires c κs = search needs
+int-to-float-n : tie.Need-int-to-float-n
+int-to-float-n c = exact _ (within _ (c .before .before .pre) .waiting)
 
-count-requires-2 : tie.Need-count-requires-2
-count-requires-2 c κs = search needs
+int-to-float-all : tie.Need-int-to-float-all
+int-to-float-all c = exact _ (within _ (c .before .before .before .pre) .processed)
 
 figures-of-requires : tie.Need-figures-of-requires
 figures-of-requires c κs = search needs
@@ -32,11 +35,12 @@ sqrt-requires : tie.Need-sqrt-requires
 sqrt-requires c κs = search needs
 
 returns : tie.Need-returns
+unfolding countOf
 returns c =
     steps-are _ _ _ _ _ _ _ _ _ _ _
     (c .before .before .before .before .before .before .before .before .before .before .before .before .gathered .ensures)
-    (c .before .before .before .before .before .before .before .before .before .before .before .count .ensures)
-    (c .before .before .before .before .before .before .before .before .before .before .count2 .ensures)
+    refl
+    (all-count _ (c .before .before .before .before .before .before .before .before .before .before .before .before .before .pre))
     (c .before .before .before .before .before .before .before .before .before .figures-of .ensures)
     (c .before .before .before .before .before .before .before .settled .ensures)
     (c .before .before .before .before .before .before .inv .ensures)
@@ -49,8 +53,8 @@ processed-spec =
     tie.close
     (tie.spec
     gathered-requires
-    count-requires
-    count-requires-2
+    int-to-float-n
+    int-to-float-all
     figures-of-requires
     settled-requires
     inv-requires

@@ -4,7 +4,7 @@ use Rattle.accumulator.proofs.steps.weight.Statement.{statement}
 use Rattle.accumulator.proofs.steps.weight.Tie as tie
 use Rattle.accumulator.proofs.steps.weight.Reads as reads
 use Rattle.accumulator.proofs.steps.weight.Lts as lts
-use Rattle.real.proofs.inv.Reads as inv-reads
+use Rattle.plain.proofs.inv.Reads as inv-reads
 
 -- src/steps.rt:110:9
 returns : tie.Need-returns

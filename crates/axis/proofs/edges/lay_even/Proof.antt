@@ -15,7 +15,7 @@ use Rattle.axis.proofs.edges.lay_even.Tie as tie
 use Rattle.axis.proofs.edges.lay_even.Reads as reads
 use Rattle.axis.proofs.edges.lay_even.Lts as lts
 use Rattle.axis.proofs.edges.bins.Reads as bins-reads
-use Rattle.real.proofs.count.Reads as count-reads
+use Rattle.plain.proofs.count.Reads as count-reads
 
 abbrev Inv-loop : tie.InvT-loop
 Inv-loop room₀ n i₀ room i =

@@ -8,8 +8,8 @@ use Rattle.axis.proofs.edges.spot_of.Lts as lts
 use Rattle.axis.proofs.edges.bins.Reads as bins-reads
 use Rattle.axis.proofs.edges.edge.Reads as edge-reads
 use Rattle.axis.proofs.edges.width.Reads as width-reads
-use Rattle.real.proofs.count.Reads as count-reads
-use Rattle.real.proofs.whole.Reads as whole-reads
+use Rattle.plain.proofs.count.Reads as count-reads
+use Rattle.plain.proofs.whole.Reads as whole-reads
 
 -- src/edges.rt:76:25
 bins-requires : tie.Need-bins-requires

@@ -6,7 +6,7 @@ use Rattle.axis.proofs.edges.weight_of.Reads as reads
 use Rattle.axis.proofs.edges.weight_of.Lts as lts
 use Rattle.axis.proofs.edges.bins.Reads as bins-reads
 use Rattle.axis.proofs.edges.width.Reads as width-reads
-use Rattle.real.proofs.count.Reads as count-reads
+use Rattle.plain.proofs.count.Reads as count-reads
 
 -- src/edges.rt:69:17
 bins-requires : tie.Need-bins-requires

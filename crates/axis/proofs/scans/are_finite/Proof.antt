@@ -9,7 +9,7 @@ use Rattle.axis.proofs.scans.are_finite.Statement.{statement}
 use Rattle.axis.proofs.scans.are_finite.Tie as tie
 use Rattle.axis.proofs.scans.are_finite.Reads as reads
 use Rattle.axis.proofs.scans.are_finite.Lts as lts
-use Rattle.real.proofs.finite.Reads as finite-reads
+use Rattle.plain.proofs.finite.Reads as finite-reads
 
 abbrev Inv-loop : tie.InvT-loop
 Inv-loop xs ok₀ k₀ ok k = (ok && allFinite (drop k xs)) ≡ allFinite xs

@@ -4,7 +4,7 @@ use Rattle.ground.proofs.floors.floored.Statement.{statement}
 use Rattle.ground.proofs.floors.floored.Tie as tie
 use Rattle.ground.proofs.floors.floored.Reads as reads
 use Rattle.ground.proofs.floors.floored.Lts as lts
-use Rattle.real.proofs.inv.Reads as inv-reads
+use Rattle.plain.proofs.inv.Reads as inv-reads
 
 -- src/axes.rt:78:9
 returns : tie.Need-returns

@@ -4,7 +4,7 @@ use Rattle.judges.proofs.judge.is_chance.Statement.{statement}
 use Rattle.judges.proofs.judge.is_chance.Tie as tie
 use Rattle.judges.proofs.judge.is_chance.Reads as reads
 use Rattle.judges.proofs.judge.is_chance.Lts as lts
-use Rattle.real.proofs.finite.Reads as finite-reads
+use Rattle.plain.proofs.finite.Reads as finite-reads
 
 -- src/judge.rt:17:5
 finite-requires : tie.Need-finite-requires

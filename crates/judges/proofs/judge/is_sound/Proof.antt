@@ -5,7 +5,7 @@ use Rattle.judges.proofs.judge.is_sound.Statement.{statement}
 use Rattle.judges.proofs.judge.is_sound.Tie as tie
 use Rattle.judges.proofs.judge.is_sound.Reads as reads
 use Rattle.judges.proofs.judge.is_sound.Lts as lts
-use Rattle.real.proofs.finite.Reads as finite-reads
+use Rattle.plain.proofs.finite.Reads as finite-reads
 
 -- src/accounts.rt:89:30
 mul-finite : tie.Need-mul-finite

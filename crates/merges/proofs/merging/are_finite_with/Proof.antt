@@ -10,7 +10,7 @@ use Rattle.merges.proofs.merging.are_finite_with.Statement.{statement}
 use Rattle.merges.proofs.merging.are_finite_with.Tie as tie
 use Rattle.merges.proofs.merging.are_finite_with.Reads as reads
 use Rattle.merges.proofs.merging.are_finite_with.Lts as lts
-use Rattle.real.proofs.finite.Reads as finite-reads
+use Rattle.plain.proofs.finite.Reads as finite-reads
 
 abbrev Inv-loop : tie.InvT-loop
 Inv-loop reals start theirs from n ok₀ k₀ ok k =

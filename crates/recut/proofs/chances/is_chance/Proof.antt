@@ -4,7 +4,7 @@ use Rattle.recut.proofs.chances.is_chance.Statement.{statement}
 use Rattle.recut.proofs.chances.is_chance.Tie as tie
 use Rattle.recut.proofs.chances.is_chance.Reads as reads
 use Rattle.recut.proofs.chances.is_chance.Lts as lts
-use Rattle.real.proofs.finite.Reads as finite-reads
+use Rattle.plain.proofs.finite.Reads as finite-reads
 
 -- src/chances.rt:73:5
 finite-requires : tie.Need-finite-requires

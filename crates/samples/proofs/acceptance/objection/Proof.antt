@@ -17,7 +17,7 @@ use Rattle.samples.proofs.acceptance.objection.Reads as reads
 use Rattle.samples.proofs.acceptance.objection.Lts as lts
 use Rattle.samples.proofs.acceptance.grid_accepts.Reads as grid-accepts-reads
 use Rattle.samples.proofs.training.are_finite.Reads as are-finite-reads
-use Rattle.real.proofs.finite.Reads as finite-reads
+use Rattle.plain.proofs.finite.Reads as finite-reads
 
 -- src/acceptance.rt:208:9
 returns : tie.Need-returns

@@ -24,7 +24,7 @@ use Rattle.samples.proofs.sampling.draw_grid.Kinds as draw-grid-kinds
 use Rattle.samples.proofs.sampling.+draw_child+draw_from_bins+draw_grid.Lts-draw_grid as draw-grid-lts
 use Rattle.samples.proofs.sampling.draw_from_axes.Reads as draw-from-axes-reads
 use Rattle.samples.proofs.sampling.reach.Reads as reach-reads
-use Rattle.real.proofs.inv.Reads as inv-reads
+use Rattle.plain.proofs.inv.Reads as inv-reads
 use Rattle.stream.proofs.MonteCarloRng.unit.Reads as unit-reads
 use Rattle.samples.proofs.sampling.+draw_child+draw_from_bins+draw_grid.{statement}
 use Rattle.samples.proofs.sampling.+draw_child+draw_from_bins+draw_grid.Tie.{close}

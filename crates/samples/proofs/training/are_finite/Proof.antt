@@ -12,7 +12,7 @@ use Rattle.samples.proofs.training.are_finite.Statement.{statement}
 use Rattle.samples.proofs.training.are_finite.Tie as tie
 use Rattle.samples.proofs.training.are_finite.Reads as reads
 use Rattle.samples.proofs.training.are_finite.Lts as lts
-use Rattle.real.proofs.finite.Reads as finite-reads
+use Rattle.plain.proofs.finite.Reads as finite-reads
 
 abbrev Inv-loop : tie.InvT-loop
 Inv-loop ws n ok₀ i₀ ok i = (i ≤ n) × ((ok && allFinite (entries nan ws i (n - i))) ≡ allFinite (entries nan ws 0 (n - 0)))

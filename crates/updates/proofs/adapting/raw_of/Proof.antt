@@ -5,8 +5,8 @@ use Rattle.updates.proofs.adapting.raw_of.Statement.{statement}
 use Rattle.updates.proofs.adapting.raw_of.Tie as tie
 use Rattle.updates.proofs.adapting.raw_of.Reads as reads
 use Rattle.updates.proofs.adapting.raw_of.Lts as lts
-use Rattle.real.proofs.count.Reads as count-reads
-use Rattle.real.proofs.norm.Reads as norm-reads
+use Rattle.plain.proofs.count.Reads as count-reads
+use Rattle.plain.proofs.norm.Reads as norm-reads
 use Rattle.root.proofs.sqrt.Reads as sqrt-reads
 
 -- src/adapting.rt:148:9

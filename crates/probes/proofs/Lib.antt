@@ -1,2 +1,0 @@
--- What the calls of this crate promise, as theorems.
-pub mod Unique

@@ -1,0 +1,32 @@
+-- `probing::under_floor` meets its contract: the floor on a weight; a refusal passes through.
+use Rattle.lent.proofs.Probes.{floors-weight, floors-refusal}
+use borrow.Author.Needs.{needs}
+use Rattle.quiet.proofs.probing.under_floor.Statement.{statement}
+use Rattle.quiet.proofs.probing.under_floor.Tie as tie
+use Rattle.quiet.proofs.probing.under_floor.Reads as reads
+use Rattle.quiet.proofs.probing.under_floor.Lts as lts
+use Rattle.ground.proofs.floors.floored.Reads as floored-reads
+
+-- src/probing.rt:73:24
+enum-known-probed : tie.Need-enum-known-probed
+enum-known-probed c = search needs
+
+-- src/probing.rt:73:50
+floored-requires : tie.Need-floored-requires
+floored-requires c κs = search needs
+
+-- src/probing.rt:74:25
+enum-known-probed-2 : tie.Need-enum-known-probed-2
+enum-known-probed-2 c = search needs
+
+-- src/probing.rt:69:1
+returns : tie.Need-returns
+returns c = floors-weight _ _ _ _ (c .before .before .probed .given .1) (c .floored .ensures)
+
+-- src/probing.rt:69:1
+returns-2 : tie.Need-returns-2
+returns-2 c = floors-refusal _ _ _ (c .before .probed2 .given .1)
+
+pub under-floor-spec : {M : Type 1} → statement M
+under-floor-spec =
+    tie.close (tie.spec enum-known-probed floored-requires enum-known-probed-2 returns returns-2)
