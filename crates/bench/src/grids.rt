@@ -40,14 +40,14 @@ fn batches(
     let mut stream = MonteCarloRng::seed_from_u64(0);
     let mut i: u64 = 0;
     while i < count {
-        let batch = grid::draw_and_train(table, reals, counts, stream, evaluations, 1);
+        let batch = samples::draw_and_train(table, reals, counts, stream, evaluations, 1);
         if batch.refused != 0 {
             return batch.refused;
         }
         stream = batch.stream;
         i += 1;
     }
-    word(grid::live_estimate(table, reals, counts)) ^ stream.s0
+    word(quiet::live_estimate(table, reals, counts)) ^ stream.s0
 }
 
 // So many samples, in whole batches of 100,000.
@@ -68,7 +68,7 @@ pub fn drawn(table: &Table, reals: &Reals, counts: &Counts, count: u64) -> u64 {
     let mut xor: u64 = 0;
     let mut i: u64 = 0;
     while i < count {
-        let drawn = grid::draw(table, reals, counts, stream);
+        let drawn = samples::draw(table, reals, counts, stream);
         if drawn.refused != 0 {
             return drawn.refused;
         }

@@ -18,7 +18,7 @@ fn is_laid(answer: Read) -> bool {
 // An axes grid of 5 axes of 64 bins.
 pub fn lay_axes(table: &mut Table, reals: &mut Reals, counts: &mut Counts) -> bool {
     let bytes = [1u8, 16, 0, 5, 64, 0, 0, 0, 0, 0, 0, 0, 0, 0, 0, 0, 0, 0, 0];
-    is_laid(grid::fresh(&bytes, table, reals, counts))
+    is_laid(quiet::fresh(&bytes, table, reals, counts))
 }
 
 // The bytes of a bins grid of 16 bins, its ratio 10, and at each bin an axes grid of 2 axes of 32 bins.
@@ -43,5 +43,5 @@ fn write_tree(bytes: &mut [u8]) {
 pub fn lay_tree(table: &mut Table, reals: &mut Reals, counts: &mut Counts) -> bool {
     let mut bytes = [0u8; 318];
     write_tree(&mut bytes);
-    is_laid(grid::fresh(&bytes, table, reals, counts))
+    is_laid(quiet::fresh(&bytes, table, reals, counts))
 }

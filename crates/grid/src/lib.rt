@@ -1,4 +1,5 @@
 // Grids in lent memory: the library's public calls, each handed on from the crate that has it, and the records that they take and give.
+// specs/ says what the three demands on them are, on the model's grids and on lent memory; proofs/ has each as a theorem.
 pub use lent::Batched;
 pub use lent::Coordinates;
 pub use lent::Drawing;

@@ -1,4 +1,5 @@
--- Histories of grids, computed from the definitions and held against the oracle's words.
+-- What the definitions of all crates give, computed: the scope document's starred examples, and histories of grids, held against the oracle's words.
+pub mod Table
 pub mod Dump
 pub mod Story
 pub mod Cases

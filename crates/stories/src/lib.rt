@@ -1,1 +1,2 @@
-// No code: specs/ holds histories of grids whose every answer the oracle gave, checked by computing them from the definitions.
+// No code: specs/ holds what is computed from the definitions of all crates: the starred examples of the scope document, one table with one
+// claim, and histories of grids whose every answer the oracle gave.
