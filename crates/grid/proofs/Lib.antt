@@ -2,7 +2,7 @@
 pub mod Places
 pub mod Kept
 pub mod Counted
-pub mod Fresh
+pub mod FreshGrids
 pub mod Third
 pub mod Tied
 pub mod Planned

@@ -40,7 +40,7 @@ use Rattle.grid.specs.Demand3.{BinRule, AxisHolds, Demand3}
 use Rattle.grid.specs.Order.{NoneHolds}
 use Rattle.grid.specs.Programs.{right, built, training, merging, summing, estimating, endOf, wordsOf, logOf, testsOf, Meets1, Meets2, Meets3, refusing, constantBin, forgetting, sated, oneMore, boasting, firstBelow, rightBin, level, levelFormed, joinedAll, joinedGrid, joining, clampedError, clamping, writtenUpto, writtenGrid, hasty}
 use Rattle.grid.proofs.Kept.{refused-none}
-use Rattle.grid.proofs.Fresh.{sound-fresh}
+use Rattle.grid.proofs.FreshGrids.{sound-fresh}
 
 abbrev half : Float
 half = ofBits binary64 0x3fe0_0000_0000_0000

@@ -18,7 +18,7 @@ use Rattle.grid.specs.Demand3.{Demand3}
 use Rattle.grid.proofs.Places.{never}
 use Rattle.grid.proofs.Kept.{parts-at, chance-at, sound-run}
 use Rattle.grid.proofs.Counted.{counted-run, none-run, holds-total}
-use Rattle.grid.proofs.Fresh.{sound-fresh, fresh-at}
+use Rattle.grid.proofs.FreshGrids.{sound-fresh, fresh-at}
 
 which : (o : Option Spot) → (o ≡ option.none) ⊎ ((s : Spot) × (o ≡ some s))
 which option.none = inl refl
