@@ -1,14 +1,14 @@
 -- What the bits of a double above 0 say of its value, and the bits of a double by its value. Assumes nothing.
 use mathlib.Core.Path.{_≡_, refl, sym, ap, _∙_, subst}
 use Prim.Native.Nat.{ℕ, zero, suc, _+_, _-_, _*_, _/_, _%_, _^_, _≤_, _<_}
-use native.Mathlib.Nat.{mul-one, mul-comm, mul-assoc, le-trans, le-of-eq, lt-of-lt-of-le, lt-of-le-of-lt, lt-of-not-le, not-le-of-lt, le-antisymm, mul-le-mul-right, mul-lt-mul-of-pos-right, mul-div-cancel, mod-eq-of-lt}
+use native.Mathlib.Nat.{mul-one, mul-comm, mul-assoc, le-trans, le-of-eq, lt-of-lt-of-le, lt-of-le-of-lt, lt-of-not-le, not-le-of-lt, le-antisymm, mul-le-mul-right, mul-lt-mul-of-pos-right, le-of-mul-le-mul-right, mul-div-cancel, mod-eq-of-lt}
 use native.Mathlib.Omega.{arith}
 use mathlib.Core.Bool.{Bool, true, false, not, cond, true≢false}
 use lib.Arith.{le→nltb}
 use lib.Dec.{T, eqb, leb, ltb, eqb-refl, leb→le, nleb→lt, lit<, lit≤}
 use lib.Pow.{pow-add, pow-pos, pow-mono, shl-lt}
 use lib.Count.{leadingZeros, leading-top}
-use lib.Ieee.{Float, nan, inf, fin, binary64, up, down, size, odd, fits, isNan, nanBits, ofFields, ofBits, toBits, hid, top}
+use lib.Ieee.{Float, nan, inf, fin, binary64, up, down, size, odd, fits, isNan, nanBits, ofFields, ofBits, toBits, le, hid, top}
 use lib.Ieee.Digits.{size-lt, size-le}
 use lib.Ieee.Fits.{down-pos}
 use lib.Ieee.Exact.{HasValue, odd-sign}
@@ -18,6 +18,7 @@ use borrow.Author.Tests.{leb-false, ltb-true, ltb-false, ne-eqb}
 use Rattle.doubles.specs.declared.Parts.{Parts}
 use Rattle.doubles.specs.Split.{Split, parts, liftedOf, splitOf}
 use Rattle.doubles.proofs.Exact.{rescale}
+use Rattle.doubles.proofs.Fractions.{le-values}
 
 -- ---- from the fields to the value: X is the exponent's field, t the digits'
 abbrev size-of : ℕ → ℕ → ℕ
@@ -61,6 +62,23 @@ bits-value x f p =
   where
     below : (b : ℕ) → b < 2 ^ 52 * 2048 → (b / 2 ^ 52 ≡ 2047 → ⊥) → b < 2047 * 2 ^ 52
     below b l n = lt-of-not-le (λ g. n (omega arith))
+
+least : HasValue (ofBits binary64 0x0010_0000_0000_0000) false (2 ^ 52) (2 ^ 1074)
+unfolding ofBits
+least = (refl, refl)
+
+-- a double from the least normal one on has its hidden digit
+pub high-bits : (x : Float) → T (fits binary64 x) → T (positive x) → le (ofBits binary64 0x0010_0000_0000_0000) x ≡ true → 2 ^ 52 ≤ toBits binary64 x
+high-bits x f p h = go (toBits binary64 x) (toBits binary64 x / 2 ^ 52) refl (bits-value x f p .1)
+  where
+    go : (b X : ℕ) → b / 2 ^ 52 ≡ X → HasValue x false (size-of X (b % 2 ^ 52)) (2 ^ 1074) → 2 ^ 52 ≤ b
+    go b zero e v =
+        let l : 2 ^ 52 ≤ b % 2 ^ 52 = le-of-mul-le-mul-right (le-values (ofBits binary64 0x0010_0000_0000_0000) x (2 ^ 52) (2 ^ 1074) (b % 2 ^ 52) (2 ^ 1074) least v h) (pow-pos 1074) in
+        absurd (below (b % 2 ^ 52) l (omega arith))
+      where
+        below : (t : ℕ) → 2 ^ 52 ≤ t → t < 2 ^ 52 → ⊥
+        below t l h = omega arith
+    go b (suc k) e v = omega arith
 
 -- ---- the split of a normal double
 pub high-split : (x : Float) → T (fits binary64 x) → T (positive x) → 2 ^ 52 ≤ toBits binary64 x → Split x (toBits binary64 x % 2 ^ 52 + 2 ^ 52) (toBits binary64 x / 2 ^ 52 + 51)

@@ -1,26 +1,53 @@
 -- A guess of the unit's root that passes the code's tests has the bits of the root, but for the exponent. Assumes nothing.
-use mathlib.Core.Path.{_≡_, sym, ap, _∙_, subst}
+use mathlib.Core.Path.{_≡_, refl, sym, ap, _∙_, subst}
 use Prim.Native.Nat.{ℕ, zero, suc, _+_, _-_, _*_, _/_, _%_, _^_, _≤_, _<_}
 use native.Mathlib.Nat.{mul-assoc}
 use native.Mathlib.Omega.{arith}
 use mathlib.Core.Bool.{Bool, true, false, not, _&&_, true≢false}
 use lib.Dec.{T}
 use lib.Pow.{pow-add, pow-pos}
-use lib.Ieee.{Float, nan, inf, fin, binary64, fits, isNan, round, add, sub, mul, le, ofBits, toBits}
+use lib.Ieee.{Float, nan, inf, fin, binary64, fits, isNan, round, add, sub, mul, le, lt, ofBits, toBits}
 use lib.Ieee.Fits.{round-fits}
 use lib.Ieee.Exact.{HasValue}
 use lib.Ieee.Positive.{positive}
 use lib.Ieee.Bits.{ofBits-toBits}
 use Rattle.doubles.specs.Split.{Split}
 use Rattle.careful.specs.Digits.{NearRoot}
-use Rattle.root.specs.Digits.{Right, eps, unitOf}
+use Rattle.root.specs.Digits.{Right, eps, normalOf, unitOf}
 use Rattle.careful.specs.Root.{rootOf}
-use Rattle.doubles.proofs.Truth.{both}
-use Rattle.doubles.proofs.Order.{le-right}
+use Rattle.doubles.specs.Numbers.{zero64}
+use Rattle.doubles.specs.Finite.{finiteOf}
+use Rattle.doubles.proofs.Truth.{was, both}
+use Rattle.doubles.proofs.Order.{le-right, lt-le-trans}
+use Rattle.doubles.proofs.Above.{above-finite}
+use Rattle.doubles.proofs.Finiteness.{between-finite}
 use Rattle.doubles.proofs.Exact.{rescale, dyadic}
-use Rattle.doubles.proofs.Bits.{bits-of, bits-value, high-split}
+use Rattle.doubles.proofs.Bits.{bits-of, bits-value, high-bits, high-split}
 use Rattle.careful.proofs.Roots.{root-bits}
 use Rattle.root.proofs.Closeness.{close}
+
+abbrev least64 : Float
+least64 = ofBits binary64 0x0010_0000_0000_0000
+
+abbrev most64 : Float
+most64 = ofBits binary64 0x7fef_ffff_ffff_ffff
+
+least-above : lt zero64 least64 ≡ true
+unfolding lt ofBits
+least-above = refl
+
+both-finite : (finiteOf least64 ≡ true) × (finiteOf most64 ≡ true)
+unfolding finiteOf ofBits
+both-finite = (refl, refl)
+
+-- what `is_normal` tells
+pub normal : (x : Float) → T (fits binary64 x) → normalOf x ≡ true → T (positive x) × (2 ^ 52 ≤ toBits binary64 x)
+unfolding normalOf
+normal x f h =
+    let r = both (le least64 x) (le x most64) h in
+    let z : lt zero64 x ≡ true = lt-le-trans zero64 least64 x least-above (r .0) in
+    let p : T (positive x) = was (sym (above-finite x z) ∙ between-finite least64 x most64 (both-finite .0) (both-finite .1) (r .0) (r .1)) in
+    (p, high-bits x f p (r .0))
 
 -- a number from 1/2 to below 2, by its bits
 pub scaled-value : (q o : ℕ) → 2 ^ 52 ≤ q → q < 2 ^ 53 → o ≤ 1 → HasValue (ofBits binary64 ((1021 + o) * 2 ^ 52 + q)) false q (2 ^ (53 - o))

@@ -1,12 +1,17 @@
 -- What the inner functions say of a guess. Definitions only.
 use mathlib.Core.Path.{_≡_}
 use Prim.Native.Nat.{ℕ, _+_, _-_, _*_, _/_, _%_, _^_, _≤_}
-use lib.Ieee.{Float, binary64, ofBits}
+use mathlib.Core.Bool.{Bool, _&&_}
+use lib.Ieee.{Float, binary64, ofBits, le}
 use Rattle.careful.specs.Digits.{NearRoot}
 
 -- 2^-46
 abbrev pub eps : Float
 eps = ofBits binary64 0x3d10_0000_0000_0000
+
+-- above 0, finite and no subnormal
+unfoldable pub normalOf : Float → Bool
+normalOf x = le (ofBits binary64 0x0010_0000_0000_0000) x && le x (ofBits binary64 0x7fef_ffff_ffff_ffff)
 
 -- a normal double times a power of 4, from 1/2 to below 2, by the double's bits
 unfoldable pub unitOf : ℕ → Float

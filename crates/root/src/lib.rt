@@ -4,17 +4,30 @@ mod positive;
 ghost use mathlib.Core.Path.{_≡_};
 ghost use Rattle.careful.specs.Root.{rootOf};
 ghost use Rattle.root.specs.Pair.{rootsOf};
-use doubles::above_zero;
+use positive::careful_root;
+use positive::guess;
+use positive::is_about;
+use positive::is_normal;
+use positive::is_right;
+use positive::joined;
+use positive::unit;
 
 // The double nearest the true root, ties to even; NaN for a negative or a NaN, infinity for infinity;
 // a zero keeps its sign.
 pub fn sqrt(x: f64) -> f64
     ensures { λ r. ⌜ r ≡ rootOf x ⌝ }
 {
-    if above_zero(x) {
-        return positive::positive_root(x);
+    if is_normal(x) {
+        let bits = f64::to_bits(x);
+        let g = guess(unit(bits));
+        if is_about(g, unit(bits)) {
+            let e = f64::to_bits(g);
+            if is_right(bits, e) {
+                return joined(bits, e);
+            }
+        }
     }
-    careful::root_from(x, x)
+    careful_root(x)
 }
 
 // Two roots.
@@ -23,12 +36,26 @@ pub struct RootPair {
     pub second: f64,
 }
 
-// The roots of x and y, each as `sqrt` says, in less time than one after the other.
+// The roots of x and y, each as `sqrt` says, in less time than one after the other: both are guessed before either is judged, and each
+// test is one condition for both, so that the compiler takes both by packed instructions.
 pub fn sqrts(x: f64, y: f64) -> RootPair
     ensures { λ r. ⌜ r ≡ rootsOf x y ⌝ }
 {
-    if above_zero(x) & above_zero(y) {
-        return positive::positive_roots(x, y);
+    if is_normal(x) & is_normal(y) {
+        let a = f64::to_bits(x);
+        let b = f64::to_bits(y);
+        let g = guess(unit(a));
+        let h = guess(unit(b));
+        if is_about(g, unit(a)) & is_about(h, unit(b)) {
+            let e = f64::to_bits(g);
+            let f = f64::to_bits(h);
+            if is_right(a, e) & is_right(b, f) {
+                return RootPair {
+                    first: joined(a, e),
+                    second: joined(b, f),
+                };
+            }
+        }
     }
     RootPair {
         first: sqrt(x),
