@@ -8,13 +8,15 @@ ghost use Rattle.lent.specs.Memory.{memory};
 ghost use Rattle.lent.specs.Tree.{AxesLaid, BinsLaid, Laid};
 ghost use Rattle.lent.specs.Renewed.{found};
 ghost use Rattle.lent.specs.Turns.{childTurned, childrenTurned};
-ghost use Rattle.lent.specs.Adapted.{ruleAt, accountUpdated, accountsUpdated, axesUpdated, idleIn, rawsIn, chancesAdapted, binsAdapted, updatedIn};
+ghost use Rattle.lent.specs.Adapted.{ruleAt, followed, accountUpdated, accountsUpdated, axesUpdated, binsAdapted, updatedIn};
+ghost use Rattle.updates.specs.Own.{binsPlace, BinsFit, binsUpdated, binsIdle, binsRaws, chancesOf, ownAdapted, AxesFit, axesOwn};
 use crate::parts;
 use crate::renewal;
 use accumulator::StatisticsAccumulator;
 use accumulator::Updated;
 use ground::accounts;
 use judges::judging;
+use lent::AxesAt;
 use lent::Found;
 use lent::Rule;
 use lent::layout;
@@ -49,6 +51,15 @@ fn update_account(reals: &mut [f64], counts: &mut [u64], r: usize, c: usize) -> 
     }
 }
 
+// A bins grid's plan in numbers, and where its reals and counts begin.
+pub struct BinsAt {
+    pub bins: usize,
+    pub ratio: f64,
+    pub averages: bool,
+    pub reals: usize,
+    pub counts: usize,
+}
+
 // What a run says of its axes' update.
 fn rule_at(table: &[u64], w: usize) -> Rule
     requires { ⌜ w + 11 ≤ length (now table) ⌝ }
@@ -61,8 +72,31 @@ fn rule_at(table: &[u64], w: usize) -> Rule
     }
 }
 
-// An axes grid: its axes, then its own accumulator. That its axes are well formed is asked here, where it costs little, so that nothing
-// need be known of what the update of other grids has written.
+// Axes, then the accumulator of their grid, which stands before them. That the axes are well formed is asked here, where it costs
+// little, so that nothing need be known of what the update of other grids has written.
+fn update_standing(
+    reals: &mut [f64],
+    counts: &mut [u64],
+    g: AxesAt,
+    rule: Rule,
+    values: &[u64],
+    rate: f64,
+) -> Found
+    requires { ⌜ AxesFit g rule (now values) (length (now reals)) (length (now counts)) ⌝ }
+    ensures { λ f. ⌜ found f (memory (now (reals .exit)) (now (counts .exit))) ≡ axesOwn g rule (now (values .entry)) rate (memory (now (reals .entry)) (now (counts .entry))) ⌝ }
+{
+    if !judging::axes_fit(reals, counts, g, rule.bins as u64, values) {
+        return Found {
+            eight: true,
+            nine: false,
+        };
+    }
+    let axes = renewal::update_axes(reals, counts, g, rule, values, rate);
+    let own = update_account(reals, counts, g.reals - 14, g.counts - 7);
+    either(axes, own)
+}
+
+// An axes grid: its axes, then its own accumulator.
 fn update_axes_grid(
     table: &[u64],
     reals: &mut [f64],
@@ -74,40 +108,34 @@ fn update_axes_grid(
     ensures { λ f. ⌜ found f (memory (now (reals .exit)) (now (counts .exit))) ≡ axesUpdated (now (table .entry)) rate w (memory (now (reals .entry)) (now (counts .entry))) ⌝ }
 {
     let g = layout::axes_place(table, w);
+    let rule = rule_at(table, w);
     let first = w + 11;
     let last = first + table[w + 8] as usize;
-    if !judging::axes_fit(reals, counts, g, table[w + 3], &table[first..last]) {
-        return Found {
-            eight: true,
-            nine: false,
-        };
+    update_standing(reals, counts, g, rule, &table[first..last], rate)
+}
+
+// What a bins grid's run says.
+fn bins_place(table: &[u64], w: usize) -> BinsAt
+    requires { ⌜ w + 7 ≤ length (now table) ⌝ }
+    ensures { λ b. ⌜ b ≡ binsPlace (now (table .entry)) w ⌝ }
+{
+    BinsAt {
+        bins: table[w + 2] as usize,
+        ratio: answers::double(table[w + 3]),
+        averages: table[w + 4] == 1,
+        reals: table[w + 5] as usize,
+        counts: table[w + 6] as usize,
     }
-    let axes = renewal::update_axes(
-        reals,
-        counts,
-        g,
-        rule_at(table, w),
-        &table[first..last],
-        rate,
-    );
-    let own = update_account(reals, counts, table[w + 9] as usize, table[w + 10] as usize);
-    either(axes, own)
 }
 
 // The accumulators of a bins grid's bins, one after the other.
-fn update_accounts(
-    table: &[u64],
-    reals: &mut [f64],
-    counts: &mut [u64],
-    level: usize,
-    w: usize,
-) -> Found
-    requires { ⌜ BinsLaid (Laid level (now table) (length (now reals)) (length (now counts))) (now table) (length (now reals)) (length (now counts)) w ⌝ }
-    ensures { λ f. ⌜ found f (memory (now (reals .exit)) (now (counts .exit))) ≡ accountsUpdated (now (table .entry)) w 0 (getD (now (table .entry)) (w + 2) 0) (memory (now (reals .entry)) (now (counts .entry))) ⌝ }
+fn update_accounts(reals: &mut [f64], counts: &mut [u64], b: BinsAt) -> Found
+    requires { ⌜ BinsFit b (length (now reals)) (length (now counts)) ⌝ }
+    ensures { λ f. ⌜ found f (memory (now (reals .exit)) (now (counts .exit))) ≡ binsUpdated (b .reals + 14 + b .bins) (b .counts + 7) 0 (b .bins) (memory (now (reals .entry)) (now (counts .entry))) ⌝ }
 {
-    let n = table[w + 2] as usize;
-    let r = table[w + 5] as usize + 14 + n;
-    let c = table[w + 6] as usize + 7;
+    let n = b.bins;
+    let r = b.reals + 14 + n;
+    let c = b.counts + 7;
     let mut eight = false;
     let mut nine = false;
     let mut i = 0;
@@ -131,22 +159,18 @@ fn is_idle(averages: bool, a: StatisticsAccumulator) -> bool
 }
 
 // Whether all of them do.
-fn are_idle(table: &[u64], reals: &[f64], counts: &[u64], level: usize, w: usize) -> bool
-    requires { ⌜ BinsLaid (Laid level (now table) (length (now reals)) (length (now counts))) (now table) (length (now reals)) (length (now counts)) w ⌝ }
-    ensures { λ o. ⌜ o ≡ idleIn (now (table .entry)) (memory (now (reals .entry)) (now (counts .entry))) w 0 (getD (now (table .entry)) (w + 2) 0) ⌝ }
+fn are_idle(reals: &[f64], counts: &[u64], b: BinsAt) -> bool
+    requires { ⌜ BinsFit b (length (now reals)) (length (now counts)) ⌝ }
+    ensures { λ o. ⌜ o ≡ binsIdle b (memory (now (reals .entry)) (now (counts .entry))) 0 (b .bins) ⌝ }
 {
-    let n = table[w + 2] as usize;
-    let averages = table[w + 4] == 1;
-    let r = table[w + 5] as usize + 14 + n;
-    let c = table[w + 6] as usize + 7;
+    let n = b.bins;
+    let r = b.reals + 14 + n;
+    let c = b.counts + 7;
     let mut all = true;
     let mut i = 0;
     while i < n {
-        all = all
-            & is_idle(
-                averages,
-                accounts::load(reals, counts, r + 14 * i, c + 7 * i),
-            );
+        let own = accounts::load(reals, counts, r + 14 * i, c + 7 * i);
+        all = all & is_idle(b.averages, own);
         i += 1;
     }
     all
@@ -166,41 +190,29 @@ fn raw_of(averages: bool, a: StatisticsAccumulator) -> f64
 }
 
 // The bins' raw probabilities.
-fn find_raws(table: &[u64], reals: &[f64], counts: &[u64], level: usize, w: usize, raws: &mut [f64])
-    requires { ⌜ BinsLaid (Laid level (now table) (length (now reals)) (length (now counts))) (now table) (length (now reals)) (length (now counts)) w
-        × (length (now raws) ≡ getD (now table) (w + 2) 0) ⌝ }
-    ensures { λ _. ⌜ now (raws .exit) ≡ rawsIn (now (table .entry)) (memory (now (reals .entry)) (now (counts .entry))) w 0 (getD (now (table .entry)) (w + 2) 0) ⌝ }
+fn find_raws(reals: &[f64], counts: &[u64], b: BinsAt, raws: &mut [f64])
+    requires { ⌜ BinsFit b (length (now reals)) (length (now counts)) × (length (now raws) ≡ b .bins) ⌝ }
+    ensures { λ _. ⌜ now (raws .exit) ≡ binsRaws b (memory (now (reals .entry)) (now (counts .entry))) 0 (b .bins) ⌝ }
 {
-    let n = table[w + 2] as usize;
-    let averages = table[w + 4] == 1;
-    let r = table[w + 5] as usize + 14 + n;
-    let c = table[w + 6] as usize + 7;
+    let n = b.bins;
+    let r = b.reals + 14 + n;
+    let c = b.counts + 7;
     let mut i = 0;
     while i < n {
-        raws[i] = raw_of(
-            averages,
-            accounts::load(reals, counts, r + 14 * i, c + 7 * i),
-        );
+        let own = accounts::load(reals, counts, r + 14 * i, c + 7 * i);
+        raws[i] = raw_of(b.averages, own);
         i += 1;
     }
 }
 
 // The probabilities that follow from the bins, laid down; 9 where one is not finite and above 0. The last is work room.
-fn lay_chances(
-    table: &[u64],
-    reals: &mut [f64],
-    counts: &[u64],
-    level: usize,
-    w: usize,
-    room: &mut [f64],
-) -> Found
-    requires { ⌜ BinsLaid (Laid level (now table) (length (now reals)) (length (now counts))) (now table) (length (now reals)) (length (now counts)) w
-        × (length (now room) ≡ getD (now table) (w + 2) 0) ⌝ }
-    ensures { λ f. ⌜ found f (memory (now (reals .exit)) (now (counts .entry))) ≡ chancesAdapted (now (table .entry)) w (memory (now (reals .entry)) (now (counts .entry))) ⌝ }
+fn lay_chances(reals: &mut [f64], counts: &[u64], b: BinsAt, room: &mut [f64]) -> Found
+    requires { ⌜ BinsFit b (length (now reals)) (length (now counts)) × (length (now room) ≡ b .bins) ⌝ }
+    ensures { λ f. ⌜ found f (memory (now (reals .exit)) (now (counts .entry))) ≡ chancesOf b (memory (now (reals .entry)) (now (counts .entry))) ⌝ }
 {
-    find_raws(table, reals, counts, level, w, room);
-    let fit = recut::adapt(room, answers::double(table[w + 3]));
-    parts::put_reals(reals, table[w + 5] as usize + 14, room);
+    find_raws(reals, counts, b, room);
+    let fit = recut::adapt(room, b.ratio);
+    parts::put_reals(reals, b.reals + 14, room);
     Found {
         eight: false,
         nine: !fit,
@@ -208,36 +220,41 @@ fn lay_chances(
 }
 
 // The probabilities that follow from the bins, found in work room of its own.
-fn adapt_chances(table: &[u64], reals: &mut [f64], counts: &[u64], level: usize, w: usize) -> Found
-    requires { ⌜ BinsLaid (Laid level (now table) (length (now reals)) (length (now counts))) (now table) (length (now reals)) (length (now counts)) w ⌝ }
-    ensures { λ f. ⌜ found f (memory (now (reals .exit)) (now (counts .entry))) ≡ chancesAdapted (now (table .entry)) w (memory (now (reals .entry)) (now (counts .entry))) ⌝ }
+fn adapt_chances(reals: &mut [f64], counts: &[u64], b: BinsAt) -> Found
+    requires { ⌜ BinsFit b (length (now reals)) (length (now counts)) ⌝ }
+    ensures { λ f. ⌜ found f (memory (now (reals .exit)) (now (counts .entry))) ≡ chancesOf b (memory (now (reals .entry)) (now (counts .entry))) ⌝ }
 {
-    let n = table[w + 2] as usize;
+    let n = b.bins;
     let mut room = [0.0f64; 256];
-    lay_chances(table, reals, counts, level, w, &mut room[0..n])
+    lay_chances(reals, counts, b, &mut room[0..n])
 }
 
 // A bins grid once its bins are updated: its probabilities and its own accumulator, but for an early return.
-fn adapt_bins(
-    table: &[u64],
-    reals: &mut [f64],
-    counts: &mut [u64],
-    level: usize,
-    w: usize,
-    rate: f64,
-) -> Found
-    requires { ⌜ BinsLaid (Laid level (now table) (length (now reals)) (length (now counts))) (now table) (length (now reals)) (length (now counts)) w ⌝ }
-    ensures { λ f. ⌜ found f (memory (now (reals .exit)) (now (counts .exit))) ≡ binsAdapted (now (table .entry)) rate w (memory (now (reals .entry)) (now (counts .entry))) ⌝ }
+fn adapt_bins(reals: &mut [f64], counts: &mut [u64], b: BinsAt, rate: f64) -> Found
+    requires { ⌜ BinsFit b (length (now reals)) (length (now counts)) ⌝ }
+    ensures { λ f. ⌜ found f (memory (now (reals .exit)) (now (counts .exit))) ≡ ownAdapted b rate (memory (now (reals .entry)) (now (counts .entry))) ⌝ }
 {
-    if (rate == 0.0) | are_idle(table, reals, counts, level, w) {
+    if (rate == 0.0) | are_idle(reals, counts, b) {
         return Found {
             eight: false,
             nine: false,
         };
     }
-    let chances = adapt_chances(table, reals, counts, level, w);
-    let own = update_account(reals, counts, table[w + 5] as usize, table[w + 6] as usize);
+    let chances = adapt_chances(reals, counts, b);
+    let own = update_account(reals, counts, b.reals, b.counts);
     either(chances, own)
+}
+
+// A bins grid once what hangs below it is updated: its bins' accumulators, then its own.
+fn update_bins(table: &[u64], reals: &mut [f64], counts: &mut [u64], w: usize, rate: f64) -> Found
+    requires { ⌜ (w + 7 ≤ length (now table)) × BinsFit (binsPlace (now table) w) (length (now reals)) (length (now counts)) ⌝ }
+    ensures { λ f. ⌜ found f (memory (now (reals .exit)) (now (counts .exit))) ≡
+        followed (accountsUpdated (now (table .entry)) w 0 (getD (now (table .entry)) (w + 2) 0) (memory (now (reals .entry)) (now (counts .entry)))) (binsAdapted (now (table .entry)) rate w) ⌝ }
+{
+    let b = bins_place(table, w);
+    let accounts = update_accounts(reals, counts, b);
+    let own = adapt_bins(reals, counts, b, rate);
+    either(accounts, own)
 }
 
 // What hangs at a link: nothing where it is 0.
@@ -310,7 +327,6 @@ pub fn update_grid(
     }
     let below = level - 1;
     let children = update_children(table, reals, counts, below, w, bins_rate, axes_rate);
-    let accounts = update_accounts(table, reals, counts, below, w);
-    let own = adapt_bins(table, reals, counts, below, w, bins_rate);
-    either(either(children, accounts), own)
+    let own = update_bins(table, reals, counts, w, bins_rate);
+    either(children, own)
 }

@@ -1,6 +1,7 @@
 // The update of axes in lent memory: each axis is judged on work slices, and written only once it is known to be accepted.
 ghost use mathlib.Core.Path.{_≡_};
 ghost use mathlib.Core.Bool.{_&&_};
+ghost use mathlib.Core.List.{[]};
 ghost use Prim.Native.Nat.{_+_, _*_, _≤_};
 ghost use lib.ListN.{length, getD};
 ghost use Rattle.doubles.specs.Total.{allFinite};
@@ -126,7 +127,8 @@ fn recut_into(
     }
 }
 
-// A re-cut to the bin number that follows. Refused: 8 where its number of re-cuts would be above 2^53, and what the cut itself refuses.
+// A re-cut to the rule's bins, cut in room of its own. Refused: 8 where the number of re-cuts would be above 2^53, and what the cut
+// itself refuses.
 fn recut_axis(
     reals: &mut [f64],
     counts: &mut [u64],
@@ -134,15 +136,13 @@ fn recut_axis(
     r: usize,
     c: usize,
     rule: Rule,
-    values: &[u64],
     rate: f64,
     importances: &mut [f64],
     counters: &[u64],
-    room: &mut [f64],
 ) -> Found
-    requires { ⌜ Roomy most (length (now importances)) r c (now reals) (now counts) × Within most rule (now values) × (most + 1 ≤ length (now room)) ⌝ }
+    requires { ⌜ Roomy most (length (now importances)) r c (now reals) (now counts) × (rule .bins ≤ most) ⌝ }
     ensures { λ f. ⌜ found f (memory (now (reals .exit)) (now (counts .exit))) ≡
-        recutAt rule (now (values .entry)) rate most r c (now (importances .entry)) (now (counters .entry)) (memory (now (reals .entry)) (now (counts .entry))) ⌝ }
+        recutAt rule [] rate most r c (now (importances .entry)) (now (counters .entry)) (memory (now (reals .entry)) (now (counts .entry))) ⌝ }
 {
     let recuts = counts[c + 1];
     if 9007199254740992 <= recuts {
@@ -151,8 +151,9 @@ fn recut_axis(
             nine: false,
         };
     }
-    let n = bins_after(rule, values, recuts);
+    let n = rule.bins;
     let places = n + 1;
+    let mut room = [0.0f64; 1025];
     recut_into(
         reals,
         counts,
@@ -177,16 +178,13 @@ fn adapt(
     r: usize,
     c: usize,
     rule: Rule,
-    values: &[u64],
     rate: f64,
     importances: &mut [f64],
     counters: &[u64],
-    room: &mut [f64],
 ) -> Found
-    requires { ⌜ Roomy most (length (now importances)) r c (now reals) (now counts) × (length (now counters) ≡ length (now importances))
-        × Within most rule (now values) × (most + 1 ≤ length (now room)) ⌝ }
+    requires { ⌜ Roomy most (length (now importances)) r c (now reals) (now counts) × (length (now counters) ≡ length (now importances)) × (rule .bins ≤ most) ⌝ }
     ensures { λ f. ⌜ found f (memory (now (reals .exit)) (now (counts .exit))) ≡
-        adaptedAt rule (now (values .entry)) rate most r c (now (importances .entry)) (now (counters .entry)) (memory (now (reals .entry)) (now (counts .entry))) ⌝ }
+        adaptedAt rule [] rate most r c (now (importances .entry)) (now (counters .entry)) (memory (now (reals .entry)) (now (counts .entry))) ⌝ }
 {
     if !may_be_kept(importances, counters) {
         return Found {
@@ -209,19 +207,7 @@ fn adapt(
             nine: false,
         };
     }
-    recut_axis(
-        reals,
-        counts,
-        most,
-        r,
-        c,
-        rule,
-        values,
-        rate,
-        importances,
-        counters,
-        room,
-    )
+    recut_axis(reals, counts, most, r, c, rule, rate, importances, counters)
 }
 
 // Where the column that is trained on begins: the sums on averages, the squares else.
@@ -235,7 +221,7 @@ fn trained_from(averages: bool, most: usize) -> usize
     3 * most + 1
 }
 
-// The update of an axis, with room for the importances and counters of just its bins.
+// The update of an axis to the rule's bins, with room for the importances and counters of just those that it holds.
 fn renew_axis(
     reals: &mut [f64],
     counts: &mut [u64],
@@ -243,36 +229,22 @@ fn renew_axis(
     r: usize,
     c: usize,
     rule: Rule,
-    values: &[u64],
     rate: f64,
     importances: &mut [f64],
     counters: &mut [u64],
-    room: &mut [f64],
 ) -> Found
     requires { ⌜ Roomy most (length (now importances)) r c (now reals) (now counts) × (length (now importances) ≡ getD (now counts) c 0)
-        × (length (now counters) ≡ getD (now counts) c 0) × Within most rule (now values) × (most + 1 ≤ length (now room)) ⌝ }
+        × (length (now counters) ≡ getD (now counts) c 0) × (rule .bins ≤ most) ⌝ }
     ensures { λ f. ⌜ found f (memory (now (reals .exit)) (now (counts .exit))) ≡
-        updateAt rule (now (values .entry)) rate most r c (memory (now (reals .entry)) (now (counts .entry))) ⌝ }
+        updateAt rule [] rate most r c (memory (now (reals .entry)) (now (counts .entry))) ⌝ }
 {
     let trained = trained_from(rule.averages, most);
     gather_importances(importances, reals, r + (most + 1), r + trained);
     gather_counters(counters, counts, c + (2 * most + 2), c + 2);
-    adapt(
-        reals,
-        counts,
-        most,
-        r,
-        c,
-        rule,
-        values,
-        rate,
-        importances,
-        counters,
-        room,
-    )
+    adapt(reals, counts, most, r, c, rule, rate, importances, counters)
 }
 
-// The update of an axis: new edges, or what it gathered, or a finding; then it stays as it was. The last three are work room.
+// The update of an axis: new edges, or what it gathered, or a finding; then it stays as it was. The last two are work room.
 pub fn update_axis(
     reals: &mut [f64],
     counts: &mut [u64],
@@ -284,26 +256,25 @@ pub fn update_axis(
     rate: f64,
     importances: &mut [f64],
     counters: &mut [u64],
-    room: &mut [f64],
 ) -> Found
     requires { ⌜ Roomy most (getD (now counts) c 0) r c (now reals) (now counts) × Within most rule (now values) × (most ≤ length (now importances))
-        × (most ≤ length (now counters)) × (most + 1 ≤ length (now room)) ⌝ }
+        × (most ≤ length (now counters)) ⌝ }
     ensures { λ f. ⌜ found f (memory (now (reals .exit)) (now (counts .exit))) ≡
         updateAt rule (now (values .entry)) rate most r c (memory (now (reals .entry)) (now (counts .entry))) ⌝ }
 {
     let n = counts[c] as usize;
+    let mut next = rule;
+    next.bins = bins_after(rule, values, counts[c + 1]);
     renew_axis(
         reals,
         counts,
         most,
         r,
         c,
-        rule,
-        values,
+        next,
         rate,
         &mut importances[0..n],
         &mut counters[0..n],
-        room,
     )
 }
 
@@ -317,23 +288,26 @@ fn update_each(
     rate: f64,
     importances: &mut [f64],
     counters: &mut [u64],
-    room: &mut [f64],
 ) -> Found
     requires { ⌜ Stands (now reals) (now counts) g × Within (g .most) rule (now values) × (g .most ≤ length (now importances))
-        × (g .most ≤ length (now counters)) × (g .most + 1 ≤ length (now room)) ⌝ }
+        × (g .most ≤ length (now counters)) ⌝ }
     ensures { λ f. ⌜ found f (memory (now (reals .exit)) (now (counts .exit))) ≡
         updateAllAt rule (now (values .entry)) rate (g .most) (g .axes) (g .reals) (g .counts) (memory (now (reals .entry)) (now (counts .entry))) ⌝ }
 {
+    let most = g.most;
+    let axes = g.axes;
+    let reals_each = 6 * most + 1;
+    let counts_each = 3 * most + 2;
     let mut eight = false;
     let mut nine = false;
     let mut r = g.reals;
     let mut c = g.counts;
     let mut done = 0;
-    while done < g.axes {
+    while done < axes {
         let found = update_axis(
             reals,
             counts,
-            g.most,
+            most,
             r,
             c,
             rule,
@@ -341,12 +315,11 @@ fn update_each(
             rate,
             importances,
             counters,
-            room,
         );
         eight = eight | found.eight;
         nine = nine | found.nine;
-        r = r + (6 * g.most + 1);
-        c = c + (3 * g.most + 2);
+        r = r + reals_each;
+        c = c + counts_each;
         done += 1;
     }
     Found { eight, nine }
@@ -367,7 +340,6 @@ pub fn update_axes(
 {
     let mut importances = [0.0f64; 1024];
     let mut counters = [0u64; 1024];
-    let mut room = [0.0f64; 1025];
     update_each(
         reals,
         counts,
@@ -377,6 +349,5 @@ pub fn update_axes(
         rate,
         &mut importances,
         &mut counters,
-        &mut room,
     )
 }

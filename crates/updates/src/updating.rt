@@ -6,7 +6,9 @@ ghost use Rattle.plan.specs.Calls.{sizesOf};
 ghost use Rattle.model.specs.Update.{rateFits};
 ghost use Rattle.lent.specs.Memory.{memory};
 ghost use Rattle.lent.specs.Tree.{Laid};
+ghost use Rattle.lent.specs.State.{faultTo};
 ghost use Rattle.lent.specs.Calls.{stateEnd, renewedOver, updatedBy};
+ghost use Rattle.updates.specs.Refused.{refusedFor};
 use crate::adapting;
 use crate::parts;
 use judges::state;
@@ -47,6 +49,28 @@ fn update_over(
     0
 }
 
+// What refuses the update before it is worked out: the state and the room of its spare, then a rate; 0 where nothing does.
+fn refusal(
+    table: &[u64],
+    reals: &[f64],
+    counts: &[u64],
+    places: usize,
+    tallies: usize,
+    bins_rate: f64,
+    axes_rate: f64,
+) -> u64
+    ensures { λ n. ⌜ n ≡ refusedFor (faultTo (now (table .entry)) (now (reals .entry)) (now (counts .entry)) places tallies) «bins_rate» «axes_rate» ⌝ }
+{
+    let fault = state::fault_to(table, reals, counts, places, tallies);
+    if fault != 0 {
+        return fault;
+    }
+    if !(is_rate(bins_rate) & is_rate(axes_rate)) {
+        return 3;
+    }
+    0
+}
+
 // The update of a state whose plan needs so much. Refused: 10, 12, 3, 8, 9.
 pub fn update_state(
     table: &[u64],
@@ -62,12 +86,11 @@ pub fn update_state(
     ensures { λ n. ⌜ stateEnd n (memory (now (reals .exit)) (now (counts .exit))) ≡
         updatedBy (now (table .entry)) «bins_rate» «axes_rate» (length (now («spare_reals» .entry))) (length (now («spare_counts» .entry))) (memory (now (reals .entry)) (now (counts .entry))) needs ⌝ }
 {
-    let refused = state::fault_to(table, reals, counts, spare_reals.len(), spare_counts.len());
+    let places = spare_reals.len();
+    let tallies = spare_counts.len();
+    let refused = refusal(table, reals, counts, places, tallies, bins_rate, axes_rate);
     if refused != 0 {
         return refused;
-    }
-    if !(is_rate(bins_rate) & is_rate(axes_rate)) {
-        return 3;
     }
     let last = needs.reals;
     let end = needs.counts;

@@ -1,3 +1,5 @@
+-- The cycle meets its contracts: a child by its link, children as the loop's finding with what is left, a grid by its kind; levels fall.
+use Rattle.updates.proofs.Own.{own-fits, grid-updated}
 use mathlib.Core.Path.{_≡_, refl, sym, ap, _∙_}
 use mathlib.Core.Bool.{false}
 use Prim.Native.Nat.{ℕ, _+_, _-_, _*_, _≤_}
@@ -9,7 +11,7 @@ use Rattle.lent.specs.Turns.{childrenTurned}
 use Rattle.lent.specs.Adapted.{followed, updatedIn}
 use Rattle.lent.proofs.Laid.{laid-axes, laid-bins, laid-head}
 use Rattle.lent.proofs.Founds.{laid-kept, bins-kept}
-use Rattle.lent.proofs.Adapts.{none-turned, some-turned, turned-next, turned-done, grid-updated-axes, grid-updated-bins}
+use Rattle.lent.proofs.Adapts.{none-turned, some-turned, turned-next, turned-done, grid-updated-axes}
 use borrow.Author.Needs.{needs}
 use Prim.Native.Nat.{ℕ, _<_}
 use borrow.Fn.Kinds.{In}
@@ -23,9 +25,8 @@ use Rattle.updates.proofs.adapting.+update_child+update_children+update
 use Rattle.updates.proofs.adapting.update_grid.Reads as update-grid
 use Rattle.updates.proofs.adapting.update_grid.Kinds as update-grid-kinds
 use Rattle.updates.proofs.adapting.+update_child+update_children+update_grid.Lts-update_grid as update-grid-lts
-use Rattle.updates.proofs.adapting.adapt_bins.Reads as adapt-bins-reads
 use Rattle.updates.proofs.adapting.either.Reads as either-reads
-use Rattle.updates.proofs.adapting.update_accounts.Reads as update-accounts-reads
+use Rattle.updates.proofs.adapting.update_bins.Reads as update-bins-reads
 use Rattle.updates.proofs.adapting.update_axes_grid.Reads as update-axes-grid-reads
 use Rattle.updates.proofs.adapting.+update_child+update_children+update_grid.{statement}
 use Rattle.updates.proofs.adapting.+update_child+update_children+update_grid.Tie.{close}
@@ -75,35 +76,30 @@ abbrev update-grid-below : ℕ → In 3 update-grid-kinds.ps
 update-grid-below t =
     and 3 update-grid-kinds.ps (falls 3 update-grid-kinds.ps _<_ μ-update-grid t) update-grid.Pre
 
--- src/adapting.rt:247:9
 update-child-returns : (t : ℕ) → update-child-lts.Need-returns (
   update-grid-below t,
   update-grid.Post,
 ) (update-child-at t) update-child.Post
 update-child-returns t c = none-turned (updatedIn (c .before .before .before .before .args .level) (c .before .before .before .before .args .table .now) (c .before .before .before .before .args .bins-rate) (c .before .before .before .before .args .axes-rate)) (c .before .before .before .before .args .link) (memory (c .before .before .before .before .args .reals .now) (c .before .before .before .before .args .counts .now)) (c .if1 .taken)
 
--- src/adapting.rt:252:5
 update-child-update-grid-requires : (t : ℕ) → update-child-lts.Need-update-grid-requires (
   update-grid-below t,
   update-grid.Post,
 ) (update-child-at t) update-child.Post
 update-child-update-grid-requires t c κs = (omega (arith, c .before .before .before .before .before .before .pre .0), c .before .before .before .before .before .before .pre .1 (c .before .before .if1 .left))
 
--- src/adapting.rt:233:1
 update-child-same-length : (t : ℕ) → update-child-lts.Need-same-length (
   update-grid-below t,
   update-grid.Post,
 ) (update-child-at t) update-child.Post
 update-child-same-length t c = c .before .before .before .before .update-grid .kept .1 .0
 
--- src/adapting.rt:233:1
 update-child-same-length-2 : (t : ℕ) → update-child-lts.Need-same-length-2 (
   update-grid-below t,
   update-grid.Post,
 ) (update-child-at t) update-child.Post
 update-child-same-length-2 t c = c .before .before .before .before .update-grid .kept .1 .1 .0
 
--- src/adapting.rt:233:1
 update-child-returns-2 : (t : ℕ) → update-child-lts.Need-returns-2 (
   update-grid-below t,
   update-grid.Post,
@@ -116,28 +112,24 @@ update-children-Inv-loop table reals₀ counts₀ level w bins-rate axes-rate n 
 abbrev update-children-μ-loop : update-children-lts.MeasureT-loop
 update-children-μ-loop table reals₀ counts₀ level w bins-rate axes-rate n eight₀ nine₀ i₀ reals counts eight nine i = n - i
 
--- src/adapting.rt:269:19
 update-children-add-n : (t : ℕ) → update-children-lts.Need-add-n (
   update-child-below t,
   update-child.Post,
 ) (update-children-at t) update-children.Post update-children-Inv-loop update-children-μ-loop
 update-children-add-n t c = omega (arith, c .before .before .before .pre .1)
 
--- src/adapting.rt:269:13
 update-children-mul-n : (t : ℕ) → update-children-lts.Need-mul-n (
   update-child-below t,
   update-child.Post,
 ) (update-children-at t) update-children.Post update-children-Inv-loop update-children-μ-loop
 update-children-mul-n t c = omega (arith, c .before .before .before .pre .1)
 
--- src/adapting.rt:269:13
 update-children-shared-slice-read-n : (t : ℕ) → update-children-lts.Need-shared-slice-read-n (
   update-child-below t,
   update-child.Post,
 ) (update-children-at t) update-children.Post update-children-Inv-loop update-children-μ-loop
 update-children-shared-slice-read-n t c = omega (arith, c .before .before .before .before .pre .1)
 
--- src/adapting.rt:273:5
 update-children-loop-holds : (t : ℕ) → update-children-lts.Need-loop-holds (
   update-child-below t,
   update-child.Post,
@@ -145,307 +137,229 @@ update-children-loop-holds : (t : ℕ) → update-children-lts.Need-loop-holds (
 unfolding followed
 update-children-loop-holds t c = let e : (getD (c .before .before .before .before .args .table .now) (c .before .before .before .before .args .w + 2) 0) - 0 ≡ (getD (c .before .before .before .before .args .table .now) (c .before .before .before .before .args .w + 2) 0) = omega arith in (omega arith, refl, refl, rw e)
 
--- src/adapting.rt:274:26
 update-children-add-link : (t : ℕ) → update-children-lts.Need-add-link (
   update-child-below t,
   update-child.Post,
 ) (update-children-at t) update-children.Post update-children-Inv-loop update-children-μ-loop
 update-children-add-link t c = omega (arith, c .before .before .before .before .before .before .pre .1, c .loop-test .taken)
 
--- src/adapting.rt:274:26
 update-children-add-link-2 : (t : ℕ) → update-children-lts.Need-add-link-2 (
   update-child-below t,
   update-child.Post,
 ) (update-children-at t) update-children.Post update-children-Inv-loop update-children-μ-loop
 update-children-add-link-2 t c = omega (arith, c .before .before .before .before .before .before .pre .1, c .loop-test .taken)
 
--- src/adapting.rt:274:20
 update-children-mul-link : (t : ℕ) → update-children-lts.Need-mul-link (
   update-child-below t,
   update-child.Post,
 ) (update-children-at t) update-children.Post update-children-Inv-loop update-children-μ-loop
 update-children-mul-link t c = omega (arith, c .before .before .before .before .before .before .pre .1, c .loop-test .taken)
 
--- src/adapting.rt:274:20
 update-children-shared-slice-read-link : (t : ℕ) → update-children-lts.Need-shared-slice-read-link (
   update-child-below t,
   update-child.Post,
 ) (update-children-at t) update-children.Post update-children-Inv-loop update-children-μ-loop
 update-children-shared-slice-read-link t c = omega (arith, c .before .before .before .before .before .before .before .pre .1, c .before .loop-test .taken)
 
--- src/adapting.rt:275:13
 update-children-update-child-requires : (t : ℕ) → update-children-lts.Need-update-child-requires (
   update-child-below t,
   update-child.Post,
 ) (update-children-at t) update-children.Post update-children-Inv-loop update-children-μ-loop
 update-children-update-child-requires t c κs = (omega (arith, c .before .before .before .before .before .before .before .before .before .pre .0), λ z. laid-kept (c .before .before .before .before .before .before .before .before .before .args .level) (c .before .before .before .before .before .before .before .before .before .args .table .now) (length (c .before .before .before .before .before .before .before .before .before .args .reals .now)) (length (c .before .before .before .before .before .before .before .before .before .args .counts .now)) (length (c .before .before .before .before .loop .reals)) (length (c .before .before .before .before .loop .counts)) (getD (c .before .before .before .before .before .before .before .before .before .args .table .now) (c .before .before .before .before .before .before .before .before .before .args .w + 7 + c .before .before .before .before .loop .i) 0) (c .before .before .before .before .loop .inv .1) (c .before .before .before .before .loop .inv .2) (c .before .before .before .before .before .before .before .before .before .pre .1 .children (c .before .before .before .before .loop .i) (c .before .before .before .loop-test .taken) z))
 
--- src/adapting.rt:278:9
 update-children-add-i : (t : ℕ) → update-children-lts.Need-add-i (
   update-child-below t,
   update-child.Post,
 ) (update-children-at t) update-children.Post update-children-Inv-loop update-children-μ-loop
 update-children-add-i t c = omega (arith, c .before .before .before .before .before .before .before .before .before .before .before .before .before .before .before .before .pre .1, c .before .before .before .before .before .before .before .before .before .before .loop-test .taken)
 
--- src/adapting.rt:273:5
 update-children-loop-less : (t : ℕ) → update-children-lts.Need-loop-less (
   update-child-below t,
   update-child.Post,
 ) (update-children-at t) update-children.Post update-children-Inv-loop update-children-μ-loop
 update-children-loop-less t c = omega (arith, c .before .before .before .before .before .before .before .before .before .before .loop-test .taken)
 
--- src/adapting.rt:273:5
 update-children-loop-again : (t : ℕ) → update-children-lts.Need-loop-again (
   update-child-below t,
   update-child.Post,
 ) (update-children-at t) update-children.Post update-children-Inv-loop update-children-μ-loop
 update-children-loop-again t c = (omega (arith, c .before .before .before .before .before .before .before .before .before .before .loop-test .taken), c .before .before .before .before .before .before .update-child .kept .1 .0 ∙ c .before .before .before .before .before .before .before .before .before .before .before .loop .inv .1, c .before .before .before .before .before .before .update-child .kept .1 .1 .0 ∙ c .before .before .before .before .before .before .before .before .before .before .before .loop .inv .2, turned-next (c .before .before .before .before .before .before .before .before .before .before .before .before .before .before .before .before .args .table .now) (c .before .before .before .before .before .before .before .before .before .before .before .before .before .before .before .before .args .w) (getD (c .before .before .before .before .before .before .before .before .before .before .before .before .before .before .before .before .args .table .now) (c .before .before .before .before .before .before .before .before .before .before .before .before .before .before .before .before .args .w + 2) 0) (updatedIn (c .before .before .before .before .before .before .before .before .before .before .before .before .before .before .before .before .args .level) (c .before .before .before .before .before .before .before .before .before .before .before .before .before .before .before .before .args .table .now) (c .before .before .before .before .before .before .before .before .before .before .before .before .before .before .before .before .args .bins-rate) (c .before .before .before .before .before .before .before .before .before .before .before .before .before .before .before .before .args .axes-rate)) (c .before .before .before .before .before .before .before .before .before .before .before .loop .i) (c .before .before .before .before .before .before .before .before .before .before .before .loop .eight) (c .before .before .before .before .before .before .before .before .before .before .before .loop .nine) (memory (c .before .before .before .before .before .before .before .before .before .before .before .loop .reals) (c .before .before .before .before .before .before .before .before .before .before .before .loop .counts)) (memory (c .before .before .before .before .before .before .update-child .last .1 .0) (c .before .before .before .before .before .before .update-child .last .1 .1 .0)) (c .before .before .before .before .before .before .update-child .result) (c .before .before .before .before .before .before .before .before .before .before .loop-test .taken) (c .before .before .before .before .before .before .update-child .ensures) ∙ c .before .before .before .before .before .before .before .before .before .before .before .loop .inv .3)
 
--- src/adapting.rt:256:1
 update-children-same-length : (t : ℕ) → update-children-lts.Need-same-length (
   update-child-below t,
   update-child.Post,
 ) (update-children-at t) update-children.Post update-children-Inv-loop update-children-μ-loop
 update-children-same-length t c = c .before .loop .inv .1
 
--- src/adapting.rt:256:1
 update-children-same-length-2 : (t : ℕ) → update-children-lts.Need-same-length-2 (
   update-child-below t,
   update-child.Post,
 ) (update-children-at t) update-children.Post update-children-Inv-loop update-children-μ-loop
 update-children-same-length-2 t c = c .before .loop .inv .2
 
--- src/adapting.rt:256:1
 update-children-returns : (t : ℕ) → update-children-lts.Need-returns (
   update-child-below t,
   update-child.Post,
 ) (update-children-at t) update-children.Post update-children-Inv-loop update-children-μ-loop
 update-children-returns t c = sym (turned-done (c .before .before .before .before .before .before .args .table .now) (c .before .before .before .before .before .before .args .w) (getD (c .before .before .before .before .before .before .args .table .now) (c .before .before .before .before .before .before .args .w + 2) 0) (updatedIn (c .before .before .before .before .before .before .args .level) (c .before .before .before .before .before .before .args .table .now) (c .before .before .before .before .before .before .args .bins-rate) (c .before .before .before .before .before .before .args .axes-rate)) (c .before .loop .i) (finding (c .before .loop .eight) (c .before .loop .nine) (memory (c .before .loop .reals) (c .before .loop .counts))) (c .loop-test .left)) ∙ c .before .loop .inv .3
 
--- src/adapting.rt:297:8
 update-grid-mul-if1 : (t : ℕ) → update-grid-lts.Need-mul-if1 (
   update-axes-grid-reads.Asked,
   update-axes-grid-reads.Learnt,
   update-children-below t,
   update-children.Post,
-  update-accounts-reads.Asked,
-  update-accounts-reads.Learnt,
-  adapt-bins-reads.Asked,
-  adapt-bins-reads.Learnt,
+  update-bins-reads.Asked,
+  update-bins-reads.Learnt,
   either-reads.Asked,
   either-reads.Learnt,
 ) (update-grid-at t) update-grid.Post
-update-grid-mul-if1 t c = omega (arith, laid-head (c .before .before .before .args .level) (c .before .before .before .args .table .now) (length (c .before .before .before .args .reals .now)) (length (c .before .before .before .args .counts .now)) (c .before .before .before .args .w) (c .before .before .before .pre .1))
+update-grid-mul-if1 t c = let start = c .before .before .before in omega (arith, laid-head (start .args .level) (start .args .table .now) (length (start .args .reals .now)) (length (start .args .counts .now)) (start .args .w) (start .pre .1))
 
--- src/adapting.rt:297:8
 update-grid-shared-slice-read-if1 : (t : ℕ) → update-grid-lts.Need-shared-slice-read-if1 (
   update-axes-grid-reads.Asked,
   update-axes-grid-reads.Learnt,
   update-children-below t,
   update-children.Post,
-  update-accounts-reads.Asked,
-  update-accounts-reads.Learnt,
-  adapt-bins-reads.Asked,
-  adapt-bins-reads.Learnt,
+  update-bins-reads.Asked,
+  update-bins-reads.Learnt,
   either-reads.Asked,
   either-reads.Learnt,
 ) (update-grid-at t) update-grid.Post
-update-grid-shared-slice-read-if1 t c = omega (arith, laid-head (c .before .before .before .before .args .level) (c .before .before .before .before .args .table .now) (length (c .before .before .before .before .args .reals .now)) (length (c .before .before .before .before .args .counts .now)) (c .before .before .before .before .args .w) (c .before .before .before .before .pre .1))
+update-grid-shared-slice-read-if1 t c = let start = c .before .before .before .before in omega (arith, laid-head (start .args .level) (start .args .table .now) (length (start .args .reals .now)) (length (start .args .counts .now)) (start .args .w) (start .pre .1))
 
--- src/adapting.rt:298:9
 update-grid-update-axes-grid-requires : (t : ℕ) → update-grid-lts.Need-update-axes-grid-requires (
   update-axes-grid-reads.Asked,
   update-axes-grid-reads.Learnt,
   update-children-below t,
   update-children.Post,
-  update-accounts-reads.Asked,
-  update-accounts-reads.Learnt,
-  adapt-bins-reads.Asked,
-  adapt-bins-reads.Learnt,
+  update-bins-reads.Asked,
+  update-bins-reads.Learnt,
   either-reads.Asked,
   either-reads.Learnt,
 ) (update-grid-at t) update-grid.Post
-update-grid-update-axes-grid-requires t c κs = laid-axes (c .before .before .before .before .before .before .before .args .level) (c .before .before .before .before .before .before .before .args .table .now) (length (c .before .before .before .before .before .before .before .args .reals .now)) (length (c .before .before .before .before .before .before .before .args .counts .now)) (c .before .before .before .before .before .before .before .args .w) (c .before .before .before .before .before .before .before .pre .1) (c .before .before .if1 .taken)
+update-grid-update-axes-grid-requires t c κs = let start = c .before .before .before .before .before .before .before in laid-axes (start .args .level) (start .args .table .now) (length (start .args .reals .now)) (length (start .args .counts .now)) (start .args .w) (start .pre .1) (c .before .before .if1 .taken)
 
--- src/adapting.rt:298:9
 update-grid-same-length : (t : ℕ) → update-grid-lts.Need-same-length (
   update-axes-grid-reads.Asked,
   update-axes-grid-reads.Learnt,
   update-children-below t,
   update-children.Post,
-  update-accounts-reads.Asked,
-  update-accounts-reads.Learnt,
-  adapt-bins-reads.Asked,
-  adapt-bins-reads.Learnt,
+  update-bins-reads.Asked,
+  update-bins-reads.Learnt,
   either-reads.Asked,
   either-reads.Learnt,
 ) (update-grid-at t) update-grid.Post
 update-grid-same-length t c = c .before .before .before .before .update-axes-grid .kept .1 .0
 
--- src/adapting.rt:298:9
 update-grid-same-length-2 : (t : ℕ) → update-grid-lts.Need-same-length-2 (
   update-axes-grid-reads.Asked,
   update-axes-grid-reads.Learnt,
   update-children-below t,
   update-children.Post,
-  update-accounts-reads.Asked,
-  update-accounts-reads.Learnt,
-  adapt-bins-reads.Asked,
-  adapt-bins-reads.Learnt,
+  update-bins-reads.Asked,
+  update-bins-reads.Learnt,
   either-reads.Asked,
   either-reads.Learnt,
 ) (update-grid-at t) update-grid.Post
 update-grid-same-length-2 t c = c .before .before .before .before .update-axes-grid .kept .1 .1 .0
 
--- src/adapting.rt:298:9
 update-grid-returns : (t : ℕ) → update-grid-lts.Need-returns (
   update-axes-grid-reads.Asked,
   update-axes-grid-reads.Learnt,
   update-children-below t,
   update-children.Post,
-  update-accounts-reads.Asked,
-  update-accounts-reads.Learnt,
-  adapt-bins-reads.Asked,
-  adapt-bins-reads.Learnt,
+  update-bins-reads.Asked,
+  update-bins-reads.Learnt,
   either-reads.Asked,
   either-reads.Learnt,
 ) (update-grid-at t) update-grid.Post
-update-grid-returns t c = c .before .before .before .before .update-axes-grid .ensures ∙ grid-updated-axes (c .before .before .before .before .before .before .before .before .before .before .before .before .args .level) (c .before .before .before .before .before .before .before .before .before .before .before .before .args .table .now) (c .before .before .before .before .before .before .before .before .before .before .before .before .args .bins-rate) (c .before .before .before .before .before .before .before .before .before .before .before .before .args .axes-rate) (c .before .before .before .before .before .before .before .before .before .before .before .before .args .w) (memory (c .before .before .before .before .before .before .before .before .before .before .before .before .args .reals .now) (c .before .before .before .before .before .before .before .before .before .before .before .before .args .counts .now)) (c .before .before .before .before .before .before .before .if1 .taken)
+update-grid-returns t c = let start = c .before .before .before .before .before .before .before .before .before .before .before .before in c .before .before .before .before .update-axes-grid .ensures ∙ grid-updated-axes (start .args .level) (start .args .table .now) (start .args .bins-rate) (start .args .axes-rate) (start .args .w) (memory (start .args .reals .now) (start .args .counts .now)) (c .before .before .before .before .before .before .before .if1 .taken)
 
--- src/adapting.rt:300:17
 update-grid-sub-below : (t : ℕ) → update-grid-lts.Need-sub-below (
   update-axes-grid-reads.Asked,
   update-axes-grid-reads.Learnt,
   update-children-below t,
   update-children.Post,
-  update-accounts-reads.Asked,
-  update-accounts-reads.Learnt,
-  adapt-bins-reads.Asked,
-  adapt-bins-reads.Learnt,
+  update-bins-reads.Asked,
+  update-bins-reads.Learnt,
   either-reads.Asked,
   either-reads.Learnt,
 ) (update-grid-at t) update-grid.Post
-update-grid-sub-below t c = omega (arith, (laid-bins (c .before .before .before .before .before .args .level) (c .before .before .before .before .before .args .table .now) (length (c .before .before .before .before .before .args .reals .now)) (length (c .before .before .before .before .before .args .counts .now)) (c .before .before .before .before .before .args .w) (c .before .before .before .before .before .pre .1) (c .if1 .left)) .level)
+update-grid-sub-below t c = let start = c .before .before .before .before .before in omega (arith, (laid-bins (start .args .level) (start .args .table .now) (length (start .args .reals .now)) (length (start .args .counts .now)) (start .args .w) (start .pre .1) (c .if1 .left)) .level)
 
--- src/adapting.rt:301:9
 update-grid-update-children-requires : (t : ℕ) → update-grid-lts.Need-update-children-requires (
   update-axes-grid-reads.Asked,
   update-axes-grid-reads.Learnt,
   update-children-below t,
   update-children.Post,
-  update-accounts-reads.Asked,
-  update-accounts-reads.Learnt,
-  adapt-bins-reads.Asked,
-  adapt-bins-reads.Learnt,
+  update-bins-reads.Asked,
+  update-bins-reads.Learnt,
   either-reads.Asked,
   either-reads.Learnt,
 ) (update-grid-at t) update-grid.Post
-update-grid-update-children-requires t c κs = (omega (arith, c .before .before .before .before .before .before .before .pre .0, (laid-bins (c .before .before .before .before .before .before .before .args .level) (c .before .before .before .before .before .before .before .args .table .now) (length (c .before .before .before .before .before .before .before .args .reals .now)) (length (c .before .before .before .before .before .before .before .args .counts .now)) (c .before .before .before .before .before .before .before .args .w) (c .before .before .before .before .before .before .before .pre .1) (c .before .before .if1 .left)) .level), (laid-bins (c .before .before .before .before .before .before .before .args .level) (c .before .before .before .before .before .before .before .args .table .now) (length (c .before .before .before .before .before .before .before .args .reals .now)) (length (c .before .before .before .before .before .before .before .args .counts .now)) (c .before .before .before .before .before .before .before .args .w) (c .before .before .before .before .before .before .before .pre .1) (c .before .before .if1 .left)) .bins)
+update-grid-update-children-requires t c κs = let start = c .before .before .before .before .before .before .before in let laid = laid-bins (start .args .level) (start .args .table .now) (length (start .args .reals .now)) (length (start .args .counts .now)) (start .args .w) (start .pre .1) (c .before .before .if1 .left) in (omega (arith, start .pre .0, laid .level), laid .bins)
 
--- src/adapting.rt:302:9
-update-grid-update-accounts-requires : (t : ℕ) → update-grid-lts.Need-update-accounts-requires (
+update-grid-update-bins-requires : (t : ℕ) → update-grid-lts.Need-update-bins-requires (
   update-axes-grid-reads.Asked,
   update-axes-grid-reads.Learnt,
   update-children-below t,
   update-children.Post,
-  update-accounts-reads.Asked,
-  update-accounts-reads.Learnt,
-  adapt-bins-reads.Asked,
-  adapt-bins-reads.Learnt,
+  update-bins-reads.Asked,
+  update-bins-reads.Learnt,
   either-reads.Asked,
   either-reads.Learnt,
 ) (update-grid-at t) update-grid.Post
-update-grid-update-accounts-requires t c κs = bins-kept (c .before .before .before .before .before .before .before .before .before .before .before .before .before .before .args .level - 1) (c .before .before .before .before .before .before .before .before .before .before .before .before .before .before .args .table .now) (length (c .before .before .before .before .before .before .before .before .before .before .before .before .before .before .args .reals .now)) (length (c .before .before .before .before .before .before .before .before .before .before .before .before .before .before .args .counts .now)) _ _ (c .before .before .before .before .before .before .before .before .before .before .before .before .before .before .args .w) (c .before .before .before .before .before .before .update-children .kept .1 .0) (c .before .before .before .before .before .before .update-children .kept .1 .1 .0) ((laid-bins (c .before .before .before .before .before .before .before .before .before .before .before .before .before .before .args .level) (c .before .before .before .before .before .before .before .before .before .before .before .before .before .before .args .table .now) (length (c .before .before .before .before .before .before .before .before .before .before .before .before .before .before .args .reals .now)) (length (c .before .before .before .before .before .before .before .before .before .before .before .before .before .before .args .counts .now)) (c .before .before .before .before .before .before .before .before .before .before .before .before .before .before .args .w) (c .before .before .before .before .before .before .before .before .before .before .before .before .before .before .pre .1) (c .before .before .before .before .before .before .before .before .before .if1 .left)) .bins)
+update-grid-update-bins-requires t c κs = let start = c .before .before .before .before .before .before .before .before .before .before .before .before .before .before in let f = c .before .before .before .before .before .before .update-children in
+    own-fits (start .args .table .now) (start .args .w) (bins-kept (start .args .level - 1) (start .args .table .now) (length (start .args .reals .now)) (length (start .args .counts .now)) (length (f .last .1 .0)) (length (f .last .1 .1 .0)) (start .args .w) (f .kept .1 .0) (f .kept .1 .1 .0) (laid-bins (start .args .level) (start .args .table .now) (length (start .args .reals .now)) (length (start .args .counts .now)) (start .args .w) (start .pre .1) (c .before .before .before .before .before .before .before .before .before .if1 .left) .bins))
 
--- src/adapting.rt:303:9
-update-grid-adapt-bins-requires : (t : ℕ) → update-grid-lts.Need-adapt-bins-requires (
-  update-axes-grid-reads.Asked,
-  update-axes-grid-reads.Learnt,
-  update-children-below t,
-  update-children.Post,
-  update-accounts-reads.Asked,
-  update-accounts-reads.Learnt,
-  adapt-bins-reads.Asked,
-  adapt-bins-reads.Learnt,
-  either-reads.Asked,
-  either-reads.Learnt,
-) (update-grid-at t) update-grid.Post
-update-grid-adapt-bins-requires t c κs = bins-kept (c .before .before .before .before .before .before .before .before .before .before .before .before .before .before .before .before .before .before .before .before .before .args .level - 1) (c .before .before .before .before .before .before .before .before .before .before .before .before .before .before .before .before .before .before .before .before .before .args .table .now) (length (c .before .before .before .before .before .before .before .before .before .before .before .before .before .before .before .before .before .before .before .before .before .args .reals .now)) (length (c .before .before .before .before .before .before .before .before .before .before .before .before .before .before .before .before .before .before .before .before .before .args .counts .now)) _ _ (c .before .before .before .before .before .before .before .before .before .before .before .before .before .before .before .before .before .before .before .before .before .args .w) (c .before .before .before .before .before .before .update-accounts .kept .1 .0 ∙ c .before .before .before .before .before .before .before .before .before .before .before .before .before .update-children .kept .1 .0) (c .before .before .before .before .before .before .update-accounts .kept .1 .1 .0 ∙ c .before .before .before .before .before .before .before .before .before .before .before .before .before .update-children .kept .1 .1 .0) ((laid-bins (c .before .before .before .before .before .before .before .before .before .before .before .before .before .before .before .before .before .before .before .before .before .args .level) (c .before .before .before .before .before .before .before .before .before .before .before .before .before .before .before .before .before .before .before .before .before .args .table .now) (length (c .before .before .before .before .before .before .before .before .before .before .before .before .before .before .before .before .before .before .before .before .before .args .reals .now)) (length (c .before .before .before .before .before .before .before .before .before .before .before .before .before .before .before .before .before .before .before .before .before .args .counts .now)) (c .before .before .before .before .before .before .before .before .before .before .before .before .before .before .before .before .before .before .before .before .before .args .w) (c .before .before .before .before .before .before .before .before .before .before .before .before .before .before .before .before .before .before .before .before .before .pre .1) (c .before .before .before .before .before .before .before .before .before .before .before .before .before .before .before .before .if1 .left)) .bins)
-
--- src/adapting.rt:304:12
 update-grid-either-requires : (t : ℕ) → update-grid-lts.Need-either-requires (
   update-axes-grid-reads.Asked,
   update-axes-grid-reads.Learnt,
   update-children-below t,
   update-children.Post,
-  update-accounts-reads.Asked,
-  update-accounts-reads.Learnt,
-  adapt-bins-reads.Asked,
-  adapt-bins-reads.Learnt,
+  update-bins-reads.Asked,
+  update-bins-reads.Learnt,
   either-reads.Asked,
   either-reads.Learnt,
 ) (update-grid-at t) update-grid.Post
 update-grid-either-requires t c κs = tt
 
--- src/adapting.rt:304:5
-update-grid-either-requires-2 : (t : ℕ) → update-grid-lts.Need-either-requires-2 (
-  update-axes-grid-reads.Asked,
-  update-axes-grid-reads.Learnt,
-  update-children-below t,
-  update-children.Post,
-  update-accounts-reads.Asked,
-  update-accounts-reads.Learnt,
-  adapt-bins-reads.Asked,
-  adapt-bins-reads.Learnt,
-  either-reads.Asked,
-  either-reads.Learnt,
-) (update-grid-at t) update-grid.Post
-update-grid-either-requires-2 t c κs = tt
-
--- src/adapting.rt:284:1
 update-grid-same-length-3 : (t : ℕ) → update-grid-lts.Need-same-length-3 (
   update-axes-grid-reads.Asked,
   update-axes-grid-reads.Learnt,
   update-children-below t,
   update-children.Post,
-  update-accounts-reads.Asked,
-  update-accounts-reads.Learnt,
-  adapt-bins-reads.Asked,
-  adapt-bins-reads.Learnt,
+  update-bins-reads.Asked,
+  update-bins-reads.Learnt,
   either-reads.Asked,
   either-reads.Learnt,
 ) (update-grid-at t) update-grid.Post
-update-grid-same-length-3 t c = c .before .before .before .before .before .before .adapt-bins .kept .1 .0 ∙ c .before .before .before .before .before .before .before .before .before .before .before .before .before .update-accounts .kept .1 .0 ∙ c .before .before .before .before .before .before .before .before .before .before .before .before .before .before .before .before .before .before .before .before .update-children .kept .1 .0
+update-grid-same-length-3 t c = c .before .before .before .before .before .update-bins .kept .1 .0 ∙ c .before .before .before .before .before .before .before .before .before .before .before .before .update-children .kept .1 .0
 
--- src/adapting.rt:284:1
 update-grid-same-length-4 : (t : ℕ) → update-grid-lts.Need-same-length-4 (
   update-axes-grid-reads.Asked,
   update-axes-grid-reads.Learnt,
   update-children-below t,
   update-children.Post,
-  update-accounts-reads.Asked,
-  update-accounts-reads.Learnt,
-  adapt-bins-reads.Asked,
-  adapt-bins-reads.Learnt,
+  update-bins-reads.Asked,
+  update-bins-reads.Learnt,
   either-reads.Asked,
   either-reads.Learnt,
 ) (update-grid-at t) update-grid.Post
-update-grid-same-length-4 t c = c .before .before .before .before .before .before .adapt-bins .kept .1 .1 .0 ∙ c .before .before .before .before .before .before .before .before .before .before .before .before .before .update-accounts .kept .1 .1 .0 ∙ c .before .before .before .before .before .before .before .before .before .before .before .before .before .before .before .before .before .before .before .before .update-children .kept .1 .1 .0
+update-grid-same-length-4 t c = c .before .before .before .before .before .update-bins .kept .1 .1 .0 ∙ c .before .before .before .before .before .before .before .before .before .before .before .before .update-children .kept .1 .1 .0
 
--- src/adapting.rt:284:1
 update-grid-returns-2 : (t : ℕ) → update-grid-lts.Need-returns-2 (
   update-axes-grid-reads.Asked,
   update-axes-grid-reads.Learnt,
   update-children-below t,
   update-children.Post,
-  update-accounts-reads.Asked,
-  update-accounts-reads.Learnt,
-  adapt-bins-reads.Asked,
-  adapt-bins-reads.Learnt,
+  update-bins-reads.Asked,
+  update-bins-reads.Learnt,
   either-reads.Asked,
   either-reads.Learnt,
 ) (update-grid-at t) update-grid.Post
-update-grid-returns-2 t c = grid-updated-bins (c .before .before .before .before .before .before .before .before .before .before .before .before .before .before .before .before .before .before .before .before .before .before .before .before .before .before .before .before .args .level) (c .before .before .before .before .before .before .before .before .before .before .before .before .before .before .before .before .before .before .before .before .before .before .before .before .before .before .before .before .args .table .now) (c .before .before .before .before .before .before .before .before .before .before .before .before .before .before .before .before .before .before .before .before .before .before .before .before .before .before .before .before .args .bins-rate) (c .before .before .before .before .before .before .before .before .before .before .before .before .before .before .before .before .before .before .before .before .before .before .before .before .before .before .before .before .args .axes-rate) (c .before .before .before .before .before .before .before .before .before .before .before .before .before .before .before .before .before .before .before .before .before .before .before .before .before .before .before .before .args .w) (memory (c .before .before .before .before .before .before .before .before .before .before .before .before .before .before .before .before .before .before .before .before .before .before .before .before .before .before .before .before .args .reals .now) (c .before .before .before .before .before .before .before .before .before .before .before .before .before .before .before .before .before .before .before .before .before .before .before .before .before .before .before .before .args .counts .now)) (memory (c .before .before .before .before .before .before .before .before .before .before .before .before .before .before .before .before .before .before .before .before .update-children .last .1 .0) (c .before .before .before .before .before .before .before .before .before .before .before .before .before .before .before .before .before .before .before .before .update-children .last .1 .1 .0)) (memory (c .before .before .before .before .before .before .before .before .before .before .before .before .before .update-accounts .last .1 .0) (c .before .before .before .before .before .before .before .before .before .before .before .before .before .update-accounts .last .1 .1 .0)) (memory (c .before .before .before .before .before .before .adapt-bins .last .1 .0) (c .before .before .before .before .before .before .adapt-bins .last .1 .1 .0)) (c .before .before .before .before .before .before .before .before .before .before .before .before .before .before .before .before .before .before .before .before .update-children .result) (c .before .before .before .before .before .before .before .before .before .before .before .before .before .update-accounts .result) (c .before .before .before .before .before .before .adapt-bins .result) (c .before .either .result) (c .either2 .result) (c .before .before .before .before .before .before .before .before .before .before .before .before .before .before .before .before .before .before .before .before .before .before .before .if1 .left) ((laid-bins (c .before .before .before .before .before .before .before .before .before .before .before .before .before .before .before .before .before .before .before .before .before .before .before .before .before .before .before .before .args .level) (c .before .before .before .before .before .before .before .before .before .before .before .before .before .before .before .before .before .before .before .before .before .before .before .before .before .before .before .before .args .table .now) (length (c .before .before .before .before .before .before .before .before .before .before .before .before .before .before .before .before .before .before .before .before .before .before .before .before .before .before .before .before .args .reals .now)) (length (c .before .before .before .before .before .before .before .before .before .before .before .before .before .before .before .before .before .before .before .before .before .before .before .before .before .before .before .before .args .counts .now)) (c .before .before .before .before .before .before .before .before .before .before .before .before .before .before .before .before .before .before .before .before .before .before .before .before .before .before .before .before .args .w) (c .before .before .before .before .before .before .before .before .before .before .before .before .before .before .before .before .before .before .before .before .before .before .before .before .before .before .before .before .pre .1) (c .before .before .before .before .before .before .before .before .before .before .before .before .before .before .before .before .before .before .before .before .before .before .before .if1 .left)) .level) (c .before .before .before .before .before .before .before .before .before .before .before .before .before .before .before .before .before .before .before .before .update-children .ensures) (c .before .before .before .before .before .before .before .before .before .before .before .before .before .update-accounts .ensures) (c .before .before .before .before .before .before .adapt-bins .ensures) (c .before .either .ensures) (c .either2 .ensures)
+update-grid-returns-2 t c = let start = c .before .before .before .before .before .before .before .before .before .before .before .before .before .before .before .before .before .before .before .before in let f = c .before .before .before .before .before .before .before .before .before .before .before .before .update-children in let g = c .before .before .before .before .before .update-bins in
+    grid-updated (start .args .level) (start .args .table .now) (start .args .bins-rate) (start .args .axes-rate) (start .args .w) (memory (start .args .reals .now) (start .args .counts .now)) (memory (f .last .1 .0) (f .last .1 .1 .0)) (memory (g .last .1 .0) (g .last .1 .1 .0)) (f .result) (g .result) (c .either .result) (c .before .before .before .before .before .before .before .before .before .before .before .before .before .before .before .if1 .left) (laid-bins (start .args .level) (start .args .table .now) (length (start .args .reals .now)) (length (start .args .counts .now)) (start .args .w) (start .pre .1) (c .before .before .before .before .before .before .before .before .before .before .before .before .before .before .before .if1 .left) .level) (f .ensures) (g .ensures) (c .either .ensures)
 
 pub +update-child+update-children+update-grid-spec : {M : Type 1} → statement M
 +update-child+update-children+update-grid-spec =
@@ -486,10 +400,8 @@ pub +update-child+update-children+update-grid-spec : {M : Type 1} → statement 
       update-axes-grid-reads.Learnt,
       update-children-below t,
       update-children.Post,
-      update-accounts-reads.Asked,
-      update-accounts-reads.Learnt,
-      adapt-bins-reads.Asked,
-      adapt-bins-reads.Learnt,
+      update-bins-reads.Asked,
+      update-bins-reads.Learnt,
       either-reads.Asked,
       either-reads.Learnt,
     )
@@ -503,10 +415,8 @@ pub +update-child+update-children+update-grid-spec : {M : Type 1} → statement 
     (update-grid-returns t)
     (update-grid-sub-below t)
     (update-grid-update-children-requires t)
-    (update-grid-update-accounts-requires t)
-    (update-grid-adapt-bins-requires t)
+    (update-grid-update-bins-requires t)
     (update-grid-either-requires t)
-    (update-grid-either-requires-2 t)
     (update-grid-same-length-3 t)
     (update-grid-same-length-4 t)
     (update-grid-returns-2 t)
