@@ -1,2 +1,3 @@
--- What the calls of this crate promise, as theorems.
+-- What the calls of this crate promise, as theorems, and the laws of a bin at its place.
+pub mod Places
 pub mod Unique

@@ -13,6 +13,7 @@ ghost use Rattle.lent.specs.Tree.{axesGridAt, headAt, binIn, childIn, binsIn, g
 ghost use Rattle.lent.specs.Judged.{soundBin};
 ghost use Rattle.lent.specs.Sampled.{ChildLaid, soundChild};
 ghost use Rattle.lent.specs.Matched.{obstacle, worseOf, gridObstacle, childObstacle, binObstacle, BinRoom};
+use crate::bins;
 use crate::merging;
 use accumulator::Changed;
 use ground::accounts;
@@ -134,23 +135,21 @@ fn bin_own_obstacle(
         (eq (binIn (now (table .entry)) (now (reals .entry)) (now (counts .entry)) w i .probability) (binIn (now (other .entry)) (now (theirs .entry)) (now (tallies .entry)) v i .probability))
         (wellFormed (mergedOf (binIn (now (table .entry)) (now (reals .entry)) (now (counts .entry)) w i .own) (binIn (now (other .entry)) (now (theirs .entry)) (now (tallies .entry)) v i .own))) ⌝ }
 {
-    let r = table[w + 5] as usize + 14;
-    let c = table[w + 6] as usize + 7;
-    let n = table[w + 2] as usize;
-    let q = other[v + 5] as usize + 14;
-    let d = other[v + 6] as usize + 7;
-    let k = other[v + 2] as usize;
+    let b = bins::bin_place(table, w, i);
+    let o = bins::bin_place(other, v, i);
     let fits = account_fits(
         reals,
         counts,
-        r + n + 14 * i,
-        c + 7 * i,
+        b.reals,
+        b.counts,
         theirs,
         tallies,
-        q + k + 14 * i,
-        d + 7 * i,
+        o.reals,
+        o.counts,
     );
-    let equal = reals[r + i] == theirs[q + i];
+    let at = b.chance;
+    let from = o.chance;
+    let equal = reals[at] == theirs[from];
     found_of(equal, fits)
 }
 

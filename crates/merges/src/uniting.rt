@@ -6,6 +6,7 @@ ghost use Rattle.lent.specs.Memory.{memory};
 ghost use Rattle.lent.specs.Tree.{AxesLaid, BinsLaid, Laid};
 ghost use Rattle.lent.specs.Sampled.{ChildLaid};
 ghost use Rattle.lent.specs.United.{joinedRecord, unitedAxes, unitedOwn, unitedChild, unitedChildren, unitedGrid, OwnRoom};
+use crate::bins;
 use crate::merging;
 use accumulator::Changed;
 use ground::accounts;
@@ -78,26 +79,25 @@ fn merge_own(
     ensures { λ _. ⌜ memory (now (reals .exit)) (now (counts .exit)) ≡
         unitedOwn (now (table .entry)) (now (other .entry)) (memory (now (theirs .entry)) (now (tallies .entry))) w v (memory (now (reals .entry)) (now (counts .entry))) ⌝ }
 {
+    let n = table[w + 2] as usize;
     let r = table[w + 5] as usize;
     let c = table[w + 6] as usize;
-    let n = table[w + 2] as usize;
     let q = other[v + 5] as usize;
     let d = other[v + 6] as usize;
-    let k = other[v + 2] as usize;
     join_account(reals, counts, r, c, theirs, tallies, q, d);
     let mut i = 0;
     while i < n {
-        let at = r + 14 + n + 14 * i;
-        let from = q + 14 + k + 14 * i;
+        let b = bins::bin_place(table, w, i);
+        let o = bins::bin_place(other, v, i);
         join_account(
             reals,
             counts,
-            at,
-            c + 7 + 7 * i,
+            b.reals,
+            b.counts,
             theirs,
             tallies,
-            from,
-            d + 7 + 7 * i,
+            o.reals,
+            o.counts,
         );
         i += 1;
     }
