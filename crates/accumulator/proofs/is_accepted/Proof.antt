@@ -1,11 +1,11 @@
 -- Both tests are the definition's.
 use Rattle.accumulator.specs.Calls.{numbered}
-use borrow.Author.Needs.{needs}
+use native.Mathlib.Omega.{arith}
 use Rattle.accumulator.proofs.is_accepted.Statement.{statement}
 use Rattle.accumulator.proofs.is_accepted.Tie as tie
 
 is-well-formed-requires : tie.Need-is-well-formed-requires
-is-well-formed-requires c κs = search needs
+is-well-formed-requires c κs = tt
 
 returns : tie.Need-returns
 unfolding numbered

@@ -1,6 +1,6 @@
 use Rattle.doubles.proofs.Truth.{failed, passed}
 use Rattle.accumulator.specs.Calls.{paperChanged, keptOf}
-use borrow.Author.Needs.{needs}
+use native.Mathlib.Omega.{arith}
 use Rattle.accumulator.proofs.kept.Statement.{statement}
 use Rattle.accumulator.proofs.kept.Tie as tie
 use Rattle.accumulator.proofs.kept.Reads as reads
@@ -9,7 +9,7 @@ use Rattle.accumulator.proofs.judge.is_well_formed.Reads as is-well-for
 
 -- src/lib.rt:223:9
 is-well-formed-requires : tie.Need-is-well-formed-requires
-is-well-formed-requires c κs = search needs
+is-well-formed-requires c κs = tt
 
 -- src/lib.rt:224:9
 returns : tie.Need-returns

@@ -2,12 +2,12 @@
 use borrow.Author.Tests.{lt-leb, le-leb}
 use Rattle.doubles.proofs.Truth.{failed, passed}
 use Rattle.accumulator.specs.Calls.{keptOf, numbered, addSampleOf}
-use borrow.Author.Needs.{needs}
+use native.Mathlib.Omega.{arith}
 use Rattle.accumulator.proofs.sample_refusal.Statement.{statement}
 use Rattle.accumulator.proofs.sample_refusal.Tie as tie
 
 is-well-formed-requires : tie.Need-is-well-formed-requires
-is-well-formed-requires c κs = search needs
+is-well-formed-requires c κs = tt
 
 returns : tie.Need-returns
 unfolding addSampleOf
@@ -18,7 +18,7 @@ unfolding addSampleOf numbered
 returns-2 c = rw (passed (c .before .before .is-well-formed .ensures) (c .before .if1 .left), lt-leb _ _ (c .if2 .taken))
 
 finite-requires : tie.Need-finite-requires
-finite-requires c κs = search needs
+finite-requires c κs = tt
 
 returns-3 : tie.Need-returns-3
 unfolding addSampleOf numbered

@@ -1,11 +1,11 @@
 -- A record that is not well formed comes first.
 use Rattle.doubles.proofs.Truth.{failed, passed}
-use borrow.Author.Needs.{needs}
+use native.Mathlib.Omega.{arith}
 use Rattle.accumulator.proofs.update_refusal.Statement.{statement}
 use Rattle.accumulator.proofs.update_refusal.Tie as tie
 
 is-well-formed-requires : tie.Need-is-well-formed-requires
-is-well-formed-requires c κs = search needs
+is-well-formed-requires c κs = tt
 
 returns : tie.Need-returns
 returns c = rw (failed (c .before .is-well-formed .ensures) (c .if1 .taken))

@@ -1,6 +1,6 @@
 use Rattle.doubles.proofs.Truth.{failed, passed}
 use Rattle.axis.specs.Calls.{paperDrawn, drawOf}
-use borrow.Author.Needs.{needs}
+use native.Mathlib.Omega.{arith}
 use Rattle.axis.proofs.draw.Statement.{statement}
 use Rattle.axis.proofs.draw.Tie as tie
 use Rattle.axis.proofs.draw.Reads as reads
@@ -10,7 +10,7 @@ use Rattle.axis.proofs.scans.is_well_formed.Reads as is-well-formed-rea
 
 -- src/lib.rt:46:9
 is-well-formed-requires : tie.Need-is-well-formed-requires
-is-well-formed-requires c κs = search needs
+is-well-formed-requires c κs = tt
 
 -- src/lib.rt:47:9
 returns : tie.Need-returns
@@ -19,7 +19,7 @@ returns c = rw (failed (c .before .is-well-formed .ensures) (c .if1 .taken))
 
 -- src/lib.rt:49:18
 point-of-requires : tie.Need-point-of-requires
-point-of-requires c κs = search needs
+point-of-requires c κs = tt
 
 -- src/lib.rt:43:1
 returns-2 : tie.Need-returns-2

@@ -1,6 +1,7 @@
 use Rattle.doubles.proofs.Truth.{failed, passed}
 use Rattle.axis.specs.Calls.{paperProbed, probeOf}
 use Rattle.axis.proofs.Searches.{search-is}
+use native.Mathlib.Omega.{arith}
 use borrow.Author.Needs.{needs}
 use Rattle.axis.proofs.probe.Statement.{statement}
 use Rattle.axis.proofs.probe.Tie as tie
@@ -13,7 +14,7 @@ use Rattle.axis.proofs.scans.is_well_formed.Reads as is-well-formed-rea
 
 -- src/lib.rt:33:9
 is-well-formed-requires : tie.Need-is-well-formed-requires
-is-well-formed-requires c κs = search needs
+is-well-formed-requires c κs = tt
 
 -- src/lib.rt:34:9
 returns : tie.Need-returns
@@ -22,7 +23,7 @@ returns c = rw (failed (c .before .is-well-formed .ensures) (c .if1 .taken))
 
 -- src/lib.rt:36:9
 in-unit-requires : tie.Need-in-unit-requires
-in-unit-requires c κs = search needs
+in-unit-requires c κs = tt
 
 -- src/lib.rt:37:9
 returns-2 : tie.Need-returns-2
@@ -31,11 +32,11 @@ returns-2 c = rw (passed (c .before .before .before .is-well-formed .ensures) (c
 
 -- src/lib.rt:39:44
 bin-of-requires : tie.Need-bin-of-requires
-bin-of-requires c κs = search needs
+bin-of-requires c κs = tt
 
 -- src/lib.rt:39:20
 weight-of-requires : tie.Need-weight-of-requires
-weight-of-requires c κs = search needs
+weight-of-requires c κs = tt
 
 -- src/lib.rt:30:1
 returns-3 : tie.Need-returns-3

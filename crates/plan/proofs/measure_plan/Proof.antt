@@ -1,6 +1,6 @@
 use mathlib.Core.Path.{sym, _∙_}
 use Rattle.plan.proofs.Calls.{measure-refused, measure-surplus, measure-whole}
-use borrow.Author.Needs.{needs}
+use native.Mathlib.Omega.{arith}
 use Rattle.plan.proofs.measure_plan.Statement.{statement}
 use Rattle.plan.proofs.measure_plan.Tie as tie
 use Rattle.plan.proofs.measure_plan.Reads as reads
@@ -10,15 +10,15 @@ use Rattle.plan.proofs.needs_of.Reads as needs-of-reads
 
 -- src/lib.rt:161:11
 judge-requires : tie.Need-judge-requires
-judge-requires c κs = search needs
+judge-requires c κs = tt
 
 -- src/lib.rt:162:25
 enum-known-number : tie.Need-enum-known-number
-enum-known-number c = search needs
+enum-known-number c = omega arith
 
 -- src/lib.rt:163:20
 enum-known-past : tie.Need-enum-known-past
-enum-known-past c = search needs
+enum-known-past c = omega arith
 
 -- src/lib.rt:166:17
 returns : tie.Need-returns
@@ -26,7 +26,7 @@ returns c = measure-surplus _ (sym (c .before .before .past .given .1) ∙ c .be
 
 -- src/lib.rt:174:24
 needs-of-requires : tie.Need-needs-of-requires
-needs-of-requires c κs = search needs
+needs-of-requires c κs = tt
 
 -- src/lib.rt:158:1
 returns-2 : tie.Need-returns-2

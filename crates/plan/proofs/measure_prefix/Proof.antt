@@ -1,6 +1,6 @@
 use mathlib.Core.Path.{sym, _∙_}
 use Rattle.plan.proofs.Calls.{prefix-measured, prefix-unmeasured}
-use borrow.Author.Needs.{needs}
+use native.Mathlib.Omega.{arith}
 use Rattle.plan.proofs.measure_prefix.Statement.{statement}
 use Rattle.plan.proofs.measure_prefix.Tie as tie
 use Rattle.plan.proofs.measure_prefix.Reads as reads
@@ -10,19 +10,19 @@ use Rattle.plan.proofs.needs_of.Reads as needs-of-reads
 
 -- src/lib.rt:184:11
 judge-requires : tie.Need-judge-requires
-judge-requires c κs = search needs
+judge-requires c κs = tt
 
 -- src/lib.rt:185:25
 enum-known-number : tie.Need-enum-known-number
-enum-known-number c = search needs
+enum-known-number c = omega arith
 
 -- src/lib.rt:186:20
 enum-known-past : tie.Need-enum-known-past
-enum-known-past c = search needs
+enum-known-past c = omega arith
 
 -- src/lib.rt:190:24
 needs-of-requires : tie.Need-needs-of-requires
-needs-of-requires c κs = search needs
+needs-of-requires c κs = tt
 
 -- src/lib.rt:181:1
 returns : tie.Need-returns

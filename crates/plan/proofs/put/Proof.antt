@@ -2,7 +2,6 @@
 use native.Mathlib.Omega.{arith}
 use denote.Ref.{now}
 use Rattle.plan.proofs.Calls.{put-short, writable, put-whole}
-use borrow.Author.Needs.{needs}
 use Rattle.plan.proofs.put.Statement.{statement}
 use Rattle.plan.proofs.put.Tie as tie
 
@@ -10,13 +9,13 @@ returns : tie.Need-returns
 returns c = put-short _ _ (c .before .before .before .before .before .pre) (c .if1 .taken)
 
 start-requires : tie.Need-start-requires
-start-requires c κs = search needs
+start-requires c κs = tt
 
 write-requires : tie.Need-write-requires
 write-requires c κs = let e1 = c .before .before in let k = e1 .before .before .before .before in writable _ (now (k .before .args .table)) (k .before .pre) (e1 .if1 .left) (λ i. omega (arith, k .shared-slice-known .given i)) (c .before .start .ensures)
 
 needs-of-requires : tie.Need-needs-of-requires
-needs-of-requires c κs = search needs
+needs-of-requires c κs = tt
 
 same-length : tie.Need-same-length
 same-length c = c .before .before .before .write .kept .1 .1 .1 .0

@@ -1,18 +1,18 @@
 -- The judge's answer, then surplus bytes, then what `put` answers.
 use mathlib.Core.Path.{sym, _∙_}
 use Rattle.plan.proofs.Calls.{plan-refused, plan-surplus, plan-whole}
-use borrow.Author.Needs.{needs}
+use native.Mathlib.Omega.{arith}
 use Rattle.plan.proofs.read_plan.Statement.{statement}
 use Rattle.plan.proofs.read_plan.Tie as tie
 
 judge-requires : tie.Need-judge-requires
-judge-requires c κs = search needs
+judge-requires c κs = tt
 
 enum-known-number : tie.Need-enum-known-number
-enum-known-number c = search needs
+enum-known-number c = omega arith
 
 enum-known-past : tie.Need-enum-known-past
-enum-known-past c = search needs
+enum-known-past c = omega arith
 
 returns : tie.Need-returns
 returns c = let p = c .before .before in plan-surplus _ _ (sym (p .past .given .1) ∙ p .before .before .judge .ensures) (c .if1 .taken)

@@ -1,18 +1,18 @@
 -- The judge's answer, then what `put` answers.
 use mathlib.Core.Path.{sym, _∙_}
 use Rattle.plan.proofs.Calls.{prefix-refused}
-use borrow.Author.Needs.{needs}
+use native.Mathlib.Omega.{arith}
 use Rattle.plan.proofs.read_prefix.Statement.{statement}
 use Rattle.plan.proofs.read_prefix.Tie as tie
 
 judge-requires : tie.Need-judge-requires
-judge-requires c κs = search needs
+judge-requires c κs = tt
 
 enum-known-number : tie.Need-enum-known-number
-enum-known-number c = search needs
+enum-known-number c = omega arith
 
 enum-known-past : tie.Need-enum-known-past
-enum-known-past c = search needs
+enum-known-past c = omega arith
 
 put-requires : tie.Need-put-requires
 put-requires c κs = let p = c .before .before in sym (p .past .given .1) ∙ p .before .before .judge .ensures

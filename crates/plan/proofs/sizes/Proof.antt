@@ -2,24 +2,24 @@
 use mathlib.Core.Path.{sym, _∙_}
 use Rattle.plan.proofs.Trees.{start-roomy}
 use Rattle.plan.proofs.Calls.{sizes-stray, sizes-cut, sizes-whole}
-use borrow.Author.Needs.{needs}
+use native.Mathlib.Omega.{arith}
 use Rattle.plan.proofs.sizes.Statement.{statement}
 use Rattle.plan.proofs.sizes.Tie as tie
 
 start-requires : tie.Need-start-requires
-start-requires c κs = search needs
+start-requires c κs = tt
 
 known-requires : tie.Need-known-requires
 known-requires c κs = rw (c .start .ensures) start-roomy
 
 enum-told : tie.Need-enum-told
-enum-told c = search needs
+enum-told c = omega arith
 
 enum-known-past : tie.Need-enum-known-past
-enum-known-past c = search needs
+enum-known-past c = omega arith
 
 needs-of-requires : tie.Need-needs-of-requires
-needs-of-requires c κs = search needs
+needs-of-requires c κs = tt
 
 returns : tie.Need-returns
 returns c = let t = c .before in let p = t .before .before .before .before in let k = p .before .before in sizes-whole _ (k .before .start .ensures) (sym (p .past .given .1) ∙ k .known .ensures) (c .needs-of .ensures) (t .if1 .taken)

@@ -3,7 +3,7 @@ use Rattle.lent.specs.Memory.{memory}
 use Rattle.lent.specs.Calls.{cloneEnd}
 use Rattle.lent.proofs.States.{sizes-planned}
 use Rattle.lent.proofs.Clones.{clone-planned, clone-strayed}
-use borrow.Author.Needs.{needs}
+use native.Mathlib.Omega.{arith}
 use Rattle.quiet.proofs.clone_without_samples.Statement.{statement}
 use Rattle.quiet.proofs.clone_without_samples.Tie as tie
 use Rattle.quiet.proofs.clone_without_samples.Reads as reads
@@ -13,11 +13,11 @@ use Rattle.plan.proofs.sizes.Reads as sizes-reads
 
 -- src/lib.rt:180:11
 sizes-requires : tie.Need-sizes-requires
-sizes-requires c κs = search needs
+sizes-requires c κs = tt
 
 -- src/lib.rt:181:21
 enum-known-needs : tie.Need-enum-known-needs
-enum-known-needs c = search needs
+enum-known-needs c = omega arith
 
 -- src/lib.rt:181:31
 copy-grid-requires : tie.Need-copy-grid-requires
@@ -25,15 +25,15 @@ copy-grid-requires c κs = sizes-planned (c .before .before .before .before .bef
 
 -- src/lib.rt:182:30
 enum-told : tie.Need-enum-told
-enum-told c = search needs
+enum-told c = omega arith
 
 -- src/lib.rt:170:1
 same-length : tie.Need-same-length
-same-length c = search needs
+same-length c = omega arith
 
 -- src/lib.rt:170:1
 same-length-2 : tie.Need-same-length-2
-same-length-2 c = search needs
+same-length-2 c = omega arith
 
 -- src/lib.rt:170:1
 returns : tie.Need-returns

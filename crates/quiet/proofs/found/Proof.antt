@@ -5,7 +5,6 @@ use Rattle.plan.specs.Paper.{planRead, paperRead}
 use Rattle.plan.specs.Calls.{End}
 use Rattle.lent.specs.Memory.{memory}
 use Rattle.lent.proofs.Plans.{read-laid, short-table, short-reals, short-counts, founded}
-use borrow.Author.Needs.{needs}
 use Rattle.quiet.proofs.found.Statement.{statement}
 use Rattle.quiet.proofs.found.Tie as tie
 use Rattle.quiet.proofs.found.Reads as reads
@@ -30,7 +29,7 @@ returns-3 c = short-counts (c .before .before .before .before .before .before .b
 
 -- src/lib.rt:121:9
 read-plan-requires : tie.Need-read-plan-requires
-read-plan-requires c κs = search needs
+read-plan-requires c κs = tt
 
 -- src/lib.rt:122:5
 lay-grid-requires : tie.Need-lay-grid-requires
@@ -38,15 +37,15 @@ lay-grid-requires c κs = read-laid (c .before .before .before .before .before .
 
 -- src/lib.rt:103:1
 same-length : tie.Need-same-length
-same-length c = search needs
+same-length c = omega arith
 
 -- src/lib.rt:103:1
 same-length-2 : tie.Need-same-length-2
-same-length-2 c = search needs
+same-length-2 c = omega arith
 
 -- src/lib.rt:103:1
 same-length-3 : tie.Need-same-length-3
-same-length-3 c = search needs
+same-length-3 c = omega arith
 
 -- src/lib.rt:103:1
 returns-4 : tie.Need-returns-4

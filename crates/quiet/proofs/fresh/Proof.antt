@@ -2,7 +2,7 @@ use Rattle.lent.specs.Memory.{memory}
 use Rattle.lent.specs.Calls.{freshEnd}
 use Rattle.plan.specs.Paper.{paperRead}
 use Rattle.lent.proofs.Plans.{fresh-refused, fresh-measured, measured-by}
-use borrow.Author.Needs.{needs}
+use native.Mathlib.Omega.{arith}
 use Rattle.quiet.proofs.fresh.Statement.{statement}
 use Rattle.quiet.proofs.fresh.Tie as tie
 use Rattle.quiet.proofs.fresh.Reads as reads
@@ -12,15 +12,15 @@ use Rattle.plan.proofs.measure_plan.Reads as measure-plan-reads
 
 -- src/lib.rt:96:11
 measure-plan-requires : tie.Need-measure-plan-requires
-measure-plan-requires c κs = search needs
+measure-plan-requires c κs = tt
 
 -- src/lib.rt:97:25
 enum-known-number : tie.Need-enum-known-number
-enum-known-number c = search needs
+enum-known-number c = omega arith
 
 -- src/lib.rt:98:22
 enum-known-end : tie.Need-enum-known-end
-enum-known-end c = search needs
+enum-known-end c = omega arith
 
 -- src/lib.rt:98:38
 found-requires : tie.Need-found-requires
@@ -32,15 +32,15 @@ returns c = fresh-refused (c .before .before .before .before .before .before .be
 
 -- src/lib.rt:92:1
 same-length : tie.Need-same-length
-same-length c = search needs
+same-length c = omega arith
 
 -- src/lib.rt:92:1
 same-length-2 : tie.Need-same-length-2
-same-length-2 c = search needs
+same-length-2 c = omega arith
 
 -- src/lib.rt:92:1
 same-length-3 : tie.Need-same-length-3
-same-length-3 c = search needs
+same-length-3 c = omega arith
 
 -- src/lib.rt:92:1
 returns-2 : tie.Need-returns-2

@@ -6,7 +6,6 @@ use Rattle.accumulator.specs.Calls.{liveEstimateOf, paperEstimated}
 use Rattle.lent.specs.State.{rootOf, ownOf, stateFault}
 use Rattle.lent.specs.Calls.{liveOf}
 use Rattle.lent.proofs.States.{clear, refused-first, answered-last}
-use borrow.Author.Needs.{needs}
 use Rattle.quiet.proofs.live_estimate.Statement.{statement}
 use Rattle.quiet.proofs.live_estimate.Tie as tie
 use Rattle.quiet.proofs.live_estimate.Reads as reads
@@ -17,7 +16,7 @@ use Rattle.quiet.proofs.along.own.Reads as own-reads
 
 -- src/lib.rt:76:9
 fault-requires : tie.Need-fault-requires
-fault-requires c κs = search needs
+fault-requires c κs = tt
 
 -- src/lib.rt:78:9
 returns : tie.Need-returns
@@ -30,7 +29,7 @@ own-requires c κs = clear (c .before .before .before .before .before .args .tab
 
 -- src/lib.rt:80:5
 get-live-estimate-requires : tie.Need-get-live-estimate-requires
-get-live-estimate-requires c κs = search needs
+get-live-estimate-requires c κs = tt
 
 -- src/lib.rt:73:1
 returns-2 : tie.Need-returns-2

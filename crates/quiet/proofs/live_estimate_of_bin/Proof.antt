@@ -9,7 +9,6 @@ use Rattle.lent.specs.Sampled.{entries}
 use Rattle.lent.specs.Bins.{estimateAlong}
 use Rattle.lent.specs.Calls.{liveOfBin}
 use Rattle.lent.proofs.States.{clear, refused-first, answered-last}
-use borrow.Author.Needs.{needs}
 use Rattle.quiet.proofs.live_estimate_of_bin.Statement.{statement}
 use Rattle.quiet.proofs.live_estimate_of_bin.Tie as tie
 use Rattle.quiet.proofs.live_estimate_of_bin.Reads as reads
@@ -19,7 +18,7 @@ use Rattle.judges.proofs.state.fault.Reads as fault-reads
 
 -- src/lib.rt:117:9
 fault-requires : tie.Need-fault-requires
-fault-requires c κs = search needs
+fault-requires c κs = tt
 
 -- src/lib.rt:119:9
 returns : tie.Need-returns

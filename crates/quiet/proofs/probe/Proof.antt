@@ -8,7 +8,6 @@ use Rattle.lent.specs.State.{rootOf, stateFault}
 use Rattle.lent.specs.Probed.{coordinatesOf, pathFrom}
 use Rattle.lent.specs.Calls.{probeOf}
 use Rattle.lent.proofs.States.{clear, refused-first, answered-last}
-use borrow.Author.Needs.{needs}
 use Rattle.quiet.proofs.probe.Statement.{statement}
 use Rattle.quiet.proofs.probe.Tie as tie
 use Rattle.quiet.proofs.probe.Reads as reads
@@ -18,7 +17,7 @@ use Rattle.judges.proofs.state.fault.Reads as fault-reads
 
 -- src/lib.rt:154:9
 fault-requires : tie.Need-fault-requires
-fault-requires c κs = search needs
+fault-requires c κs = tt
 
 -- src/lib.rt:156:9
 returns : tie.Need-returns

@@ -6,7 +6,6 @@ use Rattle.accumulator.specs.Calls.{summarizeOf, paperSummed}
 use Rattle.lent.specs.State.{rootOf, ownOf, stateFault}
 use Rattle.lent.specs.Calls.{summaryOf}
 use Rattle.lent.proofs.States.{clear, refused-first, answered-last}
-use borrow.Author.Needs.{needs}
 use Rattle.quiet.proofs.summary.Statement.{statement}
 use Rattle.quiet.proofs.summary.Tie as tie
 use Rattle.quiet.proofs.summary.Reads as reads
@@ -17,7 +16,7 @@ use Rattle.quiet.proofs.along.own.Reads as own-reads
 
 -- src/lib.rt:65:9
 fault-requires : tie.Need-fault-requires
-fault-requires c κs = search needs
+fault-requires c κs = tt
 
 -- src/lib.rt:67:9
 returns : tie.Need-returns
@@ -30,7 +29,7 @@ own-requires c κs = clear (c .before .before .before .before .before .args .tab
 
 -- src/lib.rt:69:5
 summary-requires : tie.Need-summary-requires
-summary-requires c κs = search needs
+summary-requires c κs = tt
 
 -- src/lib.rt:62:1
 returns-2 : tie.Need-returns-2

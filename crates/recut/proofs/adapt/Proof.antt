@@ -1,6 +1,6 @@
 use mathlib.Core.Path.{refl}
 use Rattle.recut.specs.Chances.{adaptedTo}
-use borrow.Author.Needs.{needs}
+use native.Mathlib.Omega.{arith}
 use Rattle.recut.proofs.adapt.Statement.{statement}
 use Rattle.recut.proofs.adapt.Tie as tie
 use Rattle.recut.proofs.adapt.Reads as reads
@@ -13,27 +13,27 @@ use Rattle.recut.proofs.weights.total.Reads as total-reads
 
 -- src/lib.rt:146:17
 highest-of-requires : tie.Need-highest-of-requires
-highest-of-requires c κs = search needs
+highest-of-requires c κs = tt
 
 -- src/lib.rt:147:5
 raise-requires : tie.Need-raise-requires
-raise-requires c κs = search needs
+raise-requires c κs = tt
 
 -- src/lib.rt:148:9
 total-requires : tie.Need-total-requires
-total-requires c κs = search needs
+total-requires c κs = tt
 
 -- src/lib.rt:149:5
 divide-requires : tie.Need-divide-requires
-divide-requires c κs = search needs
+divide-requires c κs = tt
 
 -- src/lib.rt:150:5
 are-chances-requires : tie.Need-are-chances-requires
-are-chances-requires c κs = search needs
+are-chances-requires c κs = tt
 
 -- src/lib.rt:143:1
 same-length : tie.Need-same-length
-same-length c = search needs
+same-length c = omega arith
 
 -- src/lib.rt:143:1
 returns : tie.Need-returns

@@ -1,41 +1,42 @@
 -- `recut::from_damped` meets its contract: each return by the law of its stage.
 use Rattle.recut.specs.Renew.{paperRenewed}
 use Rattle.recut.proofs.Stages.{damped-8, damped-9, damped-done}
+use native.Mathlib.Omega.{arith}
 use borrow.Author.Needs.{needs}
 use Rattle.recut.proofs.from_damped.Statement.{statement}
 use Rattle.recut.proofs.from_damped.Tie as tie
 
 total-requires : tie.Need-total-requires
-total-requires c κs = search needs
+total-requires c κs = tt
 
 finite-requires : tie.Need-finite-requires
-finite-requires c κs = search needs
+finite-requires c κs = tt
 
 returns : tie.Need-returns
 unfolding paperRenewed
 returns c = search (damped-8, needs)
 
 sub-count : tie.Need-sub-count
-sub-count c = search needs
+sub-count c = omega arith
 
 count-requires : tie.Need-count-requires
-count-requires c κs = search needs
+count-requires c κs = tt
 
 cut-requires : tie.Need-cut-requires
 cut-requires c κs = search needs
 
 is-well-formed-requires : tie.Need-is-well-formed-requires
-is-well-formed-requires c κs = search needs
+is-well-formed-requires c κs = tt
 
 same-length : tie.Need-same-length
-same-length c = search needs
+same-length c = omega arith
 
 returns-2 : tie.Need-returns-2
 unfolding paperRenewed
 returns-2 c = search (damped-9, needs)
 
 same-length-2 : tie.Need-same-length-2
-same-length-2 c = search needs
+same-length-2 c = omega arith
 
 returns-3 : tie.Need-returns-3
 unfolding paperRenewed

@@ -2,7 +2,6 @@
 use mathlib.Core.Path.{_≡_, refl, sym, _∙_}
 use mathlib.Core.List.{_++_}
 use Prim.Native.Nat.{zero-le, _-_, _≤_}
-use borrow.Author.Needs.{needs}
 use borrow.Author.Tests.{ltb-true, ltb-false}
 use denote.Ref.{now}
 use lib.ListN.{length, take, drop, length-set}
@@ -36,7 +35,7 @@ shared-slice-read-joined-count : tie.Need-shared-slice-read-joined-count Inv-loo
 shared-slice-read-joined-count c = omega (arith, ltb-true)
 
 joined-count-requires : tie.Need-joined-count-requires Inv-loop μ-loop
-joined-count-requires c κs = search needs
+joined-count-requires c κs = tt
 
 mul-counters : tie.Need-mul-counters Inv-loop μ-loop
 mul-counters c = omega arith

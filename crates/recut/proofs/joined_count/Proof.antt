@@ -1,12 +1,12 @@
 -- `recut::joined_count` meets its contract: two counts that a record may hold have a sum that fits.
 use borrow.Author.Tests.{le-leb, lt-leb}
 use Rattle.recut.specs.Gather.{joinedCount}
-use borrow.Author.Needs.{needs}
+use native.Mathlib.Omega.{arith}
 use Rattle.recut.proofs.joined_count.Statement.{statement}
 use Rattle.recut.proofs.joined_count.Tie as tie
 
 add-result : tie.Need-add-result
-add-result c = search needs
+add-result c = omega arith
 
 returns : tie.Need-returns
 unfolding joinedCount

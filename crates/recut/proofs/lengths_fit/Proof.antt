@@ -1,7 +1,7 @@
 -- `recut::lengths_fit` meets its contract: at each return the decider, with the tests that led there put in.
 use borrow.Author.Tests.{eq-eqb, ne-eqb, le-leb, lt-leb}
 use Rattle.recut.specs.Renew.{lengthsFit}
-use borrow.Author.Needs.{needs}
+use native.Mathlib.Omega.{arith}
 use Rattle.recut.proofs.lengths_fit.Statement.{statement}
 use Rattle.recut.proofs.lengths_fit.Tie as tie
 
@@ -10,7 +10,7 @@ unfolding lengthsFit
 returns c = rw (lt-leb _ _ (c .if1 .taken))
 
 add-if2 : tie.Need-add-if2
-add-if2 c = search needs
+add-if2 c = omega arith
 
 returns-2 : tie.Need-returns-2
 unfolding lengthsFit

@@ -14,13 +14,13 @@ fit : (c : tie.Else1) → let start = c .before .before .before .before .before 
 fit c = fitting _ _ _ _ (passed (c .before .lengths-fit .ensures) (c .if1 .left))
 
 lengths-fit-requires : tie.Need-lengths-fit-requires
-lengths-fit-requires c κs = search needs
+lengths-fit-requires c κs = tt
 
 same-length : tie.Need-same-length
-same-length c = search needs
+same-length c = omega arith
 
 same-length-2 : tie.Need-same-length-2
-same-length-2 c = search needs
+same-length-2 c = omega arith
 
 returns : tie.Need-returns
 unfolding paperRenewed
@@ -36,10 +36,10 @@ from-divided-requires c κs =
     omega (arith, at-call .normalise .kept .0)
 
 same-length-3 : tie.Need-same-length-3
-same-length-3 c = search needs
+same-length-3 c = omega arith
 
 same-length-4 : tie.Need-same-length-4
-same-length-4 c = search needs
+same-length-4 c = omega arith
 
 returns-2 : tie.Need-returns-2
 returns-2 c = search (renew-on, needs)

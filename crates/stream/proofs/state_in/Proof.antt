@@ -1,6 +1,5 @@
 -- `state_in` reads its four words in order.
 use native.Mathlib.Omega.{arith}
-use borrow.Author.Needs.{needs}
 use Rattle.stream.specs.Calls.{stateIn}
 use Rattle.stream.proofs.state_in.Statement.{statement}
 use Rattle.stream.proofs.state_in.Tie as tie

@@ -3,7 +3,7 @@ use lib.Dec.{eqb}
 use borrow.Author.Tests.{eq-eqb, ne-eqb}
 use Rattle.stream.specs.Jumps.{walkBit}
 use Rattle.stream.specs.Calls.{drawnOf}
-use borrow.Author.Needs.{needs}
+use native.Mathlib.Omega.{arith}
 use Rattle.stream.proofs.walk_bit.Statement.{statement}
 use Rattle.stream.proofs.walk_bit.Tie as tie
 use Rattle.stream.proofs.walk_bit.Reads as reads
@@ -13,15 +13,15 @@ use Rattle.stream.proofs.join.Reads as join-reads
 
 -- src/lib.rt:90:9
 next-u64-requires : tie.Need-next-u64-requires
-next-u64-requires c κs = search needs
+next-u64-requires c κs = tt
 
 -- src/lib.rt:92:9
 shr-if1 : tie.Need-shr-if1
-shr-if1 c = search needs
+shr-if1 c = omega arith
 
 -- src/lib.rt:94:18
 join-requires : tie.Need-join-requires
-join-requires c κs = search needs
+join-requires c κs = tt
 
 -- src/lib.rt:93:9
 returns : tie.Need-returns

@@ -3,12 +3,12 @@ use mathlib.Core.Path.{sym}
 use Rattle.doubles.proofs.Truth.{failed, passed}
 use Rattle.accumulator.specs.Calls.{paperChanged, addSampleOf}
 use Rattle.accumulator.proofs.Accepted.{accepted, miscounted}
-use borrow.Author.Needs.{needs}
+use native.Mathlib.Omega.{arith}
 use Rattle.accumulator.proofs.StatisticsAccumulator.add_sample.Statement.{statement}
 use Rattle.accumulator.proofs.StatisticsAccumulator.add_sample.Tie as tie
 
 has-bounded-counts-requires : tie.Need-has-bounded-counts-requires
-has-bounded-counts-requires c κs = search needs
+has-bounded-counts-requires c κs = tt
 
 returns : tie.Need-returns
 unfolding paperChanged addSampleOf
@@ -18,7 +18,7 @@ added-requires : tie.Need-added-requires
 added-requires c κs = passed (c .before .has-bounded-counts .ensures) (c .if1 .left)
 
 is-accepted-requires : tie.Need-is-accepted-requires
-is-accepted-requires c κs = search needs
+is-accepted-requires c κs = tt
 
 sample-refusal-requires : tie.Need-sample-refusal-requires
 sample-refusal-requires c κs = rw (sym (c .before .before .added .ensures)) (failed (c .before .is-accepted .ensures) (c .if2 .taken))

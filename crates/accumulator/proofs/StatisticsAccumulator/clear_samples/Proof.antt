@@ -1,6 +1,6 @@
 use Rattle.doubles.proofs.Truth.{failed, passed}
 use Rattle.accumulator.specs.Calls.{paperChanged, clearOf}
-use borrow.Author.Needs.{needs}
+use native.Mathlib.Omega.{arith}
 use Rattle.accumulator.proofs.StatisticsAccumulator.clear_samples.Statement.{statement}
 use Rattle.accumulator.proofs.StatisticsAccumulator.clear_samples.Tie as tie
 use Rattle.accumulator.proofs.StatisticsAccumulator.clear_samples.Reads as reads
@@ -10,7 +10,7 @@ use Rattle.accumulator.proofs.steps.cleared.Reads as cleared-reads
 
 -- src/lib.rt:167:13
 is-well-formed-requires : tie.Need-is-well-formed-requires
-is-well-formed-requires c κs = search needs
+is-well-formed-requires c κs = tt
 
 -- src/lib.rt:168:13
 returns : tie.Need-returns
@@ -19,7 +19,7 @@ returns c = rw (failed (c .before .is-well-formed .ensures) (c .if1 .taken))
 
 -- src/lib.rt:170:25
 cleared-requires : tie.Need-cleared-requires
-cleared-requires c κs = search needs
+cleared-requires c κs = tt
 
 -- src/lib.rt:164:5
 returns-2 : tie.Need-returns-2

@@ -3,12 +3,12 @@ use mathlib.Core.Path.{_∙_}
 use Rattle.doubles.proofs.Truth.{failed, passed}
 use Rattle.accumulator.specs.Calls.{paperEstimated, liveEstimateOf}
 use Rattle.accumulator.proofs.Counts.{counts-of}
-use borrow.Author.Needs.{needs}
+use native.Mathlib.Omega.{arith}
 use Rattle.accumulator.proofs.StatisticsAccumulator.get_live_estimate.Statement.{statement}
 use Rattle.accumulator.proofs.StatisticsAccumulator.get_live_estimate.Tie as tie
 
 is-well-formed-requires : tie.Need-is-well-formed-requires
-is-well-formed-requires c κs = search needs
+is-well-formed-requires c κs = tt
 
 returns : tie.Need-returns
 unfolding paperEstimated liveEstimateOf
@@ -18,7 +18,7 @@ moved-requires : tie.Need-moved-requires
 moved-requires c κs = counts-of _ (passed (c .before .is-well-formed .ensures) (c .if1 .left))
 
 is-well-formed-requires-2 : tie.Need-is-well-formed-requires-2
-is-well-formed-requires-2 c κs = search needs
+is-well-formed-requires-2 c κs = tt
 
 returns-2 : tie.Need-returns-2
 unfolding paperEstimated liveEstimateOf

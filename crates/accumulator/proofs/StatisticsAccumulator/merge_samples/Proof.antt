@@ -2,7 +2,7 @@ use Rattle.doubles.proofs.Truth.{failed, passed}
 use Rattle.accumulator.proofs.Counts.{counts-of}
 use Rattle.accumulator.specs.Calls.{paperMerged, mergeClearingOf}
 use mathlib.Core.Path.{sym}
-use borrow.Author.Needs.{needs}
+use native.Mathlib.Omega.{arith}
 use Rattle.accumulator.proofs.StatisticsAccumulator.merge_samples.Statement.{statement}
 use Rattle.accumulator.proofs.StatisticsAccumulator.merge_samples.Tie as tie
 use Rattle.accumulator.proofs.StatisticsAccumulator.merge_samples.Reads as reads
@@ -13,7 +13,7 @@ use Rattle.accumulator.proofs.steps.merged.Reads as merged-reads
 
 -- src/lib.rt:157:13
 is-well-formed-requires : tie.Need-is-well-formed-requires
-is-well-formed-requires c κs = search needs
+is-well-formed-requires c κs = tt
 
 -- src/lib.rt:158:13
 returns : tie.Need-returns
@@ -22,7 +22,7 @@ returns c = rw (failed (c .before .is-well-formed .ensures) (c .if1 .taken))
 
 -- src/lib.rt:160:13
 is-well-formed-requires-2 : tie.Need-is-well-formed-requires-2
-is-well-formed-requires-2 c κs = search needs
+is-well-formed-requires-2 c κs = tt
 
 -- src/lib.rt:161:13
 returns-2 : tie.Need-returns-2
@@ -35,7 +35,7 @@ merged-requires c κs = (counts-of _ (passed (c .before .before .before .is-well
 
 -- src/lib.rt:164:13
 is-well-formed-requires-3 : tie.Need-is-well-formed-requires-3
-is-well-formed-requires-3 c κs = search needs
+is-well-formed-requires-3 c κs = tt
 
 -- src/lib.rt:165:13
 returns-3 : tie.Need-returns-3
@@ -44,7 +44,7 @@ returns-3 c = rw (passed (c .before .before .before .before .before .before .is-
 
 -- src/lib.rt:167:32
 cleared-requires : tie.Need-cleared-requires
-cleared-requires c κs = search needs
+cleared-requires c κs = tt
 
 -- src/lib.rt:154:5
 returns-4 : tie.Need-returns-4

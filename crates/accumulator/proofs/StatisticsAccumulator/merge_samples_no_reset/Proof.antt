@@ -2,7 +2,7 @@ use Rattle.doubles.proofs.Truth.{failed, passed}
 use Rattle.accumulator.proofs.Counts.{counts-of}
 use Rattle.accumulator.specs.Calls.{paperChanged, mergeOf}
 use mathlib.Core.Path.{sym}
-use borrow.Author.Needs.{needs}
+use native.Mathlib.Omega.{arith}
 use Rattle.accumulator.proofs.StatisticsAccumulator.merge_samples_no_reset.Statement.{
   statement,
 }
@@ -15,7 +15,7 @@ use Rattle.accumulator.proofs.steps.merged.Reads as merged-reads
 
 -- src/lib.rt:144:13
 is-well-formed-requires : tie.Need-is-well-formed-requires
-is-well-formed-requires c κs = search needs
+is-well-formed-requires c κs = tt
 
 -- src/lib.rt:145:13
 returns : tie.Need-returns
@@ -24,7 +24,7 @@ returns c = rw (failed (c .before .is-well-formed .ensures) (c .if1 .taken))
 
 -- src/lib.rt:147:13
 is-well-formed-requires-2 : tie.Need-is-well-formed-requires-2
-is-well-formed-requires-2 c κs = search needs
+is-well-formed-requires-2 c κs = tt
 
 -- src/lib.rt:148:13
 returns-2 : tie.Need-returns-2
@@ -37,7 +37,7 @@ merged-requires c κs = (counts-of _ (passed (c .before .before .before .is-well
 
 -- src/lib.rt:150:9
 kept-requires : tie.Need-kept-requires
-kept-requires c κs = search needs
+kept-requires c κs = tt
 
 -- src/lib.rt:141:5
 returns-3 : tie.Need-returns-3

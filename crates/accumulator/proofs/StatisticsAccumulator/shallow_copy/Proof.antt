@@ -1,6 +1,6 @@
 use Rattle.doubles.proofs.Truth.{failed, passed}
 use Rattle.accumulator.specs.Calls.{paperChanged, copyOf}
-use borrow.Author.Needs.{needs}
+use native.Mathlib.Omega.{arith}
 use Rattle.accumulator.proofs.StatisticsAccumulator.shallow_copy.Statement.{statement}
 use Rattle.accumulator.proofs.StatisticsAccumulator.shallow_copy.Tie as tie
 use Rattle.accumulator.proofs.StatisticsAccumulator.shallow_copy.Reads as reads
@@ -10,7 +10,7 @@ use Rattle.accumulator.proofs.steps.copied.Reads as copied-reads
 
 -- src/lib.rt:117:13
 is-well-formed-requires : tie.Need-is-well-formed-requires
-is-well-formed-requires c κs = search needs
+is-well-formed-requires c κs = tt
 
 -- src/lib.rt:118:13
 returns : tie.Need-returns
@@ -19,7 +19,7 @@ returns c = rw (failed (c .before .is-well-formed .ensures) (c .if1 .taken))
 
 -- src/lib.rt:120:25
 copied-requires : tie.Need-copied-requires
-copied-requires c κs = search needs
+copied-requires c κs = tt
 
 -- src/lib.rt:114:5
 returns-2 : tie.Need-returns-2

@@ -1,6 +1,6 @@
 use Rattle.doubles.proofs.Truth.{failed, passed}
 use Rattle.accumulator.specs.Calls.{paperSummed, summaryOf, summarizeOf}
-use borrow.Author.Needs.{needs}
+use native.Mathlib.Omega.{arith}
 use Rattle.accumulator.proofs.StatisticsAccumulator.summary.Statement.{statement}
 use Rattle.accumulator.proofs.StatisticsAccumulator.summary.Tie as tie
 use Rattle.accumulator.proofs.StatisticsAccumulator.summary.Reads as reads
@@ -9,7 +9,7 @@ use Rattle.accumulator.proofs.judge.is_well_formed.Reads as is-well-for
 
 -- src/lib.rt:205:13
 is-well-formed-requires : tie.Need-is-well-formed-requires
-is-well-formed-requires c κs = search needs
+is-well-formed-requires c κs = tt
 
 -- src/lib.rt:206:13
 returns : tie.Need-returns

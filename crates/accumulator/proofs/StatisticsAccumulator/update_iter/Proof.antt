@@ -5,12 +5,12 @@ use Rattle.accumulator.specs.Update.{enough}
 use Rattle.accumulator.specs.Calls.{paperUpdated, updateOf}
 use Rattle.accumulator.proofs.Accepted.{miscounted}
 use Rattle.accumulator.proofs.Iterated.{accepted, refused}
-use borrow.Author.Needs.{needs}
+use native.Mathlib.Omega.{arith}
 use Rattle.accumulator.proofs.StatisticsAccumulator.update_iter.Statement.{statement}
 use Rattle.accumulator.proofs.StatisticsAccumulator.update_iter.Tie as tie
 
 has-bounded-counts-requires : tie.Need-has-bounded-counts-requires
-has-bounded-counts-requires c κs = search needs
+has-bounded-counts-requires c κs = tt
 
 returns : tie.Need-returns
 unfolding paperUpdated updateOf
@@ -20,10 +20,10 @@ updated-requires : tie.Need-updated-requires
 updated-requires c κs = passed (c .before .has-bounded-counts .ensures) (c .if1 .left)
 
 is-well-formed-requires : tie.Need-is-well-formed-requires
-is-well-formed-requires c κs = search needs
+is-well-formed-requires c κs = tt
 
 update-refusal-requires : tie.Need-update-refusal-requires
-update-refusal-requires c κs = search needs
+update-refusal-requires c κs = tt
 
 returns-2 : tie.Need-returns-2
 unfolding paperUpdated

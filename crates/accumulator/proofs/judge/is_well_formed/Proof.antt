@@ -1,5 +1,5 @@
 use Rattle.accumulator.specs.Record.{wellFormed}
-use borrow.Author.Needs.{needs}
+use native.Mathlib.Omega.{arith}
 use Rattle.accumulator.proofs.judge.is_well_formed.Statement.{statement}
 use Rattle.accumulator.proofs.judge.is_well_formed.Tie as tie
 use Rattle.accumulator.proofs.judge.is_well_formed.Reads as reads
@@ -9,11 +9,11 @@ use Rattle.accumulator.proofs.judge.has_finite_sums.Reads as has-finite
 
 -- src/judge.rt:28:5
 has-finite-sums-requires : tie.Need-has-finite-sums-requires
-has-finite-sums-requires c κs = search needs
+has-finite-sums-requires c κs = tt
 
 -- src/judge.rt:28:26
 has-bounded-counts-requires : tie.Need-has-bounded-counts-requires
-has-bounded-counts-requires c κs = search needs
+has-bounded-counts-requires c κs = tt
 
 -- src/judge.rt:25:1
 returns : tie.Need-returns

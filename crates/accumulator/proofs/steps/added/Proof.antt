@@ -5,8 +5,7 @@ use lib.Dec.{eqb}
 use lib.Ieee.{lt}
 use Rattle.accumulator.specs.Steps.{replaced, addedOf}
 use Rattle.accumulator.proofs.Counts.{within, zero-small}
-use Rattle.accumulator.proofs.Accepted.{none}
-use borrow.Author.Needs.{needs}
+use Rattle.accumulator.proofs.Accepted.{none, added-is}
 use Rattle.accumulator.proofs.steps.added.Statement.{statement}
 use Rattle.accumulator.proofs.steps.added.Tie as tie
 
@@ -14,7 +13,7 @@ add-r : tie.Need-add-r
 add-r c = let w = within _ (c .before .before .before .pre) in omega arith
 
 zero-count-requires : tie.Need-zero-count-requires
-zero-count-requires c κs = search needs
+zero-count-requires c κs = tt
 
 add-r-2 : tie.Need-add-r-2
 add-r-2 c = let w = within _ (c .before .before .before .before .before .pre) in omega (arith, c .before .zero-count .ensures, zero-small (c .before .before .before .before .before .args .eval))
@@ -28,27 +27,34 @@ returns c =
     rw (stay .0, stay .1, c .before .before .before .before .before .before .zero-count .ensures)
 
 is-replaced-requires : tie.Need-is-replaced-requires
-is-replaced-requires c κs = search needs
+is-replaced-requires c κs = tt
 
 is-replaced-requires-2 : tie.Need-is-replaced-requires-2
-is-replaced-requires-2 c κs = search needs
+is-replaced-requires-2 c κs = tt
 
 either-requires : tie.Need-either-requires
-either-requires c κs = search needs
+either-requires c κs = tt
 
 either-number-requires : tie.Need-either-number-requires
-either-number-requires c κs = search needs
+either-number-requires c κs = tt
 
 either-requires-2 : tie.Need-either-requires-2
-either-requires-2 c κs = search needs
+either-requires-2 c κs = tt
 
 either-number-requires-2 : tie.Need-either-number-requires-2
-either-number-requires-2 c κs = search needs
+either-number-requires-2 c κs = tt
 
 returns-2 : tie.Need-returns-2
-unfolding addedOf withExtremes withWaiting
+unfolding withExtremes withWaiting
 returns-2 c =
-    rw (c .either-number2 .ensures, c .before .either2 .ensures, c .before .before .either-number .ensures, c .before .before .before .either .ensures, c .before .before .before .before .is-replaced2 .ensures, c .before .before .before .before .before .before .is-replaced .ensures, c .before .before .before .before .before .before .before .before .before .before .before .before .before .before .zero-count .ensures)
+    added-is _ _ _ _ _ _ _ _ _ _
+    (c .before .before .before .before .before .before .before .before .before .before .before .before .before .before .zero-count .ensures)
+    (c .before .before .before .before .before .before .is-replaced .ensures)
+    (c .before .before .before .before .is-replaced2 .ensures)
+    (c .before .before .before .either .ensures)
+    (c .before .before .either-number .ensures)
+    (c .before .either2 .ensures)
+    (c .either-number2 .ensures)
 
 pub added-spec : {M : Type 1} → statement M
 added-spec =

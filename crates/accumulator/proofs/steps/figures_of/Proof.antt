@@ -1,21 +1,21 @@
 -- The calls, put together, are the definition.
 use Rattle.root.specs.Pair.{rootsOf}
 use Rattle.accumulator.specs.Update.{varianceOf, figuresOf}
-use borrow.Author.Needs.{needs}
+use native.Mathlib.Omega.{arith}
 use Rattle.accumulator.proofs.steps.figures_of.Statement.{statement}
 use Rattle.accumulator.proofs.steps.figures_of.Tie as tie
 
 sqrts-requires : tie.Need-sqrts-requires
-sqrts-requires c κs = search needs
+sqrts-requires c κs = tt
 
 variance-requires : tie.Need-variance-requires
-variance-requires c κs = search needs
+variance-requires c κs = tt
 
 weight-requires : tie.Need-weight-requires
-weight-requires c κs = search needs
+weight-requires c κs = tt
 
 variance-requires-2 : tie.Need-variance-requires-2
-variance-requires-2 c κs = search needs
+variance-requires-2 c κs = tt
 
 returns : tie.Need-returns
 unfolding figuresOf varianceOf rootsOf

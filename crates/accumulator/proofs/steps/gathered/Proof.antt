@@ -4,12 +4,11 @@ use Rattle.accumulator.proofs.Counts.{within}
 use Rattle.accumulator.specs.Record.{withWaiting}
 use Rattle.accumulator.specs.Steps.{clearedOf}
 use Rattle.accumulator.specs.Update.{gatheredOf}
-use borrow.Author.Needs.{needs}
 use Rattle.accumulator.proofs.steps.gathered.Statement.{statement}
 use Rattle.accumulator.proofs.steps.gathered.Tie as tie
 
 cleared-requires : tie.Need-cleared-requires
-cleared-requires c κs = search needs
+cleared-requires c κs = tt
 
 add-r : tie.Need-add-r
 add-r c = let w = within _ (c .before .before .pre) in omega arith

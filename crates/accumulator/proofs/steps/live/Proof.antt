@@ -7,7 +7,7 @@ use Rattle.accumulator.proofs.Processed.{estimates-are}
 use Rattle.accumulator.specs.Record.{raised}
 use Rattle.accumulator.specs.Update.{enough, updatedOf}
 use Rattle.accumulator.specs.Calls.{estimatesOf}
-use borrow.Author.Needs.{needs}
+use native.Mathlib.Omega.{arith}
 use Rattle.accumulator.proofs.steps.live.Statement.{statement}
 use Rattle.accumulator.proofs.steps.live.Tie as tie
 
@@ -22,16 +22,16 @@ int-to-float-all : tie.Need-int-to-float-all
 int-to-float-all c = exact _ (within _ (c .before .before .before .before .pre) .processed)
 
 figures-of-requires : tie.Need-figures-of-requires
-figures-of-requires c κs = search needs
+figures-of-requires c κs = tt
 
 settled-requires : tie.Need-settled-requires
-settled-requires c κs = search needs
+settled-requires c κs = tt
 
 inv-requires : tie.Need-inv-requires
-inv-requires c κs = search needs
+inv-requires c κs = tt
 
 sqrt-requires : tie.Need-sqrt-requires
-sqrt-requires c κs = search needs
+sqrt-requires c κs = tt
 
 returns-2 : tie.Need-returns-2
 unfolding updatedOf enough countOf

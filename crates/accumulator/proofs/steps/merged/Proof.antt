@@ -2,7 +2,6 @@ use native.Mathlib.Omega.{arith}
 use Rattle.accumulator.proofs.Counts.{within}
 use Rattle.accumulator.specs.Record.{withWaiting, withExtremes}
 use Rattle.accumulator.specs.Steps.{mergedOf}
-use borrow.Author.Needs.{needs}
 use Rattle.accumulator.proofs.steps.merged.Statement.{statement}
 use Rattle.accumulator.proofs.steps.merged.Tie as tie
 use Rattle.accumulator.proofs.steps.merged.Reads as reads
@@ -20,19 +19,19 @@ add-r-2 c = let v = within _ (c .before .before .before .before .before .before 
 
 -- src/steps.rt:68:5
 either-requires : tie.Need-either-requires
-either-requires c κs = search needs
+either-requires c κs = tt
 
 -- src/steps.rt:69:5
 either-number-requires : tie.Need-either-number-requires
-either-number-requires c κs = search needs
+either-number-requires c κs = tt
 
 -- src/steps.rt:70:5
 either-requires-2 : tie.Need-either-requires-2
-either-requires-2 c κs = search needs
+either-requires-2 c κs = tt
 
 -- src/steps.rt:71:5
 either-number-requires-2 : tie.Need-either-number-requires-2
-either-number-requires-2 c κs = search needs
+either-number-requires-2 c κs = tt
 
 -- src/steps.rt:57:1
 returns : tie.Need-returns

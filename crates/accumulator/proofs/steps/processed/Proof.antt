@@ -3,6 +3,7 @@ use mathlib.Core.Path.{refl}
 use Rattle.doubles.specs.Count.{countOf}
 use Rattle.accumulator.proofs.Counts.{within, exact, all-count}
 use Rattle.accumulator.proofs.Processed.{steps-are}
+use native.Mathlib.Omega.{arith}
 use borrow.Author.Needs.{needs}
 use Rattle.accumulator.proofs.steps.processed.Statement.{statement}
 use Rattle.accumulator.proofs.steps.processed.Tie as tie
@@ -17,22 +18,22 @@ int-to-float-all : tie.Need-int-to-float-all
 int-to-float-all c = exact _ (within _ (c .before .before .before .pre) .processed)
 
 figures-of-requires : tie.Need-figures-of-requires
-figures-of-requires c κs = search needs
+figures-of-requires c κs = tt
 
 settled-requires : tie.Need-settled-requires
-settled-requires c κs = search needs
+settled-requires c κs = tt
 
 inv-requires : tie.Need-inv-requires
-inv-requires c κs = search needs
+inv-requires c κs = tt
 
 either-requires : tie.Need-either-requires
-either-requires c κs = search needs
+either-requires c κs = tt
 
 either-requires-2 : tie.Need-either-requires-2
-either-requires-2 c κs = search needs
+either-requires-2 c κs = tt
 
 sqrt-requires : tie.Need-sqrt-requires
-sqrt-requires c κs = search needs
+sqrt-requires c κs = tt
 
 returns : tie.Need-returns
 unfolding countOf

@@ -1,11 +1,11 @@
 -- The fields one by one, with the guess that was chosen.
 use Rattle.accumulator.specs.Update.{settledOf}
-use borrow.Author.Needs.{needs}
+use native.Mathlib.Omega.{arith}
 use Rattle.accumulator.proofs.steps.settled.Statement.{statement}
 use Rattle.accumulator.proofs.steps.settled.Tie as tie
 
 either-requires : tie.Need-either-requires
-either-requires c κs = search needs
+either-requires c κs = tt
 
 returns : tie.Need-returns
 unfolding settledOf

@@ -1,5 +1,5 @@
 use Rattle.accumulator.specs.Update.{weightOf}
-use borrow.Author.Needs.{needs}
+use native.Mathlib.Omega.{arith}
 use Rattle.accumulator.proofs.steps.weight.Statement.{statement}
 use Rattle.accumulator.proofs.steps.weight.Tie as tie
 use Rattle.accumulator.proofs.steps.weight.Reads as reads
@@ -13,7 +13,7 @@ returns c = rw (c .if1 .taken)
 
 -- src/steps.rt:112:5
 inv-requires : tie.Need-inv-requires
-inv-requires c κs = search needs
+inv-requires c κs = tt
 
 -- src/steps.rt:106:1
 returns-2 : tie.Need-returns-2

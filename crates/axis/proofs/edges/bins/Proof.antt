@@ -1,7 +1,6 @@
 use native.Mathlib.Omega.{arith}
 use mathlib.Core.Path.{refl}
 use Rattle.axis.specs.Edges.{binsOf}
-use borrow.Author.Needs.{needs}
 use Rattle.axis.proofs.edges.bins.Statement.{statement}
 use Rattle.axis.proofs.edges.bins.Tie as tie
 use Rattle.axis.proofs.edges.bins.Reads as reads
@@ -14,7 +13,7 @@ returns c = omega arith
 
 -- src/edges.rt:42:5
 sub-result : tie.Need-sub-result
-sub-result c = search needs
+sub-result c = omega arith
 
 -- src/edges.rt:36:1
 returns-2 : tie.Need-returns-2

@@ -2,6 +2,7 @@ use lib.Ieee.{nan}
 use mathlib.Core.Path.{sym}
 use lib.ListN.{List·getD-eq-default}
 use lib.Ieee.{div, ofBits}
+use native.Mathlib.Omega.{arith}
 use borrow.Author.Needs.{needs}
 use Rattle.axis.proofs.edges.edge.Statement.{statement}
 use Rattle.axis.proofs.edges.edge.Tie as tie
@@ -10,11 +11,11 @@ use Rattle.axis.proofs.edges.edge.Lts as lts
 
 -- src/edges.rt:50:16
 mul-result : tie.Need-mul-result
-mul-result c = search needs
+mul-result c = omega arith
 
 -- src/edges.rt:50:16
 shared-slice-read-result : tie.Need-shared-slice-read-result
-shared-slice-read-result c = search needs
+shared-slice-read-result c = omega arith
 
 -- src/edges.rt:50:9
 returns : tie.Need-returns

@@ -1,6 +1,6 @@
 -- The point of the spot.
 use mathlib.Core.Path.{ap}
-use borrow.Author.Needs.{needs}
+use native.Mathlib.Omega.{arith}
 use Rattle.axis.specs.declared.Spot.{Spot}
 use Rattle.axis.specs.Calls.{spotOf}
 use Rattle.axis.proofs.edges.point_of.Statement.{statement}
@@ -10,7 +10,7 @@ use Rattle.axis.proofs.edges.point_of.Lts as lts
 use Rattle.axis.proofs.edges.spot_of.Reads as spot-of-reads
 
 spot-of-requires : tie.Need-spot-of-requires
-spot-of-requires c κs = search needs
+spot-of-requires c κs = tt
 
 returns : tie.Need-returns
 unfolding spotOf

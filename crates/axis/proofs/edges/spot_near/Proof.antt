@@ -19,7 +19,7 @@ use Rattle.axis.proofs.edges.spot_of.Reads as spot-of-reads
 
 -- src/edges.rt:93:9
 bins-requires : tie.Need-bins-requires
-bins-requires c κs = search needs
+bins-requires c κs = tt
 
 -- the guess is a bin, of at most 1024
 known : (c : tie.Then1) → (c .before .before .before .args .guess < c .before .bins .result) × (c .before .bins .result ≤ 1024) × (c .before .before .before .args .guess + 1 < length (c .before .before .before .args .edges .now))
@@ -73,7 +73,7 @@ returns c = let k = known (c .before .before .before .before .before .before) in
 
 -- src/edges.rt:110:5
 spot-of-requires : tie.Need-spot-of-requires
-spot-of-requires c κs = search needs
+spot-of-requires c κs = tt
 
 -- src/edges.rt:90:1
 returns-2 : tie.Need-returns-2

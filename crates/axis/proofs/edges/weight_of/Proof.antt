@@ -1,5 +1,5 @@
 use Rattle.axis.specs.Edges.{weightOf}
-use borrow.Author.Needs.{needs}
+use native.Mathlib.Omega.{arith}
 use Rattle.axis.proofs.edges.weight_of.Statement.{statement}
 use Rattle.axis.proofs.edges.weight_of.Tie as tie
 use Rattle.axis.proofs.edges.weight_of.Reads as reads
@@ -10,15 +10,15 @@ use Rattle.plain.proofs.count.Reads as count-reads
 
 -- src/edges.rt:69:17
 bins-requires : tie.Need-bins-requires
-bins-requires c κs = search needs
+bins-requires c κs = tt
 
 -- src/edges.rt:69:5
 count-requires : tie.Need-count-requires
-count-requires c κs = search needs
+count-requires c κs = tt
 
 -- src/edges.rt:69:39
 width-requires : tie.Need-width-requires
-width-requires c κs = search needs
+width-requires c κs = tt
 
 -- src/edges.rt:66:1
 returns : tie.Need-returns

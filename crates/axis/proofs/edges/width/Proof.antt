@@ -4,7 +4,7 @@ use lib.Ieee.{Float, nan, binary64, sub, div, ofBits}
 use Prim.Native.Nat.{_+_}
 use Rattle.axis.specs.Edges.{widthOf}
 use Rattle.axis.proofs.Lists.{sub-nan}
-use borrow.Author.Needs.{needs}
+use native.Mathlib.Omega.{arith}
 use Rattle.axis.proofs.edges.width.Statement.{statement}
 use Rattle.axis.proofs.edges.width.Tie as tie
 use Rattle.axis.proofs.edges.width.Reads as reads
@@ -13,19 +13,19 @@ use Rattle.axis.proofs.edges.edge.Reads as edge-reads
 
 -- src/edges.rt:60:28
 add-edge : tie.Need-add-edge
-add-edge c = search needs
+add-edge c = omega arith
 
 -- src/edges.rt:60:16
 edge-requires : tie.Need-edge-requires
-edge-requires c κs = search needs
+edge-requires c κs = tt
 
 -- src/edges.rt:60:37
 mul-result : tie.Need-mul-result
-mul-result c = search needs
+mul-result c = omega arith
 
 -- src/edges.rt:60:37
 shared-slice-read-result : tie.Need-shared-slice-read-result
-shared-slice-read-result c = search needs
+shared-slice-read-result c = omega arith
 
 -- src/edges.rt:60:9
 returns : tie.Need-returns

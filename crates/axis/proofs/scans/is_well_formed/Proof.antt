@@ -5,7 +5,7 @@ use Rattle.doubles.specs.Numbers.{zero64, one64}
 use borrow.Author.Tests.{lt-leb, le-leb, not-true, not-false}
 use lib.Ieee.{ne}
 use Rattle.axis.specs.Edges.{binsOf, wellFormed}
-use borrow.Author.Needs.{needs}
+use native.Mathlib.Omega.{arith}
 use Rattle.axis.proofs.scans.is_well_formed.Statement.{statement}
 use Rattle.axis.proofs.scans.is_well_formed.Tie as tie
 use Rattle.axis.proofs.scans.is_well_formed.Reads as reads
@@ -19,7 +19,7 @@ returns c = rw (lt-leb _ _ (c .if1 .taken))
 
 -- src/scans.rt:28:8
 shared-slice-read-if2 : tie.Need-shared-slice-read-if2
-shared-slice-read-if2 c = search needs
+shared-slice-read-if2 c = omega arith
 
 -- src/scans.rt:29:9
 returns-2 : tie.Need-returns-2
@@ -28,15 +28,15 @@ returns-2 c = rw (le-leb _ _ (c .before .before .if1 .left), not-true (eq (getD 
 
 -- src/scans.rt:31:14
 sub-if3 : tie.Need-sub-if3
-sub-if3 c = search needs
+sub-if3 c = omega arith
 
 -- src/scans.rt:31:8
 mul-if3 : tie.Need-mul-if3
-mul-if3 c = search needs
+mul-if3 c = omega arith
 
 -- src/scans.rt:31:8
 shared-slice-read-if3 : tie.Need-shared-slice-read-if3
-shared-slice-read-if3 c = search needs
+shared-slice-read-if3 c = omega arith
 
 -- src/scans.rt:32:9
 returns-3 : tie.Need-returns-3
@@ -45,7 +45,7 @@ returns-3 c = rw (le-leb _ _ (c .before .before .before .before .if1 .left), not
 
 -- src/scans.rt:34:5
 is-rising-requires : tie.Need-is-rising-requires
-is-rising-requires c κs = search needs
+is-rising-requires c κs = tt
 
 -- src/scans.rt:21:1
 returns-4 : tie.Need-returns-4

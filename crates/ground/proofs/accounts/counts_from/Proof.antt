@@ -5,7 +5,7 @@ use lib.ListN.{replicate}
 use lib.Seq.{sets}
 use Rattle.lent.specs.Memory.{fromOn}
 use Rattle.lent.proofs.Runs.{from-out, rest-whole}
-use borrow.Author.Needs.{needs}
+use native.Mathlib.Omega.{arith}
 use Rattle.ground.proofs.accounts.counts_from.Statement.{statement}
 use Rattle.ground.proofs.accounts.counts_from.Tie as tie
 use Rattle.ground.proofs.accounts.counts_from.Reads as reads
@@ -14,27 +14,27 @@ use Rattle.ground.proofs.parts.set_counts.Reads as set-counts-reads
 
 -- src/accounts.rt:29:27
 slice-aggregate-set-counts : tie.Need-slice-aggregate-set-counts
-slice-aggregate-set-counts c = search needs
+slice-aggregate-set-counts c = omega arith
 
 -- src/accounts.rt:29:38
 mul-set-counts : tie.Need-mul-set-counts
-mul-set-counts c = search needs
+mul-set-counts c = omega arith
 
 -- src/accounts.rt:29:38
 sub-set-counts : tie.Need-sub-set-counts
-sub-set-counts c = search needs
+sub-set-counts c = omega arith
 
 -- src/accounts.rt:29:38
 part-set-counts-start : tie.Need-part-set-counts-start
-part-set-counts-start c = search needs
+part-set-counts-start c = omega arith
 
 -- src/accounts.rt:29:38
 part-set-counts-end : tie.Need-part-set-counts-end
-part-set-counts-end c = search needs
+part-set-counts-end c = omega arith
 
 -- src/accounts.rt:29:9
 set-counts-requires : tie.Need-set-counts-requires
-set-counts-requires c κs = search needs
+set-counts-requires c κs = tt
 
 -- src/accounts.rt:24:1
 returns : tie.Need-returns

@@ -5,7 +5,7 @@ use lib.Seq.{sets}
 use Rattle.lent.specs.Memory.{fromOn}
 use Rattle.lent.proofs.Runs.{from-out, rest-whole}
 use lib.Ieee.{Float, nan, div, ofBits}
-use borrow.Author.Needs.{needs}
+use native.Mathlib.Omega.{arith}
 use Rattle.ground.proofs.accounts.reals_from.Statement.{statement}
 use Rattle.ground.proofs.accounts.reals_from.Tie as tie
 use Rattle.ground.proofs.accounts.reals_from.Reads as reads
@@ -14,27 +14,27 @@ use Rattle.ground.proofs.parts.set_reals.Reads as set-reals-reads
 
 -- src/accounts.rt:18:26
 slice-aggregate-set-reals : tie.Need-slice-aggregate-set-reals
-slice-aggregate-set-reals c = search needs
+slice-aggregate-set-reals c = omega arith
 
 -- src/accounts.rt:18:37
 mul-set-reals : tie.Need-mul-set-reals
-mul-set-reals c = search needs
+mul-set-reals c = omega arith
 
 -- src/accounts.rt:18:37
 sub-set-reals : tie.Need-sub-set-reals
-sub-set-reals c = search needs
+sub-set-reals c = omega arith
 
 -- src/accounts.rt:18:37
 part-set-reals-start : tie.Need-part-set-reals-start
-part-set-reals-start c = search needs
+part-set-reals-start c = omega arith
 
 -- src/accounts.rt:18:37
 part-set-reals-end : tie.Need-part-set-reals-end
-part-set-reals-end c = search needs
+part-set-reals-end c = omega arith
 
 -- src/accounts.rt:18:9
 set-reals-requires : tie.Need-set-reals-requires
-set-reals-requires c κs = search needs
+set-reals-requires c κs = tt
 
 -- src/accounts.rt:13:1
 returns : tie.Need-returns

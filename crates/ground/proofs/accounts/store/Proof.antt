@@ -1,6 +1,6 @@
 use mathlib.Core.Path.{ap₂}
 use Rattle.lent.specs.Memory.{memory, stored, realsOf, countsOf}
-use borrow.Author.Needs.{needs}
+use native.Mathlib.Omega.{arith}
 use Rattle.ground.proofs.accounts.store.Statement.{statement}
 use Rattle.ground.proofs.accounts.store.Tie as tie
 use Rattle.ground.proofs.accounts.store.Reads as reads
@@ -10,27 +10,27 @@ use Rattle.ground.proofs.parts.set_reals.Reads as set-reals-reads
 
 -- src/accounts.rt:94:32
 slice-aggregate-set-reals : tie.Need-slice-aggregate-set-reals
-slice-aggregate-set-reals c = search needs
+slice-aggregate-set-reals c = omega arith
 
 -- src/accounts.rt:94:5
 set-reals-requires : tie.Need-set-reals-requires
-set-reals-requires c κs = search needs
+set-reals-requires c κs = tt
 
 -- src/accounts.rt:95:34
 slice-aggregate-set-counts : tie.Need-slice-aggregate-set-counts
-slice-aggregate-set-counts c = search needs
+slice-aggregate-set-counts c = omega arith
 
 -- src/accounts.rt:95:5
 set-counts-requires : tie.Need-set-counts-requires
-set-counts-requires c κs = search needs
+set-counts-requires c κs = tt
 
 -- src/accounts.rt:66:1
 same-length : tie.Need-same-length
-same-length c = search needs
+same-length c = omega arith
 
 -- src/accounts.rt:66:1
 same-length-2 : tie.Need-same-length-2
-same-length-2 c = search needs
+same-length-2 c = omega arith
 
 -- src/accounts.rt:66:1
 returns : tie.Need-returns

@@ -1,5 +1,5 @@
 use Rattle.model.specs.Draw.{flooredOf}
-use borrow.Author.Needs.{needs}
+use native.Mathlib.Omega.{arith}
 use Rattle.ground.proofs.floors.floored.Statement.{statement}
 use Rattle.ground.proofs.floors.floored.Tie as tie
 use Rattle.ground.proofs.floors.floored.Reads as reads
@@ -23,7 +23,7 @@ returns-3 c = rw (c .before .before .if1 .left, c .before .if2 .left, c .if3 .ta
 
 -- src/axes.rt:86:5
 inv-requires : tie.Need-inv-requires
-inv-requires c κs = search needs
+inv-requires c κs = tt
 
 -- src/axes.rt:74:1
 returns-4 : tie.Need-returns-4

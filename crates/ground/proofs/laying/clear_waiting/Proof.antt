@@ -2,7 +2,7 @@
 use Rattle.doubles.proofs.Truth.{failed, passed}
 use Rattle.lent.specs.Laid.{whereRoomy, waitlessOf}
 use Rattle.lent.proofs.Rooms.{roomy-had}
-use borrow.Author.Needs.{needs}
+use native.Mathlib.Omega.{arith}
 use Rattle.ground.proofs.laying.clear_waiting.Statement.{statement}
 use Rattle.ground.proofs.laying.clear_waiting.Tie as tie
 use Rattle.ground.proofs.laying.clear_waiting.Reads as reads
@@ -11,7 +11,7 @@ use Rattle.ground.proofs.laying.clear_waiting_there.Reads as clear-wait
 use Rattle.lent.proofs.room.is_roomy.Reads as is-roomy-reads
 
 is-roomy-requires : tie.Need-is-roomy-requires
-is-roomy-requires c κs = search needs
+is-roomy-requires c κs = tt
 
 returns : tie.Need-returns
 unfolding waitlessOf whereRoomy
@@ -21,10 +21,10 @@ clear-waiting-there-requires : tie.Need-clear-waiting-there-requires
 clear-waiting-there-requires c κs = roomy-had _ _ _ _ (c .before .before .before .before .before .before .args .reals .now) (c .before .before .before .before .before .before .args .counts .now) (passed (c .before .before .before .is-roomy .ensures) (c .before .before .if1 .left))
 
 same-length : tie.Need-same-length
-same-length c = search needs
+same-length c = omega arith
 
 same-length-2 : tie.Need-same-length-2
-same-length-2 c = search needs
+same-length-2 c = omega arith
 
 returns-2 : tie.Need-returns-2
 unfolding waitlessOf whereRoomy

@@ -2,7 +2,7 @@
 use Rattle.doubles.proofs.Truth.{failed, passed}
 use Rattle.lent.specs.Laid.{whereRoomy, emptyOf}
 use Rattle.lent.proofs.Rooms.{roomy-had}
-use borrow.Author.Needs.{needs}
+use native.Mathlib.Omega.{arith}
 use Rattle.ground.proofs.laying.empty_axis.Statement.{statement}
 use Rattle.ground.proofs.laying.empty_axis.Tie as tie
 use Rattle.ground.proofs.laying.empty_axis.Reads as reads
@@ -11,7 +11,7 @@ use Rattle.ground.proofs.laying.empty_axis_there.Reads as empty-axis-th
 use Rattle.lent.proofs.room.is_roomy.Reads as is-roomy-reads
 
 is-roomy-requires : tie.Need-is-roomy-requires
-is-roomy-requires c κs = search needs
+is-roomy-requires c κs = tt
 
 returns : tie.Need-returns
 unfolding emptyOf whereRoomy
@@ -21,10 +21,10 @@ empty-axis-there-requires : tie.Need-empty-axis-there-requires
 empty-axis-there-requires c κs = roomy-had _ _ _ _ (c .before .before .before .before .before .before .args .reals .now) (c .before .before .before .before .before .before .args .counts .now) (passed (c .before .before .before .is-roomy .ensures) (c .before .before .if1 .left))
 
 same-length : tie.Need-same-length
-same-length c = search needs
+same-length c = omega arith
 
 same-length-2 : tie.Need-same-length-2
-same-length-2 c = search needs
+same-length-2 c = omega arith
 
 returns-2 : tie.Need-returns-2
 unfolding emptyOf whereRoomy

@@ -15,24 +15,24 @@ forget-requires : tie.Need-forget-requires
 forget-requires c κs = search needs
 
 mul-counts : tie.Need-mul-counts
-mul-counts c = search needs
+mul-counts c = omega arith
 
 slice-write-counts : tie.Need-slice-write-counts
 unfolding axisReals axisCounts
 slice-write-counts c = omega arith
 
 add-counts : tie.Need-add-counts
-add-counts c = search needs
+add-counts c = omega arith
 
 mul-counts-2 : tie.Need-mul-counts-2
-mul-counts-2 c = search needs
+mul-counts-2 c = omega arith
 
 slice-write-counts-2 : tie.Need-slice-write-counts-2
 unfolding axisReals axisCounts
 slice-write-counts-2 c = simp length-set (omega arith)
 
 same-length : tie.Need-same-length
-same-length c = search needs
+same-length c = omega arith
 
 same-length-2 : tie.Need-same-length-2
 unfolding axisReals axisCounts

@@ -4,12 +4,12 @@ use lib.Ieee.{binary64}
 use lib.Ieee.Bits.{nanBits-is}
 use Rattle.plan.specs.Ranges.{ratioFits}
 use Rattle.plan.proofs.Ranges.{nan-ratio}
-use borrow.Author.Needs.{needs}
+use native.Mathlib.Omega.{arith}
 use Rattle.plan.proofs.bits.ratio_fits.Statement.{statement}
 use Rattle.plan.proofs.bits.ratio_fits.Tie as tie
 
 is-nan-requires : tie.Need-is-nan-requires
-is-nan-requires c κs = search needs
+is-nan-requires c κs = tt
 
 returns : tie.Need-returns
 returns c = nan-ratio _ (sym (nanBits-is binary64 (c .before .before .args .bits)) ∙ sym (c .before .is-nan .ensures) ∙ c .if1 .taken)

@@ -9,16 +9,16 @@ pair-at-requires : tie.Need-pair-at-requires
 pair-at-requires c κs = search needs
 
 add-pair-at : tie.Need-add-pair-at
-add-pair-at c = search needs
+add-pair-at c = omega arith
 
 pair-at-requires-2 : tie.Need-pair-at-requires-2
 pair-at-requires-2 c κs = search needs
 
 mul-result : tie.Need-mul-result
-mul-result c = search needs
+mul-result c = omega arith
 
 add-result : tie.Need-add-result
-add-result c = search needs
+add-result c = omega arith
 
 returns : tie.Need-returns
 returns c = (rw (c .before .pair-at .ensures .0, c .pair-at2 .ensures .0) (four-bytes _ _), omega (arith, c .before .pair-at .ensures .1, c .pair-at2 .ensures .1))

@@ -6,43 +6,43 @@ use Rattle.plan.proofs.fields.axes_at.Statement.{statement}
 use Rattle.plan.proofs.fields.axes_at.Tie as tie
 
 add-byte-at : tie.Need-add-byte-at
-add-byte-at c = search needs
+add-byte-at c = omega arith
 
 byte-at-requires : tie.Need-byte-at-requires
-byte-at-requires c κs = search needs
+byte-at-requires c κs = tt
 
 add-pair-at : tie.Need-add-pair-at
-add-pair-at c = search needs
+add-pair-at c = omega arith
 
 pair-at-requires : tie.Need-pair-at-requires
 pair-at-requires c κs = search needs
 
 add-four-at : tie.Need-add-four-at
-add-four-at c = search needs
+add-four-at c = omega arith
 
 four-at-requires : tie.Need-four-at-requires
 four-at-requires c κs = search needs
 
 add-byte-at-2 : tie.Need-add-byte-at-2
-add-byte-at-2 c = search needs
+add-byte-at-2 c = omega arith
 
 byte-at-requires-2 : tie.Need-byte-at-requires-2
-byte-at-requires-2 c κs = search needs
+byte-at-requires-2 c κs = tt
 
 add-eight-at : tie.Need-add-eight-at
-add-eight-at c = search needs
+add-eight-at c = omega arith
 
 eight-at-requires : tie.Need-eight-at-requires
 eight-at-requires c κs = search needs
 
 add-values-in : tie.Need-add-values-in
-add-values-in c = search needs
+add-values-in c = omega arith
 
 values-in-requires : tie.Need-values-in-requires
 values-in-requires c κs = search needs
 
 add-most-in : tie.Need-add-most-in
-add-most-in c = search needs
+add-most-in c = omega arith
 
 most-in-requires : tie.Need-most-in-requires
 most-in-requires c κs = search needs

@@ -3,7 +3,7 @@ use borrow.Author.Tests.{eq-eqb, ne-eqb, le-leb, lt-leb}
 use mathlib.Core.Path.{sym, _∙_}
 use Rattle.doubles.proofs.Truth.{failed, passed}
 use Rattle.plan.specs.Fields.{axesFault}
-use borrow.Author.Needs.{needs}
+use native.Mathlib.Omega.{arith}
 use Rattle.plan.proofs.fields.axes_fault.Statement.{statement}
 use Rattle.plan.proofs.fields.axes_fault.Tie as tie
 
@@ -12,14 +12,14 @@ unfolding axesFault
 returns c = rw (eq-eqb _ _ (c .if1 .taken))
 
 is-within-requires : tie.Need-is-within-requires
-is-within-requires c κs = search needs
+is-within-requires c κs = tt
 
 returns-2 : tie.Need-returns-2
 unfolding axesFault
 returns-2 c = rw (ne-eqb _ _ (c .before .before .if1 .left), failed (c .before .is-within .ensures) (c .if2 .taken))
 
 is-within-requires-2 : tie.Need-is-within-requires-2
-is-within-requires-2 c κs = search needs
+is-within-requires-2 c κs = tt
 
 returns-3 : tie.Need-returns-3
 unfolding axesFault
@@ -32,7 +32,7 @@ returns-4 c = let e3 = c .before .before in let e2 = e3 .before .before in
     rw (ne-eqb _ _ (e2 .before .before .if1 .left), passed (e2 .before .is-within .ensures) (e2 .if2 .left), passed (e3 .before .is-within2 .ensures) (e3 .if3 .left), lt-leb _ _ (c .if4 .taken))
 
 floor-fits-requires : tie.Need-floor-fits-requires
-floor-fits-requires c κs = search needs
+floor-fits-requires c κs = tt
 
 returns-5 : tie.Need-returns-5
 unfolding axesFault

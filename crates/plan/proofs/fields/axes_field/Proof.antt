@@ -25,14 +25,14 @@ axes-at-requires : tie.Need-axes-at-requires
 axes-at-requires c κs = search needs
 
 axes-fault-requires : tie.Need-axes-fault-requires
-axes-fault-requires c κs = search needs
+axes-fault-requires c κs = tt
 
 returns-2 : tie.Need-returns-2
 unfolding axesField
 returns-2 c = let e1 = c .before .before .before in rw (passed (e1 .before .is-formed .ensures) (e1 .if1 .left), ← c .before .before .axes-at .ensures .0, ← c .before .axes-fault .ensures, ne-eqb _ _ (c .if2 .taken))
 
 add-next : tie.Need-add-next
-add-next c = search needs
+add-next c = omega arith
 
 evolution-fault-requires : tie.Need-evolution-fault-requires
 evolution-fault-requires c κs = let e1 = c .before .before .before in omega (arith, whole _ _ 16 (passed (e1 .before .is-formed .ensures) (e1 .if1 .left)))

@@ -1,26 +1,27 @@
 -- Each number is read where the definition reads it; no place wraps.
 use Rattle.plan.specs.Fields.{binsAt}
+use native.Mathlib.Omega.{arith}
 use borrow.Author.Needs.{needs}
 use Rattle.plan.proofs.fields.bins_at.Statement.{statement}
 use Rattle.plan.proofs.fields.bins_at.Tie as tie
 
 add-pair-at : tie.Need-add-pair-at
-add-pair-at c = search needs
+add-pair-at c = omega arith
 
 pair-at-requires : tie.Need-pair-at-requires
 pair-at-requires c κs = search needs
 
 add-eight-at : tie.Need-add-eight-at
-add-eight-at c = search needs
+add-eight-at c = omega arith
 
 eight-at-requires : tie.Need-eight-at-requires
 eight-at-requires c κs = search needs
 
 add-byte-at : tie.Need-add-byte-at
-add-byte-at c = search needs
+add-byte-at c = omega arith
 
 byte-at-requires : tie.Need-byte-at-requires
-byte-at-requires c κs = search needs
+byte-at-requires c κs = tt
 
 returns : tie.Need-returns
 unfolding binsAt

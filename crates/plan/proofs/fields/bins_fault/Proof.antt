@@ -3,7 +3,7 @@ use borrow.Author.Tests.{eq-eqb, ne-eqb, le-leb, lt-leb}
 use mathlib.Core.Path.{sym, _∙_}
 use Rattle.doubles.proofs.Truth.{failed, passed}
 use Rattle.plan.specs.Fields.{binsFault}
-use borrow.Author.Needs.{needs}
+use native.Mathlib.Omega.{arith}
 use Rattle.plan.proofs.fields.bins_fault.Statement.{statement}
 use Rattle.plan.proofs.fields.bins_fault.Tie as tie
 
@@ -16,7 +16,7 @@ unfolding binsFault
 returns-2 c = rw (ne-eqb _ _ (c .before .if1 .left), eq-eqb _ _ (c .if2 .taken))
 
 is-within-requires : tie.Need-is-within-requires
-is-within-requires c κs = search needs
+is-within-requires c κs = tt
 
 returns-3 : tie.Need-returns-3
 unfolding binsFault
@@ -29,7 +29,7 @@ returns-4 c = let e3 = c .before .before in let e2 = e3 .before .before in
     rw (ne-eqb _ _ (e2 .before .if1 .left), ne-eqb _ _ (e2 .if2 .left), passed (e3 .before .is-within .ensures) (e3 .if3 .left), lt-leb _ _ (c .if4 .taken))
 
 ratio-fits-requires : tie.Need-ratio-fits-requires
-ratio-fits-requires c κs = search needs
+ratio-fits-requires c κs = tt
 
 returns-5 : tie.Need-returns-5
 unfolding binsFault

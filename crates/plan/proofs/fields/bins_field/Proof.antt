@@ -4,6 +4,7 @@ use borrow.Author.Tests.{ne-eqb}
 use Rattle.plan.specs.Fields.{binsField}
 use Rattle.doubles.proofs.Truth.{failed, passed}
 use Rattle.plan.proofs.Faults.{bins-fit}
+use native.Mathlib.Omega.{arith}
 use borrow.Author.Needs.{needs}
 use Rattle.plan.proofs.fields.bins_field.Statement.{statement}
 use Rattle.plan.proofs.fields.bins_field.Tie as tie
@@ -19,14 +20,14 @@ bins-at-requires : tie.Need-bins-at-requires
 bins-at-requires c κs = search needs
 
 bins-fault-requires : tie.Need-bins-fault-requires
-bins-fault-requires c κs = search needs
+bins-fault-requires c κs = tt
 
 returns-2 : tie.Need-returns-2
 unfolding binsField
 returns-2 c = let e1 = c .before .before .before in rw (passed (e1 .before .is-formed .ensures) (e1 .if1 .left), ← c .before .before .bins-at .ensures, ← c .before .bins-fault .ensures, ne-eqb _ _ (c .if2 .taken))
 
 add-t11 : tie.Need-add-t11
-add-t11 c = search needs
+add-t11 c = omega arith
 
 take-bins-requires : tie.Need-take-bins-requires
 take-bins-requires c κs = bins-fit (c .before .before .before .before .before .before .before .pre .roomy) _ _ (sym (c .before .bins-fault .ensures) ∙ c .if2 .left)

@@ -9,23 +9,23 @@ use Rattle.plan.proofs.fields.evolution_fault.Statement.{statement}
 use Rattle.plan.proofs.fields.evolution_fault.Tie as tie
 
 byte-at-requires : tie.Need-byte-at-requires
-byte-at-requires c κs = search needs
+byte-at-requires c κs = tt
 
 returns : tie.Need-returns
 unfolding evolutionFault
 returns c = rw (← c .before .byte-at .ensures .0, ne-eqb _ _ (c .if1 .taken))
 
 add-pair-at : tie.Need-add-pair-at
-add-pair-at c = search needs
+add-pair-at c = omega arith
 
 pair-at-requires : tie.Need-pair-at-requires
 pair-at-requires c κs = search needs
 
 add-if2 : tie.Need-add-if2
-add-if2 c = search needs
+add-if2 c = omega arith
 
 add-if2-2 : tie.Need-add-if2-2
-add-if2-2 c = search needs
+add-if2-2 c = omega arith
 
 returns-2 : tie.Need-returns-2
 unfolding evolutionFault
@@ -40,7 +40,7 @@ values-in-requires : tie.Need-values-in-requires
 values-in-requires c κs = search needs
 
 is-within-requires : tie.Need-is-within-requires
-is-within-requires c κs = search needs
+is-within-requires c κs = tt
 
 returns-4 : tie.Need-returns-4
 unfolding evolutionFault
@@ -48,7 +48,7 @@ returns-4 c = let e3 = c .before .before .before in let e2 = e3 .before in let e
     rw (← e1 .before .byte-at .ensures .0, eq-eqb _ _ (e1 .if1 .left), ← e2 .before .pair-at .ensures .0, le-leb _ _ (e2 .if2 .left), eq-eqb _ _ (e3 .if3 .left), ← c .before .before .values-in .ensures .0, failed (c .before .is-within .ensures) (c .if4 .taken))
 
 add-most-in : tie.Need-add-most-in
-add-most-in c = search needs
+add-most-in c = omega arith
 
 most-in-requires : tie.Need-most-in-requires
 most-in-requires c κs = omega (arith, c .before .before .values-in .ensures .1)

@@ -1,12 +1,13 @@
 -- The tag picks the field.
 use borrow.Author.Tests.{eq-eqb, ne-eqb}
 use Rattle.plan.specs.Fields.{fieldOf}
+use native.Mathlib.Omega.{arith}
 use borrow.Author.Needs.{needs}
 use Rattle.plan.proofs.fields.field_at.Statement.{statement}
 use Rattle.plan.proofs.fields.field_at.Tie as tie
 
 byte-at-requires : tie.Need-byte-at-requires
-byte-at-requires c κs = search needs
+byte-at-requires c κs = tt
 
 axes-field-requires : tie.Need-axes-field-requires
 axes-field-requires c κs = search needs

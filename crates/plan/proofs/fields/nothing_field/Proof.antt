@@ -1,6 +1,7 @@
 -- The form is all there is to judge.
 use mathlib.Core.Path.{sym, _∙_}
 use Rattle.plan.specs.Fields.{nothingField}
+use native.Mathlib.Omega.{arith}
 use borrow.Author.Needs.{needs}
 use Rattle.plan.proofs.fields.nothing_field.Statement.{statement}
 use Rattle.plan.proofs.fields.nothing_field.Tie as tie
@@ -9,7 +10,7 @@ is-formed-requires : tie.Need-is-formed-requires
 is-formed-requires c κs = search needs
 
 add-t7 : tie.Need-add-t7
-add-t7 c = search needs
+add-t7 c = omega arith
 
 returns : tie.Need-returns
 unfolding nothingField

@@ -1,7 +1,7 @@
 -- The branch is the definition's.
 use borrow.Author.Tests.{eq-eqb, ne-eqb}
 use Rattle.plan.specs.Fields.{spanOf}
-use borrow.Author.Needs.{needs}
+use native.Mathlib.Omega.{arith}
 use Rattle.plan.proofs.fields.span.Statement.{statement}
 use Rattle.plan.proofs.fields.span.Tie as tie
 
@@ -10,10 +10,10 @@ unfolding spanOf
 returns c = rw (eq-eqb _ _ (c .if1 .taken))
 
 mul-result : tie.Need-mul-result
-mul-result c = search needs
+mul-result c = omega arith
 
 add-result : tie.Need-add-result
-add-result c = search needs
+add-result c = omega arith
 
 returns-2 : tie.Need-returns-2
 unfolding spanOf

@@ -3,24 +3,23 @@ use mathlib.Core.Path.{refl}
 use native.Mathlib.Omega.{arith}
 use Rattle.plan.specs.Needs.{axesTaken, axesReals, axesCounts}
 use Rattle.plan.proofs.Faults.{area, reals-area, counts-area}
-use borrow.Author.Needs.{needs}
 use Rattle.plan.proofs.fields.take_axes.Statement.{statement}
 use Rattle.plan.proofs.fields.take_axes.Tie as tie
 
 sub-left : tie.Need-sub-left
-sub-left c = search needs
+sub-left c = omega arith
 
 add-words : tie.Need-add-words
-add-words c = search needs
+add-words c = omega arith
 
 add-words-2 : tie.Need-add-words-2
-add-words-2 c = search needs
+add-words-2 c = omega arith
 
 mul-reals : tie.Need-mul-reals
-mul-reals c = search needs
+mul-reals c = omega arith
 
 add-reals : tie.Need-add-reals
-add-reals c = search needs
+add-reals c = omega arith
 
 mul-reals-2 : tie.Need-mul-reals-2
 mul-reals-2 c = let f = c .before .before .before .before .before .pre in omega (arith, reals-area (f .axes) (f .most))
@@ -32,10 +31,10 @@ add-reals-3 : tie.Need-add-reals-3
 add-reals-3 c = let f = c .before .before .before .before .before .before .pre in omega (arith, reals-area (f .axes) (f .most), f .room .reals)
 
 mul-counts : tie.Need-mul-counts
-mul-counts c = search needs
+mul-counts c = omega arith
 
 add-counts : tie.Need-add-counts
-add-counts c = search needs
+add-counts c = omega arith
 
 mul-counts-2 : tie.Need-mul-counts-2
 mul-counts-2 c = let f = c .before .before .before .before .before .before .before .before .pre in omega (arith, counts-area (f .axes) (f .most))

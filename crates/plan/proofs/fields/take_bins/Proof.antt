@@ -1,39 +1,39 @@
 -- A judged bins grid has few bins, so that no sum wraps.
 use mathlib.Core.Path.{refl}
 use Rattle.plan.specs.Needs.{binsTaken, binsReals, binsCounts}
-use borrow.Author.Needs.{needs}
+use native.Mathlib.Omega.{arith}
 use Rattle.plan.proofs.fields.take_bins.Statement.{statement}
 use Rattle.plan.proofs.fields.take_bins.Tie as tie
 
 sub-left : tie.Need-sub-left
-sub-left c = search needs
+sub-left c = omega arith
 
 add-words : tie.Need-add-words
-add-words c = search needs
+add-words c = omega arith
 
 add-words-2 : tie.Need-add-words-2
-add-words-2 c = search needs
+add-words-2 c = omega arith
 
 mul-reals : tie.Need-mul-reals
-mul-reals c = search needs
+mul-reals c = omega arith
 
 add-reals : tie.Need-add-reals
-add-reals c = search needs
+add-reals c = omega arith
 
 add-reals-2 : tie.Need-add-reals-2
-add-reals-2 c = search needs
+add-reals-2 c = omega arith
 
 mul-counts : tie.Need-mul-counts
-mul-counts c = search needs
+mul-counts c = omega arith
 
 add-counts : tie.Need-add-counts
-add-counts c = search needs
+add-counts c = omega arith
 
 add-counts-2 : tie.Need-add-counts-2
-add-counts-2 c = search needs
+add-counts-2 c = omega arith
 
 add-bins : tie.Need-add-bins
-add-bins c = search needs
+add-bins c = omega arith
 
 returns : tie.Need-returns
 unfolding binsTaken binsReals binsCounts

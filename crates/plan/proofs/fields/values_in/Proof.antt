@@ -8,10 +8,10 @@ use Rattle.plan.proofs.fields.values_in.Statement.{statement}
 use Rattle.plan.proofs.fields.values_in.Tie as tie
 
 byte-at-requires : tie.Need-byte-at-requires
-byte-at-requires c κs = search needs
+byte-at-requires c κs = tt
 
 add-pair-at : tie.Need-add-pair-at
-add-pair-at c = search needs
+add-pair-at c = omega arith
 
 pair-at-requires : tie.Need-pair-at-requires
 pair-at-requires c κs = search needs

@@ -3,7 +3,6 @@ use Rattle.plan.proofs.Accepts.{step-inside}
 use Prim.Native.Nat.{_+_, _-_}
 use mathlib.Core.Path.{sym, _∙_}
 use native.Mathlib.Omega.{arith}
-use borrow.Author.Needs.{needs}
 use Rattle.plan.specs.Reading.{treeOf, fromBytes}
 use Rattle.plan.specs.Bounds.{Inside}
 use Rattle.plan.proofs.Here.{past-inside, deep}
@@ -56,7 +55,7 @@ measure-enum-known-number : (t : ℕ) → measure-lts.Need-enum-known-number (
   measure-all-below t,
   measure-all.Post,
 ) (measure-at t) measure.Post
-measure-enum-known-number t c = search needs
+measure-enum-known-number t c = omega arith
 
 measure-enum-known-bin : (t : ℕ) → measure-lts.Need-enum-known-bin (
   field-at-reads.Asked,
@@ -64,7 +63,7 @@ measure-enum-known-bin : (t : ℕ) → measure-lts.Need-enum-known-bin (
   measure-all-below t,
   measure-all.Post,
 ) (measure-at t) measure.Post
-measure-enum-known-bin t c = search needs
+measure-enum-known-bin t c = omega arith
 
 measure-enum-told : (t : ℕ) → measure-lts.Need-enum-told (
   field-at-reads.Asked,
@@ -72,7 +71,7 @@ measure-enum-told : (t : ℕ) → measure-lts.Need-enum-told (
   measure-all-below t,
   measure-all.Post,
 ) (measure-at t) measure.Post
-measure-enum-told t c = search needs
+measure-enum-told t c = omega arith
 
 measure-enum-told-2 : (t : ℕ) → measure-lts.Need-enum-told-2 (
   field-at-reads.Asked,
@@ -80,7 +79,7 @@ measure-enum-told-2 : (t : ℕ) → measure-lts.Need-enum-told-2 (
   measure-all-below t,
   measure-all.Post,
 ) (measure-at t) measure.Post
-measure-enum-told-2 t c = search needs
+measure-enum-told-2 t c = omega arith
 
 measure-enum-known-child : (t : ℕ) → measure-lts.Need-enum-known-child (
   field-at-reads.Asked,
@@ -88,7 +87,7 @@ measure-enum-known-child : (t : ℕ) → measure-lts.Need-enum-known-child (
   measure-all-below t,
   measure-all.Post,
 ) (measure-at t) measure.Post
-measure-enum-known-child t c = search needs
+measure-enum-known-child t c = omega arith
 
 measure-sub-measure-all : (t : ℕ) → measure-lts.Need-sub-measure-all (
   field-at-reads.Asked,
@@ -167,7 +166,7 @@ measure-all-enum-known-number : (t : ℕ) → measure-all-lts.Need-enum-known-nu
   measure-below t,
   measure.Post,
 ) (measure-all-at t) measure-all.Post measure-all-Inv-loop measure-all-μ-loop
-measure-all-enum-known-number t c = search needs
+measure-all-enum-known-number t c = omega arith
 
 measure-all-returns :
     (t : ℕ) →
@@ -183,7 +182,7 @@ measure-all-enum-known-next : (t : ℕ) → measure-all-lts.Need-enum-known-next
   measure-below t,
   measure.Post,
 ) (measure-all-at t) measure-all.Post measure-all-Inv-loop measure-all-μ-loop
-measure-all-enum-known-next t c = search needs
+measure-all-enum-known-next t c = omega arith
 
 measure-all-add-i :
     (t : ℕ) →
@@ -193,7 +192,7 @@ measure-all-add-i :
     measure-all.Post
     measure-all-Inv-loop
     measure-all-μ-loop
-measure-all-add-i t c = search needs
+measure-all-add-i t c = omega arith
 
 measure-all-loop-less :
     (t : ℕ) →
@@ -203,7 +202,7 @@ measure-all-loop-less :
     measure-all.Post
     measure-all-Inv-loop
     measure-all-μ-loop
-measure-all-loop-less t c = search needs
+measure-all-loop-less t c = omega arith
 
 measure-all-loop-again :
     (t : ℕ) →

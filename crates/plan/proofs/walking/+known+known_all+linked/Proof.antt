@@ -2,7 +2,6 @@
 use Prim.Native.Nat.{_+_, _-_, _*_, _≤_}
 use mathlib.Core.Path.{sym, _∙_}
 use native.Mathlib.Omega.{arith}
-use borrow.Author.Needs.{needs}
 use Rattle.plan.specs.Reading.{treeOf}
 use Rattle.plan.specs.Walk.{childOf, fromTable}
 use Rattle.plan.specs.Bounds.{Roomy}
@@ -68,7 +67,7 @@ known-enum-known-number : (t : ℕ) → known-lts.Need-enum-known-number (
   known-all-below t,
   known-all.Post,
 ) (known-at t) known.Post
-known-enum-known-number t c = search needs
+known-enum-known-number t c = omega arith
 
 known-enum-known-bin : (t : ℕ) → known-lts.Need-enum-known-bin (
   row-at-reads.Asked,
@@ -76,7 +75,7 @@ known-enum-known-bin : (t : ℕ) → known-lts.Need-enum-known-bin (
   known-all-below t,
   known-all.Post,
 ) (known-at t) known.Post
-known-enum-known-bin t c = search needs
+known-enum-known-bin t c = omega arith
 
 known-enum-told : (t : ℕ) → known-lts.Need-enum-told (
   row-at-reads.Asked,
@@ -84,7 +83,7 @@ known-enum-told : (t : ℕ) → known-lts.Need-enum-told (
   known-all-below t,
   known-all.Post,
 ) (known-at t) known.Post
-known-enum-told t c = search needs
+known-enum-told t c = omega arith
 
 known-enum-told-2 : (t : ℕ) → known-lts.Need-enum-told-2 (
   row-at-reads.Asked,
@@ -92,7 +91,7 @@ known-enum-told-2 : (t : ℕ) → known-lts.Need-enum-told-2 (
   known-all-below t,
   known-all.Post,
 ) (known-at t) known.Post
-known-enum-told-2 t c = search needs
+known-enum-told-2 t c = omega arith
 
 known-enum-known-child : (t : ℕ) → known-lts.Need-enum-known-child (
   row-at-reads.Asked,
@@ -100,7 +99,7 @@ known-enum-known-child : (t : ℕ) → known-lts.Need-enum-known-child (
   known-all-below t,
   known-all.Post,
 ) (known-at t) known.Post
-known-enum-known-child t c = search needs
+known-enum-known-child t c = omega arith
 
 known-sub-known-all : (t : ℕ) → known-lts.Need-sub-known-all (
   row-at-reads.Asked,
@@ -198,7 +197,7 @@ known-all-enum-known-number : (t : ℕ) → known-all-lts.Need-enum-known-number
   linked-below t,
   linked.Post,
 ) (known-all-at t) known-all.Post known-all-Inv-loop known-all-μ-loop
-known-all-enum-known-number t c = search needs
+known-all-enum-known-number t c = omega arith
 
 known-all-returns :
     (t : ℕ) →
@@ -214,7 +213,7 @@ known-all-enum-known-next : (t : ℕ) → known-all-lts.Need-enum-known-next (
   linked-below t,
   linked.Post,
 ) (known-all-at t) known-all.Post known-all-Inv-loop known-all-μ-loop
-known-all-enum-known-next t c = search needs
+known-all-enum-known-next t c = omega arith
 
 known-all-add-i :
     (t : ℕ) →
@@ -224,7 +223,7 @@ known-all-add-i :
     known-all.Post
     known-all-Inv-loop
     known-all-μ-loop
-known-all-add-i t c = search needs
+known-all-add-i t c = omega arith
 
 known-all-loop-less :
     (t : ℕ) →
@@ -234,7 +233,7 @@ known-all-loop-less :
     known-all.Post
     known-all-Inv-loop
     known-all-μ-loop
-known-all-loop-less t c = search needs
+known-all-loop-less t c = omega arith
 
 known-all-loop-again :
     (t : ℕ) →
@@ -263,7 +262,7 @@ linked-word-at-requires : (t : ℕ) → linked-lts.Need-word-at-requires (
   known-below t,
   known.Post,
 ) (linked-at t) linked.Post
-linked-word-at-requires t c κs = search needs
+linked-word-at-requires t c κs = tt
 
 linked-returns : (t : ℕ) → linked-lts.Need-returns (
   word-at-reads.Asked,

@@ -22,7 +22,7 @@ axes-row-requires : tie.Need-axes-row-requires
 axes-row-requires c κs = search needs
 
 axes-fault-requires : tie.Need-axes-fault-requires
-axes-fault-requires c κs = search needs
+axes-fault-requires c κs = tt
 
 returns-2 : tie.Need-returns-2
 unfolding axesAtWord

@@ -4,6 +4,7 @@ use borrow.Author.Tests.{ne-eqb}
 use Rattle.plan.specs.Walk.{binsAtWord}
 use Rattle.doubles.proofs.Truth.{failed, passed}
 use Rattle.plan.proofs.Faults.{bins-fit}
+use native.Mathlib.Omega.{arith}
 use borrow.Author.Needs.{needs}
 use Rattle.plan.proofs.walking.bins_at_word.Statement.{statement}
 use Rattle.plan.proofs.walking.bins_at_word.Tie as tie
@@ -19,7 +20,7 @@ bins-row-requires : tie.Need-bins-row-requires
 bins-row-requires c κs = search needs
 
 bins-fault-requires : tie.Need-bins-fault-requires
-bins-fault-requires c κs = search needs
+bins-fault-requires c κs = tt
 
 take-bins-requires : tie.Need-take-bins-requires
 take-bins-requires c κs = bins-fit (c .before .before .before .before .before .before .before .pre) _ _ (sym (c .before .bins-fault .ensures) ∙ c .if2 .taken)

@@ -16,7 +16,7 @@ unfolding evolved
 returns-2 c = let s = c .before .before .before .before .before in rw (lt-ltb (s .args .a .least) 0x1_0000_0000 (omega arith), lt-leb _ _ (c .if2 .taken))
 
 add-most-among : tie.Need-add-most-among
-add-most-among c = search needs
+add-most-among c = omega arith
 
 most-among-requires : tie.Need-most-among-requires
 most-among-requires c κs = search needs

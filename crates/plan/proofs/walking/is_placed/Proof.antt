@@ -1,38 +1,38 @@
 -- The three comparisons are the definition's.
 use borrow.Author.Tests.{eq-eqb, ne-eqb}
 use Rattle.plan.specs.Walk.{placed}
-use borrow.Author.Needs.{needs}
+use native.Mathlib.Omega.{arith}
 use Rattle.plan.proofs.walking.is_placed.Statement.{statement}
 use Rattle.plan.proofs.walking.is_placed.Tie as tie
 
 add-word-at : tie.Need-add-word-at
-add-word-at c = search needs
+add-word-at c = omega arith
 
 word-at-requires : tie.Need-word-at-requires
-word-at-requires c κs = search needs
+word-at-requires c κs = tt
 
 returns : tie.Need-returns
 unfolding placed
 returns c = rw (← c .before .word-at .ensures, ne-eqb _ _ (c .if1 .taken))
 
 add-word-at-2 : tie.Need-add-word-at-2
-add-word-at-2 c = search needs
+add-word-at-2 c = omega arith
 
 word-at-requires-2 : tie.Need-word-at-requires-2
-word-at-requires-2 c κs = search needs
+word-at-requires-2 c κs = tt
 
 returns-2 : tie.Need-returns-2
 unfolding placed
 returns-2 c = let e1 = c .before .before .before .before in rw (← e1 .before .word-at .ensures, eq-eqb _ _ (e1 .if1 .left), ← c .before .before .word-at2 .ensures, ne-eqb _ _ (c .if2 .taken))
 
 add-word-at-3 : tie.Need-add-word-at-3
-add-word-at-3 c = search needs
+add-word-at-3 c = omega arith
 
 add-word-at-4 : tie.Need-add-word-at-4
-add-word-at-4 c = search needs
+add-word-at-4 c = omega arith
 
 word-at-requires-3 : tie.Need-word-at-requires-3
-word-at-requires-3 c κs = search needs
+word-at-requires-3 c κs = tt
 
 returns-3 : tie.Need-returns-3
 unfolding placed

@@ -2,7 +2,6 @@
 use Prim.Native.Nat.{_+_, _-_}
 use native.Mathlib.Omega.{arith}
 use lib.ListN.{getD}
-use borrow.Author.Needs.{needs}
 use Rattle.plan.specs.Numbers.{wordsAt}
 use Rattle.doubles.proofs.Truth.{failed, passed}
 use Rattle.plan.proofs.Runs.{Scanning, scanning-from, scanning-all, scanning-out, scanning-next}
@@ -22,23 +21,23 @@ add-word-at : tie.Need-add-word-at Inv-loop μ-loop
 add-word-at c = omega (arith, c .before .loop .inv .low)
 
 word-at-requires : tie.Need-word-at-requires Inv-loop μ-loop
-word-at-requires c κs = search needs
+word-at-requires c κs = tt
 
 is-within-requires : tie.Need-is-within-requires Inv-loop μ-loop
-is-within-requires c κs = search needs
+is-within-requires c κs = tt
 
 returns : tie.Need-returns Inv-loop μ-loop
 unfolding wordsAt
 returns c = let p = c .before .before in scanning-out (p .before .before .loop .inv) (p .before .loop-test .taken) (p .word-at .ensures) (failed (c .before .is-within .ensures) (c .if1 .taken))
 
 larger-of-requires : tie.Need-larger-of-requires Inv-loop μ-loop
-larger-of-requires c κs = search needs
+larger-of-requires c κs = tt
 
 add-i : tie.Need-add-i Inv-loop μ-loop
-add-i c = search needs
+add-i c = omega arith
 
 loop-less : tie.Need-loop-less Inv-loop μ-loop
-loop-less c = search needs
+loop-less c = omega arith
 
 loop-again : tie.Need-loop-again Inv-loop μ-loop
 loop-again c = let e = c .before in let p = e .before .before in scanning-next (p .before .before .loop .inv) (p .before .loop-test .taken) (p .word-at .ensures) (passed (e .before .is-within .ensures) (e .if1 .left)) (c .larger-of .ensures) (omega arith)

@@ -1,12 +1,13 @@
 -- The kind picks the record.
 use borrow.Author.Tests.{eq-eqb, ne-eqb}
 use Rattle.plan.specs.Walk.{rowOf}
+use native.Mathlib.Omega.{arith}
 use borrow.Author.Needs.{needs}
 use Rattle.plan.proofs.walking.row_at.Statement.{statement}
 use Rattle.plan.proofs.walking.row_at.Tie as tie
 
 word-at-requires : tie.Need-word-at-requires
-word-at-requires c κs = search needs
+word-at-requires c κs = tt
 
 axes-at-word-requires : tie.Need-axes-at-word-requires
 axes-at-word-requires c κs = search needs

@@ -2,7 +2,6 @@
 use Prim.Native.Nat.{_+_, _-_}
 use mathlib.Core.Path.{sym, _∙_}
 use native.Mathlib.Omega.{arith}
-use borrow.Author.Needs.{needs}
 use Rattle.plan.proofs.Here.{deep}
 use Rattle.plan.proofs.Writes.{Writing, writing-from, slot-in, writing-child, writing-next, writing-stop, writing-end, wrote-stop, wrote-nothing, axes-few, axes-room, wrote-axes, all-writable, wrote-bins}
 use Prim.Native.Nat.{ℕ, _<_}
@@ -67,7 +66,7 @@ write-enum-told : (t : ℕ) → write-lts.Need-enum-told (
   write-all-below t,
   write-all.Post,
 ) (write-at t) write.Post
-write-enum-told t c = search needs
+write-enum-told t c = omega arith
 
 write-enum-known-bin : (t : ℕ) → write-lts.Need-enum-known-bin (
   field-at-reads.Asked,
@@ -81,7 +80,7 @@ write-enum-known-bin : (t : ℕ) → write-lts.Need-enum-known-bin (
   write-all-below t,
   write-all.Post,
 ) (write-at t) write.Post
-write-enum-known-bin t c = search needs
+write-enum-known-bin t c = omega arith
 
 write-enum-told-2 : (t : ℕ) → write-lts.Need-enum-told-2 (
   field-at-reads.Asked,
@@ -95,7 +94,7 @@ write-enum-told-2 : (t : ℕ) → write-lts.Need-enum-told-2 (
   write-all-below t,
   write-all.Post,
 ) (write-at t) write.Post
-write-enum-told-2 t c = search needs
+write-enum-told-2 t c = omega arith
 
 write-enum-known-child : (t : ℕ) → write-lts.Need-enum-known-child (
   field-at-reads.Asked,
@@ -109,7 +108,7 @@ write-enum-known-child : (t : ℕ) → write-lts.Need-enum-known-child (
   write-all-below t,
   write-all.Post,
 ) (write-at t) write.Post
-write-enum-known-child t c = search needs
+write-enum-known-child t c = omega arith
 
 write-put-axes-requires : (t : ℕ) → write-lts.Need-put-axes-requires (
   field-at-reads.Asked,
@@ -183,7 +182,7 @@ write-enum-known-child-2 : (t : ℕ) → write-lts.Need-enum-known-child-2 (
   write-all-below t,
   write-all.Post,
 ) (write-at t) write.Post
-write-enum-known-child-2 t c = search needs
+write-enum-known-child-2 t c = omega arith
 
 write-put-bins-requires : (t : ℕ) → write-lts.Need-put-bins-requires (
   field-at-reads.Asked,
@@ -351,7 +350,7 @@ write-all-link-at-requires : (t : ℕ) → write-all-lts.Need-link-at-requires (
   write-below t,
   write.Post,
 ) (write-all-at t) write-all.Post write-all-Inv-loop write-all-μ-loop
-write-all-link-at-requires t c κs = search needs
+write-all-link-at-requires t c κs = tt
 
 write-all-add-table : (t : ℕ) → write-all-lts.Need-add-table (
   link-at-reads.Asked,
@@ -391,7 +390,7 @@ write-all-add-i : (t : ℕ) → write-all-lts.Need-add-i (
   write-below t,
   write.Post,
 ) (write-all-at t) write-all.Post write-all-Inv-loop write-all-μ-loop
-write-all-add-i t c = search needs
+write-all-add-i t c = omega arith
 
 write-all-loop-less : (t : ℕ) → write-all-lts.Need-loop-less (
   link-at-reads.Asked,
@@ -399,7 +398,7 @@ write-all-loop-less : (t : ℕ) → write-all-lts.Need-loop-less (
   write-below t,
   write.Post,
 ) (write-all-at t) write-all.Post write-all-Inv-loop write-all-μ-loop
-write-all-loop-less t c = search needs
+write-all-loop-less t c = omega arith
 
 write-all-loop-again : (t : ℕ) → write-all-lts.Need-loop-again (
   link-at-reads.Asked,

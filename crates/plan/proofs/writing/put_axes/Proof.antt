@@ -1,5 +1,5 @@
 -- The record is one run of words.
-use borrow.Author.Needs.{needs}
+use native.Mathlib.Omega.{arith}
 use Rattle.plan.specs.Table.{headAxes}
 use Rattle.plan.proofs.writing.put_axes.Statement.{statement}
 use Rattle.plan.proofs.writing.put_axes.Tie as tie
@@ -8,13 +8,13 @@ use Rattle.plan.proofs.writing.put_axes.Lts as lts
 use Rattle.plan.proofs.writing.set_words.Reads as set-words-reads
 
 slice-aggregate-set-words : tie.Need-slice-aggregate-set-words
-slice-aggregate-set-words c = search needs
+slice-aggregate-set-words c = omega arith
 
 set-words-requires : tie.Need-set-words-requires
 set-words-requires c κs = tt
 
 same-length : tie.Need-same-length
-same-length c = search needs
+same-length c = omega arith
 
 returns : tie.Need-returns
 unfolding headAxes

@@ -1,7 +1,6 @@
 -- What is stored and what is left to store are the whole run.
 use Prim.Native.Nat.{_+_, _-_, _*_}
 use native.Mathlib.Omega.{arith}
-use borrow.Author.Needs.{needs}
 use Rattle.plan.specs.Numbers.{numberAt, valuesAt}
 use Rattle.plan.proofs.Runs.{Copying, copying-from, copying-all, copying-next}
 use Rattle.plan.proofs.writing.put_values.Statement.{statement}
@@ -17,7 +16,7 @@ loop-holds : tie.Need-loop-holds Inv-loop μ-loop
 loop-holds c = copying-from _ _ _ _ _ _ _ (omega arith)
 
 mul-pair-at : tie.Need-mul-pair-at Inv-loop μ-loop
-mul-pair-at c = search needs
+mul-pair-at c = omega arith
 
 add-pair-at : tie.Need-add-pair-at Inv-loop μ-loop
 add-pair-at c = omega (arith, c .before .loop .inv .low)
@@ -35,10 +34,10 @@ slice-write-table : tie.Need-slice-write-table Inv-loop μ-loop
 slice-write-table c = omega (arith, c .before .before .loop .inv .size)
 
 add-i : tie.Need-add-i Inv-loop μ-loop
-add-i c = search needs
+add-i c = omega arith
 
 loop-less : tie.Need-loop-less Inv-loop μ-loop
-loop-less c = search needs
+loop-less c = omega arith
 
 loop-again : tie.Need-loop-again Inv-loop μ-loop
 loop-again c = copying-next (c .before .before .loop .inv) (c .before .loop-test .taken) (c .pair-at .ensures .0) (omega arith)

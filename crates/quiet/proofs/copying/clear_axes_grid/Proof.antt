@@ -5,6 +5,7 @@ use Rattle.lent.specs.declared.AxesAt.{AxesAt}
 use Rattle.lent.specs.Memory.{memory}
 use Rattle.lent.specs.Drawn.{Stands}
 use Rattle.lent.proofs.Clones.{axes-emptied}
+use native.Mathlib.Omega.{arith}
 use borrow.Author.Needs.{needs}
 use Rattle.quiet.proofs.copying.clear_axes_grid.Statement.{statement}
 use Rattle.quiet.proofs.copying.clear_axes_grid.Tie as tie
@@ -24,27 +25,27 @@ axes-place-requires c κs = tt
 
 -- src/copying.rt:45:19
 add-r : tie.Need-add-r
-add-r c = search needs
+add-r c = omega arith
 
 -- src/copying.rt:45:13
 mul-r : tie.Need-mul-r
-mul-r c = search needs
+mul-r c = omega arith
 
 -- src/copying.rt:45:13
 shared-slice-read-r : tie.Need-shared-slice-read-r
-shared-slice-read-r c = search needs
+shared-slice-read-r c = omega arith
 
 -- src/copying.rt:46:19
 add-c : tie.Need-add-c
-add-c c = search needs
+add-c c = omega arith
 
 -- src/copying.rt:46:13
 mul-c : tie.Need-mul-c
-mul-c c = search needs
+mul-c c = omega arith
 
 -- src/copying.rt:46:13
 shared-slice-read-c : tie.Need-shared-slice-read-c
-shared-slice-read-c c = search needs
+shared-slice-read-c c = omega arith
 
 -- src/copying.rt:47:5
 clear-axes-requires : tie.Need-clear-axes-requires
@@ -56,11 +57,11 @@ clear-requires c κs = tt
 
 -- src/copying.rt:40:1
 same-length : tie.Need-same-length
-same-length c = search needs
+same-length c = omega arith
 
 -- src/copying.rt:40:1
 same-length-2 : tie.Need-same-length-2
-same-length-2 c = search needs
+same-length-2 c = omega arith
 
 -- src/copying.rt:40:1
 returns : tie.Need-returns

@@ -7,7 +7,6 @@ use Rattle.lent.proofs.Laid.{laid-head, laid-axes, laid-bins}
 use Rattle.lent.proofs.Sounds.{node-axes}
 use Rattle.lent.proofs.Samples.{sound-stands}
 use Rattle.lent.proofs.Clones.{root-axes, root-bins}
-use borrow.Author.Needs.{needs}
 use Rattle.quiet.proofs.copying.clear_root.Statement.{statement}
 use Rattle.quiet.proofs.copying.clear_root.Tie as tie
 use Rattle.quiet.proofs.copying.clear_root.Reads as reads
@@ -25,11 +24,11 @@ clear-axes-grid-requires c κs = ((laid-axes 4 (c .before .before .before .befor
 
 -- src/copying.rt:74:9
 same-length : tie.Need-same-length
-same-length c = search needs
+same-length c = omega arith
 
 -- src/copying.rt:74:9
 same-length-2 : tie.Need-same-length-2
-same-length-2 c = search needs
+same-length-2 c = omega arith
 
 -- src/copying.rt:74:9
 returns : tie.Need-returns
@@ -41,11 +40,11 @@ clear-own-requires c κs = laid-bins 4 (c .before .before .before .before .befor
 
 -- src/copying.rt:68:1
 same-length-3 : tie.Need-same-length-3
-same-length-3 c = search needs
+same-length-3 c = omega arith
 
 -- src/copying.rt:68:1
 same-length-4 : tie.Need-same-length-4
-same-length-4 c = search needs
+same-length-4 c = omega arith
 
 -- src/copying.rt:68:1
 returns-2 : tie.Need-returns-2

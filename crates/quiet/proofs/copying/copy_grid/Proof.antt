@@ -6,7 +6,6 @@ use Rattle.lent.specs.Memory.{memory}
 use Rattle.lent.specs.State.{judgedTo}
 use Rattle.lent.proofs.States.{fault-to-known}
 use Rattle.lent.proofs.Clones.{front-fits, ready, copy-sound, copy-laid, copy-put, clone-refused, clone-made}
-use borrow.Author.Needs.{needs}
 use Rattle.quiet.proofs.copying.copy_grid.Statement.{statement}
 use Rattle.quiet.proofs.copying.copy_grid.Tie as tie
 use Rattle.quiet.proofs.copying.copy_grid.Reads as reads
@@ -18,7 +17,7 @@ use Rattle.judges.proofs.state.fault_to.Reads as fault-to-reads
 
 -- src/copying.rt:92:9
 fault-to-requires : tie.Need-fault-to-requires
-fault-to-requires c κs = search needs
+fault-to-requires c κs = tt
 
 -- the caller has read the plan's needs already
 planned : (c : tie.After-fault-to) → c .fault-to .result ≡ judgedTo (c .before .before .before .before .before .before .args .table .now) (c .before .before .before .before .before .before .args .reals .now) (c .before .before .before .before .before .before .args .counts .now) (length (c .before .before .before .before .before .before .args .to-reals .now)) (length (c .before .before .before .before .before .before .args .to-counts .now)) (c .before .before .before .before .before .before .args .needs)
@@ -30,11 +29,11 @@ returns c = clone-refused (c .before .before .before .before .before .before .be
 
 -- src/copying.rt:99:37
 sub-put-reals : tie.Need-sub-put-reals
-sub-put-reals c = search needs
+sub-put-reals c = omega arith
 
 -- src/copying.rt:99:37
 part-put-reals-start : tie.Need-part-put-reals-start
-part-put-reals-start c = search needs
+part-put-reals-start c = omega arith
 
 -- src/copying.rt:99:37
 part-put-reals-end : tie.Need-part-put-reals-end
@@ -46,11 +45,11 @@ put-reals-requires c κs = front-fits ((c .before .before .before .before .befor
 
 -- src/copying.rt:100:39
 sub-put-counts : tie.Need-sub-put-counts
-sub-put-counts c = search needs
+sub-put-counts c = omega arith
 
 -- src/copying.rt:100:39
 part-put-counts-start : tie.Need-part-put-counts-start
-part-put-counts-start c = search needs
+part-put-counts-start c = omega arith
 
 -- src/copying.rt:100:39
 part-put-counts-end : tie.Need-part-put-counts-end
@@ -66,11 +65,11 @@ clear-root-requires c κs = (copy-laid (c .before .before .before .before .befor
 
 -- src/copying.rt:80:1
 same-length : tie.Need-same-length
-same-length c = search needs
+same-length c = omega arith
 
 -- src/copying.rt:80:1
 same-length-2 : tie.Need-same-length-2
-same-length-2 c = search needs
+same-length-2 c = omega arith
 
 -- src/copying.rt:80:1
 returns-2 : tie.Need-returns-2

@@ -1,6 +1,6 @@
 use lib.Ieee.{binary64, mul}
 use Rattle.lent.proofs.Paths.{through-weight, through-refusal}
-use borrow.Author.Needs.{needs}
+use native.Mathlib.Omega.{arith}
 use Rattle.quiet.proofs.descent.through_bin.Statement.{statement}
 use Rattle.quiet.proofs.descent.through_bin.Tie as tie
 use Rattle.quiet.proofs.descent.through_bin.Reads as reads
@@ -8,11 +8,11 @@ use Rattle.quiet.proofs.descent.through_bin.Lts as lts
 
 -- src/descent.rt:35:24
 enum-known-probed : tie.Need-enum-known-probed
-enum-known-probed c = search needs
+enum-known-probed c = omega arith
 
 -- src/descent.rt:36:25
 enum-known-probed-2 : tie.Need-enum-known-probed-2
-enum-known-probed-2 c = search needs
+enum-known-probed-2 c = omega arith
 
 -- src/descent.rt:31:1
 returns : tie.Need-returns

@@ -10,35 +10,35 @@ use Rattle.quiet.proofs.laying.lay_axis.Statement.{statement}
 use Rattle.quiet.proofs.laying.lay_axis.Tie as tie
 
 add-places : tie.Need-add-places
-add-places c = search needs
+add-places c = omega arith
 
 add-end : tie.Need-add-end
-add-end c = search needs
+add-end c = omega arith
 
 mul-lay-even : tie.Need-mul-lay-even
-mul-lay-even c = search needs
+mul-lay-even c = omega arith
 
 sub-lay-even : tie.Need-sub-lay-even
-sub-lay-even c = search needs
+sub-lay-even c = omega arith
 
 part-lay-even-start : tie.Need-part-lay-even-start
-part-lay-even-start c = search needs
+part-lay-even-start c = omega arith
 
 part-lay-even-end : tie.Need-part-lay-even-end
 unfolding axisReals axisCounts
 part-lay-even-end c = omega arith
 
 lay-even-requires : tie.Need-lay-even-requires
-lay-even-requires c κs = search needs
+lay-even-requires c κs = tt
 
 empty-axis-requires : tie.Need-empty-axis-requires
 empty-axis-requires c κs = tt
 
 same-length : tie.Need-same-length
-same-length c = search needs
+same-length c = omega arith
 
 same-length-2 : tie.Need-same-length-2
-same-length-2 c = search needs
+same-length-2 c = omega arith
 
 returns : tie.Need-returns
 unfolding layAt edgedAt axisReals axisCounts

@@ -1,7 +1,7 @@
 -- `parts::put_counts` meets its contract: a run with room stands between what was before and behind it.
 use mathlib.Core.Path.{_∙_}
 use Rattle.lent.proofs.Runs.{sets-put}
-use borrow.Author.Needs.{needs}
+use native.Mathlib.Omega.{arith}
 use Rattle.quiet.proofs.parts.put_counts.Statement.{statement}
 use Rattle.quiet.proofs.parts.put_counts.Tie as tie
 use Rattle.quiet.proofs.parts.put_counts.Reads as reads
@@ -9,10 +9,10 @@ use Rattle.quiet.proofs.parts.put_counts.Lts as lts
 use Rattle.ground.proofs.parts.set_counts.Reads as set-counts-reads
 
 set-counts-requires : tie.Need-set-counts-requires
-set-counts-requires c κs = search needs
+set-counts-requires c κs = tt
 
 same-length : tie.Need-same-length
-same-length c = search needs
+same-length c = omega arith
 
 returns : tie.Need-returns
 returns c = c .before .before .set-counts .ensures ∙ sets-put (c .before .before .before .before .before .before .args .start) (c .before .before .before .before .before .before .args .part .now) (c .before .before .before .before .before .before .args .counts .now) (c .before .before .before .before .before .before .pre)

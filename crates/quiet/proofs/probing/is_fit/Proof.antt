@@ -1,4 +1,5 @@
 -- `probing::is_fit` meets its contract: an open coordinate fits, a given one where it lies in [0, 1].
+use native.Mathlib.Omega.{arith}
 use borrow.Author.Needs.{needs}
 use Rattle.quiet.proofs.probing.is_fit.Statement.{statement}
 use Rattle.quiet.proofs.probing.is_fit.Tie as tie
@@ -12,7 +13,7 @@ returns c = search needs
 
 -- src/probing.rt:29:5
 in-unit-requires : tie.Need-in-unit-requires
-in-unit-requires c κs = search needs
+in-unit-requires c κs = tt
 
 -- src/probing.rt:23:1
 returns-2 : tie.Need-returns-2

@@ -9,6 +9,7 @@ use Rattle.axis.specs.Calls.{paperProbed}
 use Rattle.lent.specs.Probed.{coordinatesOf, probedOf}
 use Rattle.lent.proofs.Probes.{coordinates-length}
 use Rattle.lent.proofs.Reading.{length-axes}
+use native.Mathlib.Omega.{arith}
 use borrow.Author.Needs.{needs}
 use Rattle.quiet.proofs.probing.probe_axes.Statement.{statement}
 use Rattle.quiet.proofs.probing.probe_axes.Tie as tie
@@ -28,7 +29,7 @@ weigh-axes-requires c κs = search needs
 
 -- src/probing.rt:86:5
 under-floor-requires : tie.Need-under-floor-requires
-under-floor-requires c κs = search needs
+under-floor-requires c κs = tt
 
 -- src/probing.rt:79:1
 returns-2 : tie.Need-returns-2

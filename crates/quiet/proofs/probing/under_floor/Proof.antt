@@ -1,6 +1,6 @@
 -- `probing::under_floor` meets its contract: the floor on a weight; a refusal passes through.
 use Rattle.lent.proofs.Probes.{floors-weight, floors-refusal}
-use borrow.Author.Needs.{needs}
+use native.Mathlib.Omega.{arith}
 use Rattle.quiet.proofs.probing.under_floor.Statement.{statement}
 use Rattle.quiet.proofs.probing.under_floor.Tie as tie
 use Rattle.quiet.proofs.probing.under_floor.Reads as reads
@@ -9,15 +9,15 @@ use Rattle.ground.proofs.floors.floored.Reads as floored-reads
 
 -- src/probing.rt:73:24
 enum-known-probed : tie.Need-enum-known-probed
-enum-known-probed c = search needs
+enum-known-probed c = omega arith
 
 -- src/probing.rt:73:50
 floored-requires : tie.Need-floored-requires
-floored-requires c κs = search needs
+floored-requires c κs = tt
 
 -- src/probing.rt:74:25
 enum-known-probed-2 : tie.Need-enum-known-probed-2
-enum-known-probed-2 c = search needs
+enum-known-probed-2 c = omega arith
 
 -- src/probing.rt:69:1
 returns : tie.Need-returns

@@ -1,5 +1,6 @@
 -- `probing::weigh_on` meets its contract: the search by halves finds the rule's bin on well-formed edges.
 use Rattle.axis.proofs.Searches.{search-is}
+use native.Mathlib.Omega.{arith}
 use borrow.Author.Needs.{needs}
 use Rattle.quiet.proofs.probing.weigh_on.Statement.{statement}
 use Rattle.quiet.proofs.probing.weigh_on.Tie as tie
@@ -14,11 +15,11 @@ returns c = search needs
 
 -- src/probing.rt:40:44
 bin-of-requires : tie.Need-bin-of-requires
-bin-of-requires c κs = search needs
+bin-of-requires c κs = tt
 
 -- src/probing.rt:40:14
 weight-of-requires : tie.Need-weight-of-requires
-weight-of-requires c κs = search needs
+weight-of-requires c κs = tt
 
 -- src/probing.rt:33:1
 returns-2 : tie.Need-returns-2

@@ -5,7 +5,6 @@ use native.Mathlib.Omega.{arith}
 use lib.ListN.{length, drop}
 use Rattle.recut.specs.Chances.{allChances}
 use Rattle.recut.proofs.Shares.{chances-next, chances-end}
-use borrow.Author.Needs.{needs}
 use Rattle.recut.proofs.chances.are_chances.Statement.{statement}
 use Rattle.recut.proofs.chances.are_chances.Tie as tie
 use Rattle.recut.proofs.chances.are_chances.Reads as reads
@@ -32,7 +31,7 @@ shared-slice-read-is-chance c = omega arith
 
 -- src/chances.rt:83:19
 is-chance-requires : tie.Need-is-chance-requires Inv-loop μ-loop
-is-chance-requires c κs = search needs
+is-chance-requires c κs = tt
 
 -- src/chances.rt:84:9
 add-i : tie.Need-add-i Inv-loop μ-loop

@@ -5,7 +5,6 @@ use native.Mathlib.Omega.{arith}
 use lib.ListN.{length, take, drop, length-set}
 use Rattle.recut.specs.Chances.{shareOf}
 use Rattle.recut.proofs.Shares.{map-next, map-end}
-use borrow.Author.Needs.{needs}
 use Rattle.recut.proofs.chances.divide.Statement.{statement}
 use Rattle.recut.proofs.chances.divide.Tie as tie
 use Rattle.recut.proofs.chances.divide.Reads as reads
@@ -32,7 +31,7 @@ slice-read-share-of c = omega arith
 
 -- src/chances.rt:64:17
 share-of-requires : tie.Need-share-of-requires Inv-loop μ-loop
-share-of-requires c κs = search needs
+share-of-requires c κs = tt
 
 -- src/chances.rt:64:9
 mul-ps : tie.Need-mul-ps Inv-loop μ-loop

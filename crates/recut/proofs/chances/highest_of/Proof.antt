@@ -6,7 +6,6 @@ use lib.Ieee.{Float}
 use Rattle.doubles.specs.Numbers.{zero64}
 use Rattle.recut.specs.Chances.{highest}
 use Rattle.recut.proofs.Shares.{highest-next, highest-end}
-use borrow.Author.Needs.{needs}
 use Rattle.recut.proofs.chances.highest_of.Statement.{statement}
 use Rattle.recut.proofs.chances.highest_of.Tie as tie
 use Rattle.recut.proofs.chances.highest_of.Reads as reads
@@ -33,7 +32,7 @@ shared-slice-read-higher-of c = omega arith
 
 -- src/chances.rt:24:9
 higher-of-requires : tie.Need-higher-of-requires Inv-loop μ-loop
-higher-of-requires c κs = search needs
+higher-of-requires c κs = tt
 
 -- src/chances.rt:25:9
 add-i : tie.Need-add-i Inv-loop μ-loop

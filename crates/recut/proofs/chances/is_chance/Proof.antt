@@ -1,5 +1,5 @@
 use Rattle.recut.specs.Chances.{chance}
-use borrow.Author.Needs.{needs}
+use native.Mathlib.Omega.{arith}
 use Rattle.recut.proofs.chances.is_chance.Statement.{statement}
 use Rattle.recut.proofs.chances.is_chance.Tie as tie
 use Rattle.recut.proofs.chances.is_chance.Reads as reads
@@ -8,7 +8,7 @@ use Rattle.plain.proofs.finite.Reads as finite-reads
 
 -- src/chances.rt:73:5
 finite-requires : tie.Need-finite-requires
-finite-requires c κs = search needs
+finite-requires c κs = tt
 
 -- src/chances.rt:70:1
 returns : tie.Need-returns

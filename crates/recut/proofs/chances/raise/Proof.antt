@@ -5,7 +5,6 @@ use native.Mathlib.Omega.{arith}
 use lib.ListN.{length, take, drop, length-set}
 use Rattle.recut.specs.Chances.{raisedTo}
 use Rattle.recut.proofs.Shares.{map-next, map-end}
-use borrow.Author.Needs.{needs}
 use Rattle.recut.proofs.chances.raise.Statement.{statement}
 use Rattle.recut.proofs.chances.raise.Tie as tie
 use Rattle.recut.proofs.chances.raise.Reads as reads
@@ -32,7 +31,7 @@ slice-read-raised c = omega arith
 
 -- src/chances.rt:46:17
 raised-requires : tie.Need-raised-requires Inv-loop μ-loop
-raised-requires c κs = search needs
+raised-requires c κs = tt
 
 -- src/chances.rt:46:9
 mul-ps : tie.Need-mul-ps Inv-loop μ-loop

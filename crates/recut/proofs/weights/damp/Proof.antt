@@ -5,7 +5,6 @@ use Prim.Native.Nat.{zero-le, _-_, _≤_}
 use lib.ListN.{length, take, drop, length-set}
 use Rattle.recut.specs.Weights.{damped}
 use Rattle.recut.proofs.Damp.{damp-next, damp-end}
-use borrow.Author.Needs.{needs}
 use native.Mathlib.Omega.{arith}
 use Rattle.recut.proofs.weights.damp.Statement.{statement}
 use Rattle.recut.proofs.weights.damp.Tie as tie
@@ -26,7 +25,7 @@ slice-read-damp-one : tie.Need-slice-read-damp-one Inv-loop μ-loop
 slice-read-damp-one c = omega arith
 
 damp-one-requires : tie.Need-damp-one-requires Inv-loop μ-loop
-damp-one-requires c κs = search needs
+damp-one-requires c κs = tt
 
 mul-importances : tie.Need-mul-importances Inv-loop μ-loop
 mul-importances c = omega arith

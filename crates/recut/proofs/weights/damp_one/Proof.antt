@@ -1,6 +1,6 @@
 -- `recut::weights::damp_one` meets its contract: the definition, with the tests that were met.
 use Rattle.recut.specs.Weights.{dampOne}
-use borrow.Author.Needs.{needs}
+use native.Mathlib.Omega.{arith}
 use Rattle.recut.proofs.weights.damp_one.Statement.{statement}
 use Rattle.recut.proofs.weights.damp_one.Tie as tie
 
@@ -13,7 +13,7 @@ unfolding dampOne
 returns-2 c = rw (c .before .if1 .left, c .if2 .taken)
 
 damp-share-requires : tie.Need-damp-share-requires
-damp-share-requires c κs = search needs
+damp-share-requires c κs = tt
 
 returns-3 : tie.Need-returns-3
 unfolding dampOne

@@ -1,6 +1,6 @@
 -- `recut::weights::damp_share` meets its contract: the definition, with the test that was met.
 use Rattle.recut.specs.Weights.{dampShare}
-use borrow.Author.Needs.{needs}
+use native.Mathlib.Omega.{arith}
 use Rattle.recut.proofs.weights.damp_share.Statement.{statement}
 use Rattle.recut.proofs.weights.damp_share.Tie as tie
 
@@ -9,10 +9,10 @@ unfolding dampShare
 returns c = rw (c .if1 .taken)
 
 ln-requires : tie.Need-ln-requires
-ln-requires c κs = search needs
+ln-requires c κs = tt
 
 power-requires : tie.Need-power-requires
-power-requires c κs = search needs
+power-requires c κs = tt
 
 returns-2 : tie.Need-returns-2
 unfolding dampShare

@@ -7,7 +7,6 @@ use lib.Ieee.{nan}
 use Rattle.recut.specs.Pairs.{pairwise}
 use Rattle.recut.specs.Weights.{perCount, normalised}
 use Rattle.recut.proofs.Pairs.{pairs-next, pairs-done}
-use borrow.Author.Needs.{needs}
 use native.Mathlib.Omega.{arith}
 use Rattle.recut.proofs.weights.normalise.Statement.{statement}
 use Rattle.recut.proofs.weights.normalise.Tie as tie
@@ -35,7 +34,7 @@ shared-slice-read-per-count : tie.Need-shared-slice-read-per-count Inv-loop μ-l
 shared-slice-read-per-count c = omega arith
 
 per-count-requires : tie.Need-per-count-requires Inv-loop μ-loop
-per-count-requires c κs = search needs
+per-count-requires c κs = tt
 
 mul-importances : tie.Need-mul-importances Inv-loop μ-loop
 mul-importances c = omega arith

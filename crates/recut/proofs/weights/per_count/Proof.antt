@@ -1,15 +1,15 @@
 -- `recut::weights::per_count` meets its contract: the definition, with the test that was met.
 use borrow.Author.Tests.{lt-ltb, le-ltb}
 use Rattle.recut.specs.Weights.{perCount}
-use borrow.Author.Needs.{needs}
+use native.Mathlib.Omega.{arith}
 use Rattle.recut.proofs.weights.per_count.Statement.{statement}
 use Rattle.recut.proofs.weights.per_count.Tie as tie
 
 norm-requires : tie.Need-norm-requires
-norm-requires c κs = search needs
+norm-requires c κs = tt
 
 count-requires : tie.Need-count-requires
-count-requires c κs = search needs
+count-requires c κs = tt
 
 returns : tie.Need-returns
 unfolding perCount

@@ -1,21 +1,21 @@
 -- `export`: 32 bytes stored over 32 zeros leave nothing of them.
-use borrow.Author.Needs.{needs}
+use native.Mathlib.Omega.{arith}
 use Rattle.stream.specs.Bytes.{bytesOf}
 use Rattle.stream.specs.Calls.{exportOf}
 use Rattle.stream.proofs.MonteCarloRng.export.Statement.{statement}
 use Rattle.stream.proofs.MonteCarloRng.export.Tie as tie
 
 with-word-requires : tie.Need-with-word-requires
-with-word-requires c κs = search needs
+with-word-requires c κs = tt
 
 with-word-requires-2 : tie.Need-with-word-requires-2
-with-word-requires-2 c κs = search needs
+with-word-requires-2 c κs = tt
 
 with-word-requires-3 : tie.Need-with-word-requires-3
-with-word-requires-3 c κs = search needs
+with-word-requires-3 c κs = tt
 
 with-word-requires-4 : tie.Need-with-word-requires-4
-with-word-requires-4 c κs = search needs
+with-word-requires-4 c κs = tt
 
 returns : tie.Need-returns
 unfolding exportOf bytesOf

@@ -1,25 +1,26 @@
 -- `from_seed`: the zero test chooses, as in the definition.
 use mathlib.Core.Path.{sym}
+use native.Mathlib.Omega.{arith}
 use borrow.Author.Needs.{needs}
 use Rattle.stream.specs.Calls.{importOf}
 use Rattle.stream.proofs.MonteCarloRng.from_seed.Statement.{statement}
 use Rattle.stream.proofs.MonteCarloRng.from_seed.Tie as tie
 
 slice-aggregate-is-all-zero : tie.Need-slice-aggregate-is-all-zero
-slice-aggregate-is-all-zero c = search needs
+slice-aggregate-is-all-zero c = omega arith
 
 is-all-zero-requires : tie.Need-is-all-zero-requires
-is-all-zero-requires c κs = search needs
+is-all-zero-requires c κs = tt
 
 seed-from-u64-requires : tie.Need-seed-from-u64-requires
-seed-from-u64-requires c κs = search needs
+seed-from-u64-requires c κs = tt
 
 returns : tie.Need-returns
 unfolding importOf
 returns c = rw (c .seed-from-u64 .ensures, sym (c .before .before .is-all-zero .ensures), c .before .if1 .taken)
 
 slice-aggregate-state-in : tie.Need-slice-aggregate-state-in
-slice-aggregate-state-in c = search needs
+slice-aggregate-state-in c = omega arith
 
 state-in-requires : tie.Need-state-in-requires
 state-in-requires c κs = search needs

@@ -1,6 +1,6 @@
 use mathlib.Core.Path.{ap}
 use Rattle.stream.specs.Calls.{drawnOf, upperOf}
-use borrow.Author.Needs.{needs}
+use native.Mathlib.Omega.{arith}
 use Rattle.stream.proofs.MonteCarloRng.next_u32.Statement.{statement}
 use Rattle.stream.proofs.MonteCarloRng.next_u32.Tie as tie
 use Rattle.stream.proofs.MonteCarloRng.next_u32.Reads as reads
@@ -9,11 +9,11 @@ use Rattle.stream.proofs.MonteCarloRng.next_u64.Reads as next-u64-reads
 
 -- src/lib.rt:199:13
 next-u64-requires : tie.Need-next-u64-requires
-next-u64-requires c κs = search needs
+next-u64-requires c κs = tt
 
 -- src/lib.rt:202:20
 cast-t5 : tie.Need-cast-t5
-cast-t5 c = search needs
+cast-t5 c = omega arith
 
 -- src/lib.rt:196:5
 returns : tie.Need-returns

@@ -1,6 +1,7 @@
 use Rattle.stream.specs.Words.{shiftedUp}
 use Rattle.stream.specs.Xoshiro.{wordOf, stepOf}
 use Rattle.stream.specs.Calls.{drawnOf}
+use native.Mathlib.Omega.{arith}
 use borrow.Author.Needs.{needs}
 use Rattle.stream.proofs.MonteCarloRng.next_u64.Statement.{statement}
 use Rattle.stream.proofs.MonteCarloRng.next_u64.Tie as tie
@@ -11,7 +12,7 @@ use Rattle.stream.proofs.words.wrapping_mul.Reads as wrapping-mul-reads
 
 -- src/lib.rt:180:39
 wrapping-mul-requires : tie.Need-wrapping-mul-requires
-wrapping-mul-requires c κs = search needs
+wrapping-mul-requires c κs = tt
 
 -- src/lib.rt:180:34
 rotl-requires : tie.Need-rotl-requires
@@ -19,7 +20,7 @@ rotl-requires c κs = search needs
 
 -- src/lib.rt:180:13
 wrapping-mul-requires-2 : tie.Need-wrapping-mul-requires-2
-wrapping-mul-requires-2 c κs = search needs
+wrapping-mul-requires-2 c κs = tt
 
 -- src/lib.rt:190:21
 rotl-requires-2 : tie.Need-rotl-requires-2

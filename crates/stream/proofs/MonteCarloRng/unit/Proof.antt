@@ -1,5 +1,5 @@
 use Rattle.stream.specs.Calls.{drawnOf, unitDrawnOf}
-use borrow.Author.Needs.{needs}
+use native.Mathlib.Omega.{arith}
 use Rattle.stream.proofs.MonteCarloRng.unit.Statement.{statement}
 use Rattle.stream.proofs.MonteCarloRng.unit.Tie as tie
 use Rattle.stream.proofs.MonteCarloRng.unit.Reads as reads
@@ -9,11 +9,11 @@ use Rattle.stream.proofs.unit_of.Reads as unit-of-reads
 
 -- src/lib.rt:237:13
 next-u64-requires : tie.Need-next-u64-requires
-next-u64-requires c κs = search needs
+next-u64-requires c κs = tt
 
 -- src/lib.rt:240:20
 unit-of-requires : tie.Need-unit-of-requires
-unit-of-requires c κs = search needs
+unit-of-requires c κs = tt
 
 -- src/lib.rt:234:5
 returns : tie.Need-returns

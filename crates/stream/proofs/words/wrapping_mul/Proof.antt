@@ -1,5 +1,5 @@
 -- The product from halves is the product modulo 2^64 (`product-of-halves`), and no product of two halves wraps.
-use borrow.Author.Needs.{needs}
+use native.Mathlib.Omega.{arith}
 use mathlib.Core.Path.{_≡_, ap, _∙_}
 use Prim.Native.Nat.{ℕ, _+_, _*_, _%_, _^_}
 use native.Mathlib.Nat.{mod-lt}
@@ -16,13 +16,13 @@ mul-wrapping-add-u64-2 : tie.Need-mul-wrapping-add-u64-2
 mul-wrapping-add-u64-2 c = fits-halves (mod-lt (c .args .a) (pow-pos 32)) (shr-lt 32 32 (c .fits .b .fits))
 
 wrapping-add-u64-requires : tie.Need-wrapping-add-u64-requires
-wrapping-add-u64-requires c κs = search needs
+wrapping-add-u64-requires c κs = tt
 
 mul-wrapping-add-u64-3 : tie.Need-mul-wrapping-add-u64-3
 mul-wrapping-add-u64-3 c = fits-halves (mod-lt (c .before .args .a) (pow-pos 32)) (mod-lt (c .before .args .b) (pow-pos 32))
 
 wrapping-add-u64-requires-2 : tie.Need-wrapping-add-u64-requires-2
-wrapping-add-u64-requires-2 c κs = search needs
+wrapping-add-u64-requires-2 c κs = tt
 
 returns : tie.Need-returns
 unfolding times
