@@ -1,7 +1,9 @@
 // Whether a grid in lent memory is well formed (12): its run's kind says which test it is, and its children are judged with it.
 ghost use mathlib.Core.Path.{_≡_};
 ghost use Prim.Native.Nat.{_+_, _-_, _*_, _≤_, _<_};
+ghost use lib.Ieee.{nan};
 ghost use lib.ListN.{length, getD};
+ghost use Rattle.doubles.specs.Finite.{finiteOf};
 ghost use Rattle.accumulator.specs.Record.{wellFormed};
 ghost use Rattle.model.specs.Grid.{axes, bins};
 ghost use Rattle.model.specs.Sound.{chance, sound};
@@ -9,6 +11,7 @@ ghost use Rattle.lent.specs.Memory.{recordAt};
 ghost use Rattle.lent.specs.Tree.{axesGridAt, headAt, binIn, childIn, binsIn, gridAt, AxesLaid, BinsLaid, Laid};
 ghost use Rattle.lent.specs.Judged.{soundBin};
 use crate::judging;
+use crate::judging::is_bounded_at;
 use lent::layout;
 
 // Whether a probability is finite and above 0.
@@ -18,17 +21,23 @@ fn is_chance(p: f64) -> bool
     plain::finite(p) & (0.0 < p)
 }
 
+// Whether the double at i is finite.
+fn is_finite_at(reals: &[f64], i: usize) -> bool
+    requires { ⌜ i < length (now reals) ⌝ }
+    ensures { λ o. ⌜ o ≡ finiteOf (getD (now (reals .entry)) i nan) ⌝ }
+{
+    plain::finite(reals[i])
+}
+
 // Whether the record at r and c is well formed: finite kept sums, counts within their bound.
 fn is_sound(reals: &[f64], counts: &[u64], r: usize, c: usize) -> bool
     requires { ⌜ (r + 14 ≤ length (now reals)) × (c + 7 ≤ length (now counts)) ⌝ }
     ensures { λ o. ⌜ o ≡ wellFormed (recordAt (now (reals .entry)) (now (counts .entry)) r c) ⌝ }
 {
-    let sums = (plain::finite(reals[r]) & plain::finite(reals[r + 1]))
-        & plain::finite(reals[r + 2]);
-    let waiting = (counts[c] <= 9007199254740992) & (counts[c + 1] <= 9007199254740992);
-    let processed = (waiting & (counts[c + 2] <= 9007199254740992))
-        & (counts[c + 3] <= 9007199254740992);
-    (sums & plain::finite(reals[r + 3])) & (processed & (counts[c + 6] <= 9007199254740992))
+    let sums = (is_finite_at(reals, r) & is_finite_at(reals, r + 1)) & is_finite_at(reals, r + 2);
+    let waiting = is_bounded_at(counts, c) & is_bounded_at(counts, c + 1);
+    let processed = (waiting & is_bounded_at(counts, c + 2)) & is_bounded_at(counts, c + 3);
+    (sums & is_finite_at(reals, r + 3)) & (processed & is_bounded_at(counts, c + 6))
 }
 
 // An axes grid: its own accumulator and its axes.

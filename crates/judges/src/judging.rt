@@ -1,9 +1,13 @@
 // Whether the axes of a grid are well formed: scans over their columns.
 ghost use mathlib.Core.Path.{_≡_};
 ghost use mathlib.Core.List.{_∷_};
-ghost use Prim.Native.Nat.{_+_, _*_, _≤_};
-ghost use lib.ListN.{length};
+ghost use Prim.Native.Nat.{_+_, _*_, _^_, _≤_, _<_};
+ghost use lib.Dec.{leb};
+ghost use lib.ListN.{length, getD};
+ghost use Rattle.doubles.specs.Total.{allFinite};
+ghost use Rattle.axis.specs.Scans.{allBounded};
 ghost use Rattle.model.specs.Sound.{listed};
+ghost use Rattle.lent.specs.Layout.{stretch};
 ghost use Rattle.lent.specs.Judged.{realsFit, countsFit, axisFits, axesFit, AllUpto, allUpto, axesFitOf};
 use lent::AxesAt;
 use lent::room;
@@ -21,18 +25,39 @@ fn is_listed(n: u64, bins: u64, values: &[u64]) -> bool
     found
 }
 
+// Whether n doubles from `at` on are finite.
+fn are_finite_from(reals: &[f64], at: usize, n: usize) -> bool
+    requires { ⌜ at + n ≤ length (now reals) ⌝ }
+    ensures { λ o. ⌜ o ≡ allFinite (stretch at n (now (reals .entry))) ⌝ }
+{
+    axis::scans::are_finite(&reals[at..at + n])
+}
+
+// Whether n counts from `at` on are within their bound.
+fn are_bounded_from(counts: &[u64], at: usize, n: usize) -> bool
+    requires { ⌜ at + n ≤ length (now counts) ⌝ }
+    ensures { λ o. ⌜ o ≡ allBounded (stretch at n (now (counts .entry))) ⌝ }
+{
+    axis::scans::are_bounded(&counts[at..at + n])
+}
+
+// Whether the count at i is within its bound.
+pub(crate) fn is_bounded_at(counts: &[u64], i: usize) -> bool
+    requires { ⌜ i < length (now counts) ⌝ }
+    ensures { λ o. ⌜ o ≡ leb (getD (now (counts .entry)) i 0) (2 ^ 53) ⌝ }
+{
+    counts[i] <= 9007199254740992
+}
+
 // Whether the doubles of an axis that holds n bins are well formed.
 fn reals_fit(reals: &[f64], most: usize, r: usize, n: usize) -> bool
     requires { ⌜ (n ≤ most) × (most ≤ 1024) × (r + (6 * most + 1) ≤ length (now reals)) ⌝ }
     ensures { λ o. ⌜ o ≡ realsFit most n r (now (reals .entry)) ⌝ }
 {
-    let importances = r + (most + 1);
-    let sums = r + (2 * most + 1);
-    let squares = r + (3 * most + 1);
     let rising = axis::scans::is_well_formed(&reals[r..r + n + 1]);
-    let gathered = axis::scans::are_finite(&reals[importances..importances + n]);
-    let summed = axis::scans::are_finite(&reals[sums..sums + n]);
-    let squared = axis::scans::are_finite(&reals[squares..squares + n]);
+    let gathered = are_finite_from(reals, r + (most + 1), n);
+    let summed = are_finite_from(reals, r + (2 * most + 1), n);
+    let squared = are_finite_from(reals, r + (3 * most + 1), n);
     (rising & gathered) & (summed & squared)
 }
 
@@ -41,13 +66,10 @@ fn counts_fit(counts: &[u64], most: usize, c: usize, n: usize) -> bool
     requires { ⌜ (n ≤ most) × (most ≤ 1024) × (c + (3 * most + 2) ≤ length (now counts)) ⌝ }
     ensures { λ o. ⌜ o ≡ countsFit most n c (now (counts .entry)) ⌝ }
 {
-    let waiting = c + 2;
-    let zeros = c + (most + 2);
-    let counters = c + (2 * most + 2);
-    let waits = axis::scans::are_bounded(&counts[waiting..waiting + n]);
-    let nils = axis::scans::are_bounded(&counts[zeros..zeros + n]);
-    let counted = axis::scans::are_bounded(&counts[counters..counters + n]);
-    (waits & nils) & (counted & (counts[c + 1] <= 9007199254740992))
+    let waits = are_bounded_from(counts, c + 2, n);
+    let nils = are_bounded_from(counts, c + (most + 2), n);
+    let counted = are_bounded_from(counts, c + (2 * most + 2), n);
+    (waits & nils) & (counted & is_bounded_at(counts, c + 1))
 }
 
 // Whether the axis at r and c holds one of its plan's bin numbers, and is well formed.

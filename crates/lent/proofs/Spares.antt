@@ -55,17 +55,9 @@ front-taken n xs = let e : n - 0 ≡ n = omega arith in rw e
 
 module _ (table : List ℕ) (binsRate axesRate : Float) (s to : Memory) (n : Needs) (fault : ℕ)
     (judged : fault ≡ judgedTo table (s .reals) (s .counts) (length (to .reals)) (length (to .counts)) n) where
-  pub update-refused : (fault ≡ 0 → ⊥) → stateEnd fault s ≡ updatedBy table binsRate axesRate (length (to .reals)) (length (to .counts)) s n
-  unfolding updatedBy
-  update-refused z = rw (sym judged, ne-eqb fault 0 z)
-
   module _ (z : fault ≡ 0) (a b : Bool) (e : a ≡ rateFits binsRate) (f : b ≡ rateFits axesRate) where
     both-fit : (a && b) ≡ (rateFits binsRate && rateFits axesRate)
     both-fit = ap₂ _&&_ e f
-
-    pub update-unrated : not (a && b) ≡ true → stateEnd 3 s ≡ updatedBy table binsRate axesRate (length (to .reals)) (length (to .counts)) s n
-    unfolding updatedBy
-    update-unrated h = rw (sym judged, z, failed both-fit h)
 
     pub update-made : (k : ℕ) (ys : List Float) (zs : List ℕ) → not (a && b) ≡ false
         → stateEnd k (memory ys zs) ≡ renewedOver table binsRate axesRate (memory (take (n .reals - 0) (drop 0 (s .reals))) (take (n .counts - 0) (drop 0 (s .counts))))

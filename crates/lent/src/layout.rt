@@ -1,9 +1,17 @@
 // What a grid's run of the plan's table says of its place in lent memory.
 ghost use mathlib.Core.Path.{_≡_};
-ghost use Prim.Native.Nat.{_+_, _^_, _≤_};
+ghost use Prim.Native.Nat.{_+_, _^_, _≤_, _<_};
 ghost use lib.ListN.{length, getD};
 ghost use Rattle.lent.specs.Tree.{axesPlace, nowhere, placeFits, placeOf};
 use crate::AxesAt;
+
+// The table's word i.
+fn word(table: &[u64], i: usize) -> u64
+    requires { ⌜ i < length (now table) ⌝ }
+    ensures { λ n. ⌜ n ≡ getD (now (table .entry)) i 0 ⌝ }
+{
+    table[i]
+}
 
 // Whether a run's head lies in the table at word w, and its places leave room for what stands before the axes.
 fn holds_place(table: &[u64], w: usize) -> bool
@@ -15,7 +23,7 @@ fn holds_place(table: &[u64], w: usize) -> bool
     if table.len() - 11 < w {
         return false;
     }
-    (table[w + 9] <= 9223372036854775808) & (table[w + 10] <= 9223372036854775808)
+    (word(table, w + 9) <= 9223372036854775808) & (word(table, w + 10) <= 9223372036854775808)
 }
 
 // The place of no axes.
@@ -37,11 +45,11 @@ fn place_there(table: &[u64], w: usize) -> AxesAt
     ensures { λ g. ⌜ g ≡ axesPlace (now (table .entry)) w ⌝ }
 {
     AxesAt {
-        axes: table[w + 2] as usize,
-        most: table[w + 7] as usize,
-        floor: answers::double(table[w + 6]),
-        reals: table[w + 9] as usize + 14,
-        counts: table[w + 10] as usize + 7,
+        axes: word(table, w + 2) as usize,
+        most: word(table, w + 7) as usize,
+        floor: answers::double(word(table, w + 6)),
+        reals: word(table, w + 9) as usize + 14,
+        counts: word(table, w + 10) as usize + 7,
     }
 }
 

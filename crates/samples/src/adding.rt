@@ -8,6 +8,8 @@ ghost use Rattle.accumulator.specs.Steps.{replaced, addedOf};
 ghost use Rattle.model.specs.Train.{numbered};
 ghost use Rattle.lent.specs.Memory.{memory, recordAt};
 ghost use Rattle.lent.specs.Absorbed.{gainAt, gained};
+use crate::reading::count_at;
+use crate::reading::real_at;
 use crate::training;
 use lent::Gain;
 
@@ -16,10 +18,10 @@ pub fn fits_with(reals: &[f64], counts: &[u64], r: usize, c: usize, v: f64, numb
     requires { ⌜ (r + 14 ≤ length (now reals)) × (c + 7 ≤ length (now counts)) × (wellFormed (recordAt (now reals) (now counts) r c) ≡ true) × (numbered number ≡ true) ⌝ }
     ensures { λ o. ⌜ o ≡ wellFormed (addedOf (recordAt (now (reals .entry)) (now (counts .entry)) r c) v number) ⌝ }
 {
-    let sum = reals[r] + v;
-    let squares = reals[r + 1] + v * v;
-    let waiting = counts[c] + 1;
-    let zeros = counts[c + 1] + training::zero_count(v);
+    let sum = real_at(reals, r) + v;
+    let squares = real_at(reals, r + 1) + v * v;
+    let waiting = count_at(counts, c) + 1;
+    let zeros = count_at(counts, c + 1) + training::zero_count(v);
     (training::are_sums_finite(sum, squares) & (waiting <= 9007199254740992))
         & (zeros <= 9007199254740992)
 }
@@ -50,16 +52,16 @@ pub fn gain_at(reals: &[f64], counts: &[u64], r: usize, c: usize, v: f64, number
     requires { ⌜ (r + 14 ≤ length (now reals)) × (c + 7 ≤ length (now counts)) × (wellFormed (recordAt (now reals) (now counts) r c) ≡ true) ⌝ }
     ensures { λ g. ⌜ g ≡ gainAt r c v number (memory (now (reals .entry)) (now (counts .entry))) ⌝ }
 {
-    let highest = reals[r + 12];
-    let lowest = reals[r + 13];
-    let highest_number = counts[c + 4];
-    let lowest_number = counts[c + 5];
+    let highest = real_at(reals, r + 12);
+    let lowest = real_at(reals, r + 13);
+    let highest_number = count_at(counts, c + 4);
+    let lowest_number = count_at(counts, c + 5);
     let high = is_replaced(highest_number, highest < v);
     let low = is_replaced(lowest_number, v < lowest);
-    let sum = reals[r] + v;
-    let squares = reals[r + 1] + v * v;
-    let waiting = counts[c] + 1;
-    let zeros = counts[c + 1] + training::zero_count(v);
+    let sum = real_at(reals, r) + v;
+    let squares = real_at(reals, r + 1) + v * v;
+    let waiting = count_at(counts, c) + 1;
+    let zeros = count_at(counts, c + 1) + training::zero_count(v);
     Gain {
         sum,
         sum_sq: squares,

@@ -5,6 +5,7 @@ mod adding;
 mod axes;
 mod batching;
 mod forms;
+mod reading;
 mod sampling;
 mod training;
 

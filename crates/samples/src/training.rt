@@ -1,8 +1,9 @@
 // Training axes: whether a sample may join its bins is judged first, on all of them; only then is anything written.
 ghost use mathlib.Core.Path.{_≡_};
 ghost use mathlib.Core.Bool.{true, _&&_};
-ghost use Prim.Native.Nat.{_≤_};
-ghost use lib.ListN.{length};
+ghost use mathlib.Core.List.{[]};
+ghost use Prim.Native.Nat.{_+_, _*_, _^_, _≤_, _<_};
+ghost use lib.ListN.{length, getD};
 ghost use lib.Ieee.{nan};
 ghost use Rattle.axis.specs.Edges.{wellFormed, inUnit, binOf};
 ghost use Rattle.lent.specs.Sampled.{entries};
@@ -13,6 +14,8 @@ ghost use Rattle.lent.specs.Drawn.{axesAt};
 ghost use Rattle.lent.specs.Memory.{memory, Asked};
 ghost use Rattle.lent.specs.Trained.{allInUnit, binsOn, trainedAt, Cell, cellFits, cellsFit, trainedOver, CellsOf};
 ghost use Rattle.lent.specs.Found.{Begins};
+use crate::reading::count_at;
+use crate::reading::real_at;
 use lent::AxesAt;
 
 // Whether the first n coordinates are numbers in [0, 1].
@@ -84,10 +87,10 @@ fn cell_fits(
     requires { ⌜ (most ≤ 1024) × Cell most r c bin (memory (now reals) (now counts)) ⌝ }
     ensures { λ o. ⌜ o ≡ cellFits most v r c bin (memory (now (reals .entry)) (now (counts .entry))) ⌝ }
 {
-    let sum = reals[r + (2 * most + 1) + bin] + v;
-    let squares = reals[r + (3 * most + 1) + bin] + v * v;
-    let waiting = counts[c + 2 + bin] + 1;
-    let zeros = counts[c + (most + 2) + bin] + zero_count(v);
+    let sum = real_at(reals, r + (2 * most + 1) + bin) + v;
+    let squares = real_at(reals, r + (3 * most + 1) + bin) + v * v;
+    let waiting = count_at(counts, c + 2 + bin) + 1;
+    let zeros = count_at(counts, c + (most + 2) + bin) + zero_count(v);
     (are_sums_finite(sum, squares) & (waiting <= 9007199254740992)) & (zeros <= 9007199254740992)
 }
 
@@ -122,18 +125,10 @@ pub fn axes_fit(
     ok
 }
 
-// v joins a bin of the axis at r and c.
-fn train_axis(
-    reals: &mut [f64],
-    counts: &mut [u64],
-    most: usize,
-    r: usize,
-    c: usize,
-    bin: usize,
-    v: f64,
-)
-    requires { ⌜ (most ≤ 1024) × Cell most r c bin (memory (now reals) (now counts)) ⌝ }
-    ensures { λ _. ⌜ memory (now (reals .exit)) (now (counts .exit)) ≡ trainedAt most v r c bin (memory (now (reals .entry)) (now (counts .entry))) ⌝ }
+// v joins the sums of a bin of the axis at r, and is both its extremes.
+fn train_reals(reals: &mut [f64], most: usize, r: usize, bin: usize, v: f64)
+    requires { ⌜ (most ≤ 1024) × (bin < most) × (r + (6 * most + 1) ≤ length (now reals)) ⌝ }
+    ensures { λ _. ⌜ now (reals .exit) ≡ trainedAt most v r 0 bin (memory (now (reals .entry)) []) .reals ⌝ }
 {
     let sum_at = r + (2 * most + 1) + bin;
     let squares_at = r + (3 * most + 1) + bin;
@@ -143,6 +138,14 @@ fn train_axis(
     reals[squares_at] = squares;
     reals[r + (4 * most + 1) + bin] = v;
     reals[r + (5 * most + 1) + bin] = v;
+}
+
+// v joins the counts of a bin of the axis at c.
+fn train_counts(counts: &mut [u64], most: usize, c: usize, bin: usize, v: f64)
+    requires { ⌜ (most ≤ 1024) × (bin < most) × (c + (3 * most + 2) ≤ length (now counts))
+        × (getD (now counts) (c + 2 + bin) 0 ≤ 2 ^ 53) × (getD (now counts) (c + (most + 2) + bin) 0 ≤ 2 ^ 53) ⌝ }
+    ensures { λ _. ⌜ now (counts .exit) ≡ trainedAt most v 0 c bin (memory [] (now (counts .entry))) .counts ⌝ }
+{
     let waiting_at = c + 2 + bin;
     let zeros_at = c + (most + 2) + bin;
     let waiting = counts[waiting_at] + 1;
@@ -160,7 +163,9 @@ pub fn train_axes(reals: &mut [f64], counts: &mut [u64], g: AxesAt, spots: &[usi
     let mut place = g.counts;
     let mut done = 0;
     while done < g.axes {
-        train_axis(reals, counts, g.most, at, place, spots[done], v);
+        let bin = spots[done];
+        train_reals(reals, g.most, at, bin, v);
+        train_counts(counts, g.most, place, bin, v);
         at = at + (6 * g.most + 1);
         place = place + (3 * g.most + 2);
         done += 1;

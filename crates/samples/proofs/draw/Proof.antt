@@ -7,7 +7,6 @@ use Rattle.lent.specs.declared.Drawing as laid
 use Rattle.lent.specs.State.{rootOf, stateFault}
 use Rattle.lent.specs.Calls.{drawnAs, drawOf}
 use Rattle.lent.proofs.States.{clear, refused-first, answered-last}
-use borrow.Author.Needs.{needs}
 use Rattle.samples.proofs.draw.Statement.{statement}
 use Rattle.samples.proofs.draw.Tie as tie
 use Rattle.samples.proofs.draw.Reads as reads
@@ -18,11 +17,11 @@ use Rattle.judges.proofs.state.fault.Reads as fault-reads
 
 -- src/lib.rt:49:9
 fault-requires : tie.Need-fault-requires
-fault-requires c κs = search needs
+fault-requires c κs = tt
 
 -- src/lib.rt:51:13
 draw-nothing-requires : tie.Need-draw-nothing-requires
-draw-nothing-requires c κs = search needs
+draw-nothing-requires c κs = tt
 
 -- src/lib.rt:52:9
 returns : tie.Need-returns

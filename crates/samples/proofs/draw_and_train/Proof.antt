@@ -2,6 +2,7 @@
 use mathlib.Core.Path.{sym, _∙_}
 use Rattle.lent.specs.Memory.{memory}
 use Rattle.lent.proofs.Batches.{batch-refused, batch-runs}
+use native.Mathlib.Omega.{arith}
 use borrow.Author.Needs.{needs}
 use Rattle.samples.proofs.draw_and_train.Statement.{statement}
 use Rattle.samples.proofs.draw_and_train.Tie as tie
@@ -12,15 +13,15 @@ use Rattle.judges.proofs.state.fault.Reads as fault-reads
 
 -- src/lib.rt:251:9
 fault-requires : tie.Need-fault-requires
-fault-requires c κs = search needs
+fault-requires c κs = tt
 
 -- src/lib.rt:253:9
 same-length : tie.Need-same-length
-same-length c = search needs
+same-length c = omega arith
 
 -- src/lib.rt:253:9
 same-length-2 : tie.Need-same-length-2
-same-length-2 c = search needs
+same-length-2 c = omega arith
 
 -- src/lib.rt:253:9
 returns : tie.Need-returns
@@ -32,11 +33,11 @@ steps-requires c κs = search needs
 
 -- src/lib.rt:240:1
 same-length-3 : tie.Need-same-length-3
-same-length-3 c = search needs
+same-length-3 c = omega arith
 
 -- src/lib.rt:240:1
 same-length-4 : tie.Need-same-length-4
-same-length-4 c = search needs
+same-length-4 c = omega arith
 
 -- src/lib.rt:240:1
 returns-2 : tie.Need-returns-2

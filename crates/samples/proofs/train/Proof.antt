@@ -4,7 +4,6 @@ use native.Mathlib.Omega.{arith}
 use Rattle.lent.specs.Memory.{memory}
 use Rattle.lent.proofs.States.{clear}
 use Rattle.lent.proofs.Objections.{train-state, train-admits}
-use borrow.Author.Needs.{needs}
 use Rattle.samples.proofs.train.Statement.{statement}
 use Rattle.samples.proofs.train.Tie as tie
 use Rattle.samples.proofs.train.Reads as reads
@@ -15,15 +14,15 @@ use Rattle.samples.proofs.forms.fault_of.Reads as fault-of-reads
 
 -- src/lib.rt:229:9
 fault-requires : tie.Need-fault-requires
-fault-requires c κs = search needs
+fault-requires c κs = tt
 
 -- src/lib.rt:231:9
 same-length : tie.Need-same-length
-same-length c = search needs
+same-length c = omega arith
 
 -- src/lib.rt:231:9
 same-length-2 : tie.Need-same-length-2
-same-length-2 c = search needs
+same-length-2 c = omega arith
 
 -- src/lib.rt:231:9
 returns : tie.Need-returns
@@ -38,11 +37,11 @@ admit-requires c κs = let state = clear (c .before .before .before .before .bef
 
 -- src/lib.rt:218:1
 same-length-3 : tie.Need-same-length-3
-same-length-3 c = search needs
+same-length-3 c = omega arith
 
 -- src/lib.rt:218:1
 same-length-4 : tie.Need-same-length-4
-same-length-4 c = search needs
+same-length-4 c = omega arith
 
 -- src/lib.rt:218:1
 returns-2 : tie.Need-returns-2

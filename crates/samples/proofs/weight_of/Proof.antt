@@ -7,7 +7,7 @@ use lib.Ieee.{Float, nan}
 use Rattle.doubles.specs.Numbers.{one64}
 use Rattle.model.specs.Draw.{weightAt}
 use Rattle.lent.specs.Sampled.{entries, sampleOf}
-use borrow.Author.Needs.{needs}
+use native.Mathlib.Omega.{arith}
 use Rattle.samples.proofs.weight_of.Statement.{statement}
 use Rattle.samples.proofs.weight_of.Tie as tie
 use Rattle.samples.proofs.weight_of.Reads as reads
@@ -27,7 +27,7 @@ unfolding sampleOf
 returns c = no-weight ((c .before .args .t1) .weights) ((c .before .args .t1) .given) (c .if1 .taken)
 
 element-copy-out-result : tie.Need-element-copy-out-result
-element-copy-out-result c = search needs
+element-copy-out-result c = omega arith
 
 returns-2 : tie.Need-returns-2
 unfolding sampleOf

@@ -2,51 +2,35 @@
 use mathlib.Core.Path.{sym}
 use native.Mathlib.Omega.{arith}
 use Rattle.lent.proofs.Places.{short, head-there}
-use borrow.Author.Needs.{needs}
 use Rattle.lent.proofs.layout.holds_place.Statement.{statement}
 use Rattle.lent.proofs.layout.holds_place.Tie as tie
 use Rattle.lent.proofs.layout.holds_place.Reads as reads
 use Rattle.lent.proofs.layout.holds_place.Lts as lts
+use Rattle.lent.proofs.layout.word.Reads as word-reads
 
--- src/layout.rt:13:9
 returns : tie.Need-returns
-returns c = sym (short (c .before .args .table .now) (c .before .args .w) (omega arith))
+returns c = sym (short (c .before .before .args .table .now) (c .before .before .args .w) (omega arith))
 
--- src/layout.rt:15:8
 sub-if2 : tie.Need-sub-if2
-sub-if2 c = search needs
+sub-if2 c = omega arith
 
--- src/layout.rt:16:9
 returns-2 : tie.Need-returns-2
-returns-2 c = sym (short (c .before .before .args .table .now) (c .before .before .args .w) (omega arith))
+returns-2 c = sym (short (c .before .before .before .args .table .now) (c .before .before .before .args .w) (omega arith))
 
--- src/layout.rt:18:12
-add-result : tie.Need-add-result
-add-result c = search needs
+add-word : tie.Need-add-word
+add-word c = omega arith
 
--- src/layout.rt:18:6
-mul-result : tie.Need-mul-result
-mul-result c = search needs
+word-requires : tie.Need-word-requires
+word-requires c κs = omega arith
 
--- src/layout.rt:18:6
-shared-slice-read-result : tie.Need-shared-slice-read-result
-shared-slice-read-result c = search needs
+add-word-2 : tie.Need-add-word-2
+add-word-2 c = omega arith
 
--- src/layout.rt:18:52
-add-result-2 : tie.Need-add-result-2
-add-result-2 c = search needs
+word-requires-2 : tie.Need-word-requires-2
+word-requires-2 c κs = omega arith
 
--- src/layout.rt:18:46
-mul-result-2 : tie.Need-mul-result-2
-mul-result-2 c = search needs
-
--- src/layout.rt:18:46
-shared-slice-read-result-2 : tie.Need-shared-slice-read-result-2
-shared-slice-read-result-2 c = search needs
-
--- src/layout.rt:9:1
 returns-3 : tie.Need-returns-3
-returns-3 c = sym (head-there (c .before .before .before .before .args .table .now) (c .before .before .before .before .args .w) (omega arith))
+returns-3 c = rw (c .before .word .ensures, c .word2 .ensures) (sym (head-there (c .before .before .before .before .before .args .table .now) (c .before .before .before .before .before .args .w) (omega arith)))
 
 pub holds-place-spec : {M : Type 1} → statement M
 holds-place-spec =
@@ -55,10 +39,8 @@ holds-place-spec =
     returns
     sub-if2
     returns-2
-    add-result
-    mul-result
-    shared-slice-read-result
-    add-result-2
-    mul-result-2
-    shared-slice-read-result-2
+    add-word
+    word-requires
+    add-word-2
+    word-requires-2
     returns-3)

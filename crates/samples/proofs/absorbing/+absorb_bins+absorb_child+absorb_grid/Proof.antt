@@ -1,9 +1,11 @@
 -- What both records gain is read before what hangs below is written, so all is the definition's step on memory as it was.
-use mathlib.Core.Path.{_∙_}
+use mathlib.Core.Path.{_≡_, _∙_}
+use mathlib.Core.Bool.{true}
 use native.Mathlib.Omega.{arith}
 use Prim.Native.Nat.{_+_, _-_, _*_}
 use lib.ListN.{length, getD}
-use Rattle.lent.specs.Memory.{memory}
+use Rattle.accumulator.specs.Record.{wellFormed}
+use Rattle.lent.specs.Memory.{memory, recordAt}
 use Rattle.lent.specs.Tree.{headAt, binIn, gridAt}
 use Rattle.lent.specs.Sampled.{ChildLaid}
 use Rattle.lent.specs.Absorbed.{absorbed}
@@ -68,7 +70,30 @@ abbrev absorb-grid-below : ℕ → In 6 absorb-grid-kinds.ps
 absorb-grid-below t =
     and 6 absorb-grid-kinds.ps (falls 6 absorb-grid-kinds.ps _<_ μ-absorb-grid t) absorb-grid.Pre
 
--- src/absorbing.rt:110:15
+-- where `absorb_bins` begins
+abbrev Begun : ℕ → Type 0
+Begun t = absorb-bins-lts.Start (
+  gain-at-reads.Asked,
+  gain-at-reads.Learnt,
+  absorb-child-below t,
+  absorb-child.Post,
+  put-reads.Asked,
+  put-reads.Learnt,
+) (absorb-bins-at t) absorb-bins.Post
+
+-- there the sample's bin is one of the grid's, and both accumulators are well formed
+below : (t : ℕ) (o : Begun t) → getD (o .args .path .now) (o .args .depth) 0 < getD (o .args .table .now) (o .args .w + 2) 0
+below t o = formed (gridAt (o .args .level) (o .args .table .now) (o .args .reals .now) (o .args .counts .now)) (o .args .table .now) (o .args .reals .now) (o .args .counts .now) (o .args .w) (getD (o .args .table .now) ((o .args .w) + 2) 0) (headAt (o .args .table .now) (o .args .reals .now) (o .args .counts .now) (o .args .w)) (held (o .pre .1 .2)) (o .args .depth) (o .args .number) (o .pre .1 .2 .offer .takes) .bin
+
+own-well : (t : ℕ) (o : Begun t) → wellFormed (recordAt (o .args .reals .now) (o .args .counts .now) (getD (o .args .table .now) (o .args .w + 5) 0) (getD (o .args .table .now) (o .args .w + 6) 0)) ≡ true
+unfolding headAt
+own-well t o = head-sound (gridAt (o .args .level) (o .args .table .now) (o .args .reals .now) (o .args .counts .now)) (o .args .table .now) (o .args .reals .now) (o .args .counts .now) (o .args .w) (getD (o .args .table .now) ((o .args .w) + 2) 0) (headAt (o .args .table .now) (o .args .reals .now) (o .args .counts .now) (o .args .w)) (held (o .pre .1 .2)) (o .args .depth) (o .args .number) (o .pre .1 .2 .offer .takes)
+
+spot-well : (t : ℕ) (o : Begun t) → let i = getD (o .args .path .now) (o .args .depth) 0 in
+    wellFormed (recordAt (o .args .reals .now) (o .args .counts .now) (getD (o .args .table .now) (o .args .w + 5) 0 + 14 + getD (o .args .table .now) (o .args .w + 2) 0 + 14 * i) (getD (o .args .table .now) (o .args .w + 6) 0 + 7 + 7 * i)) ≡ true
+unfolding binIn
+spot-well t o = spot-sound (gridAt (o .args .level) (o .args .table .now) (o .args .reals .now) (o .args .counts .now)) (o .args .table .now) (o .args .reals .now) (o .args .counts .now) (o .args .w) (getD (o .args .table .now) ((o .args .w) + 2) 0) (headAt (o .args .table .now) (o .args .reals .now) (o .args .counts .now) (o .args .w)) (held (o .pre .1 .2)) (o .args .depth) (o .args .number) (o .pre .1 .2 .offer .takes)
+
 absorb-bins-mul-bin : (t : ℕ) → absorb-bins-lts.Need-mul-bin (
   gain-at-reads.Asked,
   gain-at-reads.Learnt,
@@ -79,7 +104,6 @@ absorb-bins-mul-bin : (t : ℕ) → absorb-bins-lts.Need-mul-bin (
 ) (absorb-bins-at t) absorb-bins.Post
 absorb-bins-mul-bin t c = omega (arith, c .before .before .before .pre .1 .1)
 
--- src/absorbing.rt:110:15
 absorb-bins-element-copy-out-bin : (t : ℕ) → absorb-bins-lts.Need-element-copy-out-bin (
   gain-at-reads.Asked,
   gain-at-reads.Learnt,
@@ -90,7 +114,6 @@ absorb-bins-element-copy-out-bin : (t : ℕ) → absorb-bins-lts.Need-element-co
 ) (absorb-bins-at t) absorb-bins.Post
 absorb-bins-element-copy-out-bin t c = omega (arith, c .before .before .before .pre .1 .1)
 
--- src/absorbing.rt:111:18
 absorb-bins-mul-weight : (t : ℕ) → absorb-bins-lts.Need-mul-weight (
   gain-at-reads.Asked,
   gain-at-reads.Learnt,
@@ -101,7 +124,6 @@ absorb-bins-mul-weight : (t : ℕ) → absorb-bins-lts.Need-mul-weight (
 ) (absorb-bins-at t) absorb-bins.Post
 absorb-bins-mul-weight t c = omega (arith, c .before .before .before .before .pre .1 .1)
 
--- src/absorbing.rt:111:18
 absorb-bins-element-copy-out-weight : (t : ℕ) → absorb-bins-lts.Need-element-copy-out-weight (
   gain-at-reads.Asked,
   gain-at-reads.Learnt,
@@ -112,7 +134,6 @@ absorb-bins-element-copy-out-weight : (t : ℕ) → absorb-bins-lts.Need-element
 ) (absorb-bins-at t) absorb-bins.Post
 absorb-bins-element-copy-out-weight t c = omega (arith, c .before .before .before .before .pre .1 .1)
 
--- src/absorbing.rt:112:19
 absorb-bins-add-n : (t : ℕ) → absorb-bins-lts.Need-add-n (
   gain-at-reads.Asked,
   gain-at-reads.Learnt,
@@ -123,7 +144,6 @@ absorb-bins-add-n : (t : ℕ) → absorb-bins-lts.Need-add-n (
 ) (absorb-bins-at t) absorb-bins.Post
 absorb-bins-add-n t c = omega (arith, (c .before .before .before .before .before .pre .1 .0))
 
--- src/absorbing.rt:112:13
 absorb-bins-mul-n : (t : ℕ) → absorb-bins-lts.Need-mul-n (
   gain-at-reads.Asked,
   gain-at-reads.Learnt,
@@ -134,7 +154,6 @@ absorb-bins-mul-n : (t : ℕ) → absorb-bins-lts.Need-mul-n (
 ) (absorb-bins-at t) absorb-bins.Post
 absorb-bins-mul-n t c = omega (arith, (c .before .before .before .before .before .pre .1 .0))
 
--- src/absorbing.rt:112:13
 absorb-bins-shared-slice-read-n : (t : ℕ) → absorb-bins-lts.Need-shared-slice-read-n (
   gain-at-reads.Asked,
   gain-at-reads.Learnt,
@@ -145,7 +164,6 @@ absorb-bins-shared-slice-read-n : (t : ℕ) → absorb-bins-lts.Need-shared-slic
 ) (absorb-bins-at t) absorb-bins.Post
 absorb-bins-shared-slice-read-n t c = omega (arith, (c .before .before .before .before .before .before .pre .1 .0))
 
--- src/absorbing.rt:113:19
 absorb-bins-add-r : (t : ℕ) → absorb-bins-lts.Need-add-r (
   gain-at-reads.Asked,
   gain-at-reads.Learnt,
@@ -156,7 +174,6 @@ absorb-bins-add-r : (t : ℕ) → absorb-bins-lts.Need-add-r (
 ) (absorb-bins-at t) absorb-bins.Post
 absorb-bins-add-r t c = omega (arith, (c .before .before .before .before .before .before .pre .1 .0))
 
--- src/absorbing.rt:113:13
 absorb-bins-mul-r : (t : ℕ) → absorb-bins-lts.Need-mul-r (
   gain-at-reads.Asked,
   gain-at-reads.Learnt,
@@ -167,7 +184,6 @@ absorb-bins-mul-r : (t : ℕ) → absorb-bins-lts.Need-mul-r (
 ) (absorb-bins-at t) absorb-bins.Post
 absorb-bins-mul-r t c = omega (arith, (c .before .before .before .before .before .before .pre .1 .0))
 
--- src/absorbing.rt:113:13
 absorb-bins-shared-slice-read-r : (t : ℕ) → absorb-bins-lts.Need-shared-slice-read-r (
   gain-at-reads.Asked,
   gain-at-reads.Learnt,
@@ -178,7 +194,6 @@ absorb-bins-shared-slice-read-r : (t : ℕ) → absorb-bins-lts.Need-shared-slic
 ) (absorb-bins-at t) absorb-bins.Post
 absorb-bins-shared-slice-read-r t c = omega (arith, (c .before .before .before .before .before .before .before .pre .1 .0))
 
--- src/absorbing.rt:114:19
 absorb-bins-add-c : (t : ℕ) → absorb-bins-lts.Need-add-c (
   gain-at-reads.Asked,
   gain-at-reads.Learnt,
@@ -189,7 +204,6 @@ absorb-bins-add-c : (t : ℕ) → absorb-bins-lts.Need-add-c (
 ) (absorb-bins-at t) absorb-bins.Post
 absorb-bins-add-c t c = omega (arith, (c .before .before .before .before .before .before .before .pre .1 .0))
 
--- src/absorbing.rt:114:13
 absorb-bins-mul-c : (t : ℕ) → absorb-bins-lts.Need-mul-c (
   gain-at-reads.Asked,
   gain-at-reads.Learnt,
@@ -200,7 +214,6 @@ absorb-bins-mul-c : (t : ℕ) → absorb-bins-lts.Need-mul-c (
 ) (absorb-bins-at t) absorb-bins.Post
 absorb-bins-mul-c t c = omega (arith, (c .before .before .before .before .before .before .before .pre .1 .0))
 
--- src/absorbing.rt:114:13
 absorb-bins-shared-slice-read-c : (t : ℕ) → absorb-bins-lts.Need-shared-slice-read-c (
   gain-at-reads.Asked,
   gain-at-reads.Learnt,
@@ -211,7 +224,6 @@ absorb-bins-shared-slice-read-c : (t : ℕ) → absorb-bins-lts.Need-shared-slic
 ) (absorb-bins-at t) absorb-bins.Post
 absorb-bins-shared-slice-read-c t c = omega (arith, (c .before .before .before .before .before .before .before .before .pre .1 .0))
 
--- src/absorbing.rt:115:22
 absorb-bins-add-link : (t : ℕ) → absorb-bins-lts.Need-add-link (
   gain-at-reads.Asked,
   gain-at-reads.Learnt,
@@ -220,9 +232,8 @@ absorb-bins-add-link : (t : ℕ) → absorb-bins-lts.Need-add-link (
   put-reads.Asked,
   put-reads.Learnt,
 ) (absorb-bins-at t) absorb-bins.Post
-absorb-bins-add-link t c = omega (arith, (c .before .before .before .before .before .before .before .before .pre .1 .0), (formed (gridAt (c .before .before .before .before .before .before .before .before .args .level) (c .before .before .before .before .before .before .before .before .args .table .now) (c .before .before .before .before .before .before .before .before .args .reals .now) (c .before .before .before .before .before .before .before .before .args .counts .now)) (c .before .before .before .before .before .before .before .before .args .table .now) (c .before .before .before .before .before .before .before .before .args .reals .now) (c .before .before .before .before .before .before .before .before .args .counts .now) (c .before .before .before .before .before .before .before .before .args .w) (getD (c .before .before .before .before .before .before .before .before .args .table .now) ((c .before .before .before .before .before .before .before .before .args .w) + 2) 0) (headAt (c .before .before .before .before .before .before .before .before .args .table .now) (c .before .before .before .before .before .before .before .before .args .reals .now) (c .before .before .before .before .before .before .before .before .args .counts .now) (c .before .before .before .before .before .before .before .before .args .w)) (held (c .before .before .before .before .before .before .before .before .pre .1 .2)) (c .before .before .before .before .before .before .before .before .args .depth) (c .before .before .before .before .before .before .before .before .args .number) (c .before .before .before .before .before .before .before .before .pre .1 .2 .offer .takes)) .bin)
+absorb-bins-add-link t c = omega (arith, (c .before .before .before .before .before .before .before .before .pre .1 .0), below t (c .before .before .before .before .before .before .before .before))
 
--- src/absorbing.rt:115:22
 absorb-bins-add-link-2 : (t : ℕ) → absorb-bins-lts.Need-add-link-2 (
   gain-at-reads.Asked,
   gain-at-reads.Learnt,
@@ -231,9 +242,8 @@ absorb-bins-add-link-2 : (t : ℕ) → absorb-bins-lts.Need-add-link-2 (
   put-reads.Asked,
   put-reads.Learnt,
 ) (absorb-bins-at t) absorb-bins.Post
-absorb-bins-add-link-2 t c = omega (arith, (c .before .before .before .before .before .before .before .before .pre .1 .0), (formed (gridAt (c .before .before .before .before .before .before .before .before .args .level) (c .before .before .before .before .before .before .before .before .args .table .now) (c .before .before .before .before .before .before .before .before .args .reals .now) (c .before .before .before .before .before .before .before .before .args .counts .now)) (c .before .before .before .before .before .before .before .before .args .table .now) (c .before .before .before .before .before .before .before .before .args .reals .now) (c .before .before .before .before .before .before .before .before .args .counts .now) (c .before .before .before .before .before .before .before .before .args .w) (getD (c .before .before .before .before .before .before .before .before .args .table .now) ((c .before .before .before .before .before .before .before .before .args .w) + 2) 0) (headAt (c .before .before .before .before .before .before .before .before .args .table .now) (c .before .before .before .before .before .before .before .before .args .reals .now) (c .before .before .before .before .before .before .before .before .args .counts .now) (c .before .before .before .before .before .before .before .before .args .w)) (held (c .before .before .before .before .before .before .before .before .pre .1 .2)) (c .before .before .before .before .before .before .before .before .args .depth) (c .before .before .before .before .before .before .before .before .args .number) (c .before .before .before .before .before .before .before .before .pre .1 .2 .offer .takes)) .bin)
+absorb-bins-add-link-2 t c = omega (arith, (c .before .before .before .before .before .before .before .before .pre .1 .0), below t (c .before .before .before .before .before .before .before .before))
 
--- src/absorbing.rt:115:16
 absorb-bins-mul-link : (t : ℕ) → absorb-bins-lts.Need-mul-link (
   gain-at-reads.Asked,
   gain-at-reads.Learnt,
@@ -242,9 +252,8 @@ absorb-bins-mul-link : (t : ℕ) → absorb-bins-lts.Need-mul-link (
   put-reads.Asked,
   put-reads.Learnt,
 ) (absorb-bins-at t) absorb-bins.Post
-absorb-bins-mul-link t c = omega (arith, (c .before .before .before .before .before .before .before .before .pre .1 .0), (formed (gridAt (c .before .before .before .before .before .before .before .before .args .level) (c .before .before .before .before .before .before .before .before .args .table .now) (c .before .before .before .before .before .before .before .before .args .reals .now) (c .before .before .before .before .before .before .before .before .args .counts .now)) (c .before .before .before .before .before .before .before .before .args .table .now) (c .before .before .before .before .before .before .before .before .args .reals .now) (c .before .before .before .before .before .before .before .before .args .counts .now) (c .before .before .before .before .before .before .before .before .args .w) (getD (c .before .before .before .before .before .before .before .before .args .table .now) ((c .before .before .before .before .before .before .before .before .args .w) + 2) 0) (headAt (c .before .before .before .before .before .before .before .before .args .table .now) (c .before .before .before .before .before .before .before .before .args .reals .now) (c .before .before .before .before .before .before .before .before .args .counts .now) (c .before .before .before .before .before .before .before .before .args .w)) (held (c .before .before .before .before .before .before .before .before .pre .1 .2)) (c .before .before .before .before .before .before .before .before .args .depth) (c .before .before .before .before .before .before .before .before .args .number) (c .before .before .before .before .before .before .before .before .pre .1 .2 .offer .takes)) .bin)
+absorb-bins-mul-link t c = omega (arith, (c .before .before .before .before .before .before .before .before .pre .1 .0), below t (c .before .before .before .before .before .before .before .before))
 
--- src/absorbing.rt:115:16
 absorb-bins-shared-slice-read-link : (t : ℕ) → absorb-bins-lts.Need-shared-slice-read-link (
   gain-at-reads.Asked,
   gain-at-reads.Learnt,
@@ -253,9 +262,8 @@ absorb-bins-shared-slice-read-link : (t : ℕ) → absorb-bins-lts.Need-shared-s
   put-reads.Asked,
   put-reads.Learnt,
 ) (absorb-bins-at t) absorb-bins.Post
-absorb-bins-shared-slice-read-link t c = omega (arith, (c .before .before .before .before .before .before .before .before .before .pre .1 .0), (formed (gridAt (c .before .before .before .before .before .before .before .before .before .args .level) (c .before .before .before .before .before .before .before .before .before .args .table .now) (c .before .before .before .before .before .before .before .before .before .args .reals .now) (c .before .before .before .before .before .before .before .before .before .args .counts .now)) (c .before .before .before .before .before .before .before .before .before .args .table .now) (c .before .before .before .before .before .before .before .before .before .args .reals .now) (c .before .before .before .before .before .before .before .before .before .args .counts .now) (c .before .before .before .before .before .before .before .before .before .args .w) (getD (c .before .before .before .before .before .before .before .before .before .args .table .now) ((c .before .before .before .before .before .before .before .before .before .args .w) + 2) 0) (headAt (c .before .before .before .before .before .before .before .before .before .args .table .now) (c .before .before .before .before .before .before .before .before .before .args .reals .now) (c .before .before .before .before .before .before .before .before .before .args .counts .now) (c .before .before .before .before .before .before .before .before .before .args .w)) (held (c .before .before .before .before .before .before .before .before .before .pre .1 .2)) (c .before .before .before .before .before .before .before .before .before .args .depth) (c .before .before .before .before .before .before .before .before .before .args .number) (c .before .before .before .before .before .before .before .before .before .pre .1 .2 .offer .takes)) .bin)
+absorb-bins-shared-slice-read-link t c = omega (arith, (c .before .before .before .before .before .before .before .before .before .pre .1 .0), below t (c .before .before .before .before .before .before .before .before .before))
 
--- src/absorbing.rt:116:33
 absorb-bins-add-value : (t : ℕ) → absorb-bins-lts.Need-add-value (
   gain-at-reads.Asked,
   gain-at-reads.Learnt,
@@ -264,9 +272,8 @@ absorb-bins-add-value : (t : ℕ) → absorb-bins-lts.Need-add-value (
   put-reads.Asked,
   put-reads.Learnt,
 ) (absorb-bins-at t) absorb-bins.Post
-absorb-bins-add-value t c = omega (arith, (c .before .before .before .before .before .before .before .before .before .pre .1 .0), (formed (gridAt (c .before .before .before .before .before .before .before .before .before .args .level) (c .before .before .before .before .before .before .before .before .before .args .table .now) (c .before .before .before .before .before .before .before .before .before .args .reals .now) (c .before .before .before .before .before .before .before .before .before .args .counts .now)) (c .before .before .before .before .before .before .before .before .before .args .table .now) (c .before .before .before .before .before .before .before .before .before .args .reals .now) (c .before .before .before .before .before .before .before .before .before .args .counts .now) (c .before .before .before .before .before .before .before .before .before .args .w) (getD (c .before .before .before .before .before .before .before .before .before .args .table .now) ((c .before .before .before .before .before .before .before .before .before .args .w) + 2) 0) (headAt (c .before .before .before .before .before .before .before .before .before .args .table .now) (c .before .before .before .before .before .before .before .before .before .args .reals .now) (c .before .before .before .before .before .before .before .before .before .args .counts .now) (c .before .before .before .before .before .before .before .before .before .args .w)) (held (c .before .before .before .before .before .before .before .before .before .pre .1 .2)) (c .before .before .before .before .before .before .before .before .before .args .depth) (c .before .before .before .before .before .before .before .before .before .args .number) (c .before .before .before .before .before .before .before .before .before .pre .1 .2 .offer .takes)) .bin)
+absorb-bins-add-value t c = omega (arith, (c .before .before .before .before .before .before .before .before .before .pre .1 .0), below t (c .before .before .before .before .before .before .before .before .before))
 
--- src/absorbing.rt:116:33
 absorb-bins-add-value-2 : (t : ℕ) → absorb-bins-lts.Need-add-value-2 (
   gain-at-reads.Asked,
   gain-at-reads.Learnt,
@@ -275,9 +282,8 @@ absorb-bins-add-value-2 : (t : ℕ) → absorb-bins-lts.Need-add-value-2 (
   put-reads.Asked,
   put-reads.Learnt,
 ) (absorb-bins-at t) absorb-bins.Post
-absorb-bins-add-value-2 t c = omega (arith, (c .before .before .before .before .before .before .before .before .before .pre .1 .0), (formed (gridAt (c .before .before .before .before .before .before .before .before .before .args .level) (c .before .before .before .before .before .before .before .before .before .args .table .now) (c .before .before .before .before .before .before .before .before .before .args .reals .now) (c .before .before .before .before .before .before .before .before .before .args .counts .now)) (c .before .before .before .before .before .before .before .before .before .args .table .now) (c .before .before .before .before .before .before .before .before .before .args .reals .now) (c .before .before .before .before .before .before .before .before .before .args .counts .now) (c .before .before .before .before .before .before .before .before .before .args .w) (getD (c .before .before .before .before .before .before .before .before .before .args .table .now) ((c .before .before .before .before .before .before .before .before .before .args .w) + 2) 0) (headAt (c .before .before .before .before .before .before .before .before .before .args .table .now) (c .before .before .before .before .before .before .before .before .before .args .reals .now) (c .before .before .before .before .before .before .before .before .before .args .counts .now) (c .before .before .before .before .before .before .before .before .before .args .w)) (held (c .before .before .before .before .before .before .before .before .before .pre .1 .2)) (c .before .before .before .before .before .before .before .before .before .args .depth) (c .before .before .before .before .before .before .before .before .before .args .number) (c .before .before .before .before .before .before .before .before .before .pre .1 .2 .offer .takes)) .bin)
+absorb-bins-add-value-2 t c = omega (arith, (c .before .before .before .before .before .before .before .before .before .pre .1 .0), below t (c .before .before .before .before .before .before .before .before .before))
 
--- src/absorbing.rt:116:27
 absorb-bins-mul-value : (t : ℕ) → absorb-bins-lts.Need-mul-value (
   gain-at-reads.Asked,
   gain-at-reads.Learnt,
@@ -286,9 +292,8 @@ absorb-bins-mul-value : (t : ℕ) → absorb-bins-lts.Need-mul-value (
   put-reads.Asked,
   put-reads.Learnt,
 ) (absorb-bins-at t) absorb-bins.Post
-absorb-bins-mul-value t c = omega (arith, (c .before .before .before .before .before .before .before .before .before .pre .1 .0), (formed (gridAt (c .before .before .before .before .before .before .before .before .before .args .level) (c .before .before .before .before .before .before .before .before .before .args .table .now) (c .before .before .before .before .before .before .before .before .before .args .reals .now) (c .before .before .before .before .before .before .before .before .before .args .counts .now)) (c .before .before .before .before .before .before .before .before .before .args .table .now) (c .before .before .before .before .before .before .before .before .before .args .reals .now) (c .before .before .before .before .before .before .before .before .before .args .counts .now) (c .before .before .before .before .before .before .before .before .before .args .w) (getD (c .before .before .before .before .before .before .before .before .before .args .table .now) ((c .before .before .before .before .before .before .before .before .before .args .w) + 2) 0) (headAt (c .before .before .before .before .before .before .before .before .before .args .table .now) (c .before .before .before .before .before .before .before .before .before .args .reals .now) (c .before .before .before .before .before .before .before .before .before .args .counts .now) (c .before .before .before .before .before .before .before .before .before .args .w)) (held (c .before .before .before .before .before .before .before .before .before .pre .1 .2)) (c .before .before .before .before .before .before .before .before .before .args .depth) (c .before .before .before .before .before .before .before .before .before .args .number) (c .before .before .before .before .before .before .before .before .before .pre .1 .2 .offer .takes)) .bin)
+absorb-bins-mul-value t c = omega (arith, (c .before .before .before .before .before .before .before .before .before .pre .1 .0), below t (c .before .before .before .before .before .before .before .before .before))
 
--- src/absorbing.rt:116:27
 absorb-bins-slice-read-value : (t : ℕ) → absorb-bins-lts.Need-slice-read-value (
   gain-at-reads.Asked,
   gain-at-reads.Learnt,
@@ -297,9 +302,8 @@ absorb-bins-slice-read-value : (t : ℕ) → absorb-bins-lts.Need-slice-read-val
   put-reads.Asked,
   put-reads.Learnt,
 ) (absorb-bins-at t) absorb-bins.Post
-absorb-bins-slice-read-value t c = omega (arith, (c .before .before .before .before .before .before .before .before .before .before .pre .1 .0), (formed (gridAt (c .before .before .before .before .before .before .before .before .before .before .args .level) (c .before .before .before .before .before .before .before .before .before .before .args .table .now) (c .before .before .before .before .before .before .before .before .before .before .args .reals .now) (c .before .before .before .before .before .before .before .before .before .before .args .counts .now)) (c .before .before .before .before .before .before .before .before .before .before .args .table .now) (c .before .before .before .before .before .before .before .before .before .before .args .reals .now) (c .before .before .before .before .before .before .before .before .before .before .args .counts .now) (c .before .before .before .before .before .before .before .before .before .before .args .w) (getD (c .before .before .before .before .before .before .before .before .before .before .args .table .now) ((c .before .before .before .before .before .before .before .before .before .before .args .w) + 2) 0) (headAt (c .before .before .before .before .before .before .before .before .before .before .args .table .now) (c .before .before .before .before .before .before .before .before .before .before .args .reals .now) (c .before .before .before .before .before .before .before .before .before .before .args .counts .now) (c .before .before .before .before .before .before .before .before .before .before .args .w)) (held (c .before .before .before .before .before .before .before .before .before .before .pre .1 .2)) (c .before .before .before .before .before .before .before .before .before .before .args .depth) (c .before .before .before .before .before .before .before .before .before .before .args .number) (c .before .before .before .before .before .before .before .before .before .before .pre .1 .2 .offer .takes)) .bin)
+absorb-bins-slice-read-value t c = omega (arith, (c .before .before .before .before .before .before .before .before .before .before .pre .1 .0), below t (c .before .before .before .before .before .before .before .before .before .before))
 
--- src/absorbing.rt:117:9
 absorb-bins-gain-at-requires : (t : ℕ) → absorb-bins-lts.Need-gain-at-requires (
   gain-at-reads.Asked,
   gain-at-reads.Learnt,
@@ -308,17 +312,8 @@ absorb-bins-gain-at-requires : (t : ℕ) → absorb-bins-lts.Need-gain-at-requir
   put-reads.Asked,
   put-reads.Learnt,
 ) (absorb-bins-at t) absorb-bins.Post
-unfolding headAt
-absorb-bins-gain-at-requires t c κs =
-    let o = c .before .before .before .before .before .before .before .before .before .before .before .before in
-    let f = gridAt (o .args .level) (o .args .table .now) (o .args .reals .now) (o .args .counts .now) in
-    let n = getD (o .args .table .now) (o .args .w + 2) 0 in
-    let h = headAt (o .args .table .now) (o .args .reals .now) (o .args .counts .now) (o .args .w) in
-    let s = held (o .pre .1 .2) in
-    let b = formed f (o .args .table .now) (o .args .reals .now) (o .args .counts .now) (o .args .w) n h s (o .args .depth) (o .args .number) (o .pre .1 .2 .offer .takes) in
-    (omega (arith, o .pre .1 .0, b .bin), omega (arith, o .pre .1 .0, b .bin), head-sound f (o .args .table .now) (o .args .reals .now) (o .args .counts .now) (o .args .w) n h s (o .args .depth) (o .args .number) (o .pre .1 .2 .offer .takes))
+absorb-bins-gain-at-requires t c κs = (omega (arith, c .before .before .before .before .before .before .before .before .before .before .before .before .pre .1 .0, below t (c .before .before .before .before .before .before .before .before .before .before .before .before)), omega (arith, c .before .before .before .before .before .before .before .before .before .before .before .before .pre .1 .0, below t (c .before .before .before .before .before .before .before .before .before .before .before .before)), own-well t (c .before .before .before .before .before .before .before .before .before .before .before .before))
 
--- src/absorbing.rt:118:19
 absorb-bins-add-inner-r : (t : ℕ) → absorb-bins-lts.Need-add-inner-r (
   gain-at-reads.Asked,
   gain-at-reads.Learnt,
@@ -327,9 +322,8 @@ absorb-bins-add-inner-r : (t : ℕ) → absorb-bins-lts.Need-add-inner-r (
   put-reads.Asked,
   put-reads.Learnt,
 ) (absorb-bins-at t) absorb-bins.Post
-absorb-bins-add-inner-r t c = omega (arith, (c .before .before .before .before .before .before .before .before .before .before .before .before .before .pre .1 .0), (formed (gridAt (c .before .before .before .before .before .before .before .before .before .before .before .before .before .args .level) (c .before .before .before .before .before .before .before .before .before .before .before .before .before .args .table .now) (c .before .before .before .before .before .before .before .before .before .before .before .before .before .args .reals .now) (c .before .before .before .before .before .before .before .before .before .before .before .before .before .args .counts .now)) (c .before .before .before .before .before .before .before .before .before .before .before .before .before .args .table .now) (c .before .before .before .before .before .before .before .before .before .before .before .before .before .args .reals .now) (c .before .before .before .before .before .before .before .before .before .before .before .before .before .args .counts .now) (c .before .before .before .before .before .before .before .before .before .before .before .before .before .args .w) (getD (c .before .before .before .before .before .before .before .before .before .before .before .before .before .args .table .now) ((c .before .before .before .before .before .before .before .before .before .before .before .before .before .args .w) + 2) 0) (headAt (c .before .before .before .before .before .before .before .before .before .before .before .before .before .args .table .now) (c .before .before .before .before .before .before .before .before .before .before .before .before .before .args .reals .now) (c .before .before .before .before .before .before .before .before .before .before .before .before .before .args .counts .now) (c .before .before .before .before .before .before .before .before .before .before .before .before .before .args .w)) (held (c .before .before .before .before .before .before .before .before .before .before .before .before .before .pre .1 .2)) (c .before .before .before .before .before .before .before .before .before .before .before .before .before .args .depth) (c .before .before .before .before .before .before .before .before .before .before .before .before .before .args .number) (c .before .before .before .before .before .before .before .before .before .before .before .before .before .pre .1 .2 .offer .takes)) .bin)
+absorb-bins-add-inner-r t c = omega (arith, (c .before .before .before .before .before .before .before .before .before .before .before .before .before .pre .1 .0), below t (c .before .before .before .before .before .before .before .before .before .before .before .before .before))
 
--- src/absorbing.rt:118:19
 absorb-bins-add-inner-r-2 : (t : ℕ) → absorb-bins-lts.Need-add-inner-r-2 (
   gain-at-reads.Asked,
   gain-at-reads.Learnt,
@@ -338,9 +332,8 @@ absorb-bins-add-inner-r-2 : (t : ℕ) → absorb-bins-lts.Need-add-inner-r-2 (
   put-reads.Asked,
   put-reads.Learnt,
 ) (absorb-bins-at t) absorb-bins.Post
-absorb-bins-add-inner-r-2 t c = omega (arith, (c .before .before .before .before .before .before .before .before .before .before .before .before .before .pre .1 .0), (formed (gridAt (c .before .before .before .before .before .before .before .before .before .before .before .before .before .args .level) (c .before .before .before .before .before .before .before .before .before .before .before .before .before .args .table .now) (c .before .before .before .before .before .before .before .before .before .before .before .before .before .args .reals .now) (c .before .before .before .before .before .before .before .before .before .before .before .before .before .args .counts .now)) (c .before .before .before .before .before .before .before .before .before .before .before .before .before .args .table .now) (c .before .before .before .before .before .before .before .before .before .before .before .before .before .args .reals .now) (c .before .before .before .before .before .before .before .before .before .before .before .before .before .args .counts .now) (c .before .before .before .before .before .before .before .before .before .before .before .before .before .args .w) (getD (c .before .before .before .before .before .before .before .before .before .before .before .before .before .args .table .now) ((c .before .before .before .before .before .before .before .before .before .before .before .before .before .args .w) + 2) 0) (headAt (c .before .before .before .before .before .before .before .before .before .before .before .before .before .args .table .now) (c .before .before .before .before .before .before .before .before .before .before .before .before .before .args .reals .now) (c .before .before .before .before .before .before .before .before .before .before .before .before .before .args .counts .now) (c .before .before .before .before .before .before .before .before .before .before .before .before .before .args .w)) (held (c .before .before .before .before .before .before .before .before .before .before .before .before .before .pre .1 .2)) (c .before .before .before .before .before .before .before .before .before .before .before .before .before .args .depth) (c .before .before .before .before .before .before .before .before .before .before .before .before .before .args .number) (c .before .before .before .before .before .before .before .before .before .before .before .before .before .pre .1 .2 .offer .takes)) .bin)
+absorb-bins-add-inner-r-2 t c = omega (arith, (c .before .before .before .before .before .before .before .before .before .before .before .before .before .pre .1 .0), below t (c .before .before .before .before .before .before .before .before .before .before .before .before .before))
 
--- src/absorbing.rt:118:32
 absorb-bins-mul-inner-r : (t : ℕ) → absorb-bins-lts.Need-mul-inner-r (
   gain-at-reads.Asked,
   gain-at-reads.Learnt,
@@ -349,9 +342,8 @@ absorb-bins-mul-inner-r : (t : ℕ) → absorb-bins-lts.Need-mul-inner-r (
   put-reads.Asked,
   put-reads.Learnt,
 ) (absorb-bins-at t) absorb-bins.Post
-absorb-bins-mul-inner-r t c = omega (arith, (c .before .before .before .before .before .before .before .before .before .before .before .before .before .pre .1 .0), (formed (gridAt (c .before .before .before .before .before .before .before .before .before .before .before .before .before .args .level) (c .before .before .before .before .before .before .before .before .before .before .before .before .before .args .table .now) (c .before .before .before .before .before .before .before .before .before .before .before .before .before .args .reals .now) (c .before .before .before .before .before .before .before .before .before .before .before .before .before .args .counts .now)) (c .before .before .before .before .before .before .before .before .before .before .before .before .before .args .table .now) (c .before .before .before .before .before .before .before .before .before .before .before .before .before .args .reals .now) (c .before .before .before .before .before .before .before .before .before .before .before .before .before .args .counts .now) (c .before .before .before .before .before .before .before .before .before .before .before .before .before .args .w) (getD (c .before .before .before .before .before .before .before .before .before .before .before .before .before .args .table .now) ((c .before .before .before .before .before .before .before .before .before .before .before .before .before .args .w) + 2) 0) (headAt (c .before .before .before .before .before .before .before .before .before .before .before .before .before .args .table .now) (c .before .before .before .before .before .before .before .before .before .before .before .before .before .args .reals .now) (c .before .before .before .before .before .before .before .before .before .before .before .before .before .args .counts .now) (c .before .before .before .before .before .before .before .before .before .before .before .before .before .args .w)) (held (c .before .before .before .before .before .before .before .before .before .before .before .before .before .pre .1 .2)) (c .before .before .before .before .before .before .before .before .before .before .before .before .before .args .depth) (c .before .before .before .before .before .before .before .before .before .before .before .before .before .args .number) (c .before .before .before .before .before .before .before .before .before .before .before .before .before .pre .1 .2 .offer .takes)) .bin)
+absorb-bins-mul-inner-r t c = omega (arith, (c .before .before .before .before .before .before .before .before .before .before .before .before .before .pre .1 .0), below t (c .before .before .before .before .before .before .before .before .before .before .before .before .before))
 
--- src/absorbing.rt:118:19
 absorb-bins-add-inner-r-3 : (t : ℕ) → absorb-bins-lts.Need-add-inner-r-3 (
   gain-at-reads.Asked,
   gain-at-reads.Learnt,
@@ -360,9 +352,8 @@ absorb-bins-add-inner-r-3 : (t : ℕ) → absorb-bins-lts.Need-add-inner-r-3 (
   put-reads.Asked,
   put-reads.Learnt,
 ) (absorb-bins-at t) absorb-bins.Post
-absorb-bins-add-inner-r-3 t c = omega (arith, (c .before .before .before .before .before .before .before .before .before .before .before .before .before .pre .1 .0), (formed (gridAt (c .before .before .before .before .before .before .before .before .before .before .before .before .before .args .level) (c .before .before .before .before .before .before .before .before .before .before .before .before .before .args .table .now) (c .before .before .before .before .before .before .before .before .before .before .before .before .before .args .reals .now) (c .before .before .before .before .before .before .before .before .before .before .before .before .before .args .counts .now)) (c .before .before .before .before .before .before .before .before .before .before .before .before .before .args .table .now) (c .before .before .before .before .before .before .before .before .before .before .before .before .before .args .reals .now) (c .before .before .before .before .before .before .before .before .before .before .before .before .before .args .counts .now) (c .before .before .before .before .before .before .before .before .before .before .before .before .before .args .w) (getD (c .before .before .before .before .before .before .before .before .before .before .before .before .before .args .table .now) ((c .before .before .before .before .before .before .before .before .before .before .before .before .before .args .w) + 2) 0) (headAt (c .before .before .before .before .before .before .before .before .before .before .before .before .before .args .table .now) (c .before .before .before .before .before .before .before .before .before .before .before .before .before .args .reals .now) (c .before .before .before .before .before .before .before .before .before .before .before .before .before .args .counts .now) (c .before .before .before .before .before .before .before .before .before .before .before .before .before .args .w)) (held (c .before .before .before .before .before .before .before .before .before .before .before .before .before .pre .1 .2)) (c .before .before .before .before .before .before .before .before .before .before .before .before .before .args .depth) (c .before .before .before .before .before .before .before .before .before .before .before .before .before .args .number) (c .before .before .before .before .before .before .before .before .before .before .before .before .before .pre .1 .2 .offer .takes)) .bin)
+absorb-bins-add-inner-r-3 t c = omega (arith, (c .before .before .before .before .before .before .before .before .before .before .before .before .before .pre .1 .0), below t (c .before .before .before .before .before .before .before .before .before .before .before .before .before))
 
--- src/absorbing.rt:119:19
 absorb-bins-add-inner-c : (t : ℕ) → absorb-bins-lts.Need-add-inner-c (
   gain-at-reads.Asked,
   gain-at-reads.Learnt,
@@ -371,9 +362,8 @@ absorb-bins-add-inner-c : (t : ℕ) → absorb-bins-lts.Need-add-inner-c (
   put-reads.Asked,
   put-reads.Learnt,
 ) (absorb-bins-at t) absorb-bins.Post
-absorb-bins-add-inner-c t c = omega (arith, (c .before .before .before .before .before .before .before .before .before .before .before .before .before .pre .1 .0), (formed (gridAt (c .before .before .before .before .before .before .before .before .before .before .before .before .before .args .level) (c .before .before .before .before .before .before .before .before .before .before .before .before .before .args .table .now) (c .before .before .before .before .before .before .before .before .before .before .before .before .before .args .reals .now) (c .before .before .before .before .before .before .before .before .before .before .before .before .before .args .counts .now)) (c .before .before .before .before .before .before .before .before .before .before .before .before .before .args .table .now) (c .before .before .before .before .before .before .before .before .before .before .before .before .before .args .reals .now) (c .before .before .before .before .before .before .before .before .before .before .before .before .before .args .counts .now) (c .before .before .before .before .before .before .before .before .before .before .before .before .before .args .w) (getD (c .before .before .before .before .before .before .before .before .before .before .before .before .before .args .table .now) ((c .before .before .before .before .before .before .before .before .before .before .before .before .before .args .w) + 2) 0) (headAt (c .before .before .before .before .before .before .before .before .before .before .before .before .before .args .table .now) (c .before .before .before .before .before .before .before .before .before .before .before .before .before .args .reals .now) (c .before .before .before .before .before .before .before .before .before .before .before .before .before .args .counts .now) (c .before .before .before .before .before .before .before .before .before .before .before .before .before .args .w)) (held (c .before .before .before .before .before .before .before .before .before .before .before .before .before .pre .1 .2)) (c .before .before .before .before .before .before .before .before .before .before .before .before .before .args .depth) (c .before .before .before .before .before .before .before .before .before .before .before .before .before .args .number) (c .before .before .before .before .before .before .before .before .before .before .before .before .before .pre .1 .2 .offer .takes)) .bin)
+absorb-bins-add-inner-c t c = omega (arith, (c .before .before .before .before .before .before .before .before .before .before .before .before .before .pre .1 .0), below t (c .before .before .before .before .before .before .before .before .before .before .before .before .before))
 
--- src/absorbing.rt:119:27
 absorb-bins-mul-inner-c : (t : ℕ) → absorb-bins-lts.Need-mul-inner-c (
   gain-at-reads.Asked,
   gain-at-reads.Learnt,
@@ -382,9 +372,8 @@ absorb-bins-mul-inner-c : (t : ℕ) → absorb-bins-lts.Need-mul-inner-c (
   put-reads.Asked,
   put-reads.Learnt,
 ) (absorb-bins-at t) absorb-bins.Post
-absorb-bins-mul-inner-c t c = omega (arith, (c .before .before .before .before .before .before .before .before .before .before .before .before .before .pre .1 .0), (formed (gridAt (c .before .before .before .before .before .before .before .before .before .before .before .before .before .args .level) (c .before .before .before .before .before .before .before .before .before .before .before .before .before .args .table .now) (c .before .before .before .before .before .before .before .before .before .before .before .before .before .args .reals .now) (c .before .before .before .before .before .before .before .before .before .before .before .before .before .args .counts .now)) (c .before .before .before .before .before .before .before .before .before .before .before .before .before .args .table .now) (c .before .before .before .before .before .before .before .before .before .before .before .before .before .args .reals .now) (c .before .before .before .before .before .before .before .before .before .before .before .before .before .args .counts .now) (c .before .before .before .before .before .before .before .before .before .before .before .before .before .args .w) (getD (c .before .before .before .before .before .before .before .before .before .before .before .before .before .args .table .now) ((c .before .before .before .before .before .before .before .before .before .before .before .before .before .args .w) + 2) 0) (headAt (c .before .before .before .before .before .before .before .before .before .before .before .before .before .args .table .now) (c .before .before .before .before .before .before .before .before .before .before .before .before .before .args .reals .now) (c .before .before .before .before .before .before .before .before .before .before .before .before .before .args .counts .now) (c .before .before .before .before .before .before .before .before .before .before .before .before .before .args .w)) (held (c .before .before .before .before .before .before .before .before .before .before .before .before .before .pre .1 .2)) (c .before .before .before .before .before .before .before .before .before .before .before .before .before .args .depth) (c .before .before .before .before .before .before .before .before .before .before .before .before .before .args .number) (c .before .before .before .before .before .before .before .before .before .before .before .before .before .pre .1 .2 .offer .takes)) .bin)
+absorb-bins-mul-inner-c t c = omega (arith, (c .before .before .before .before .before .before .before .before .before .before .before .before .before .pre .1 .0), below t (c .before .before .before .before .before .before .before .before .before .before .before .before .before))
 
--- src/absorbing.rt:119:19
 absorb-bins-add-inner-c-2 : (t : ℕ) → absorb-bins-lts.Need-add-inner-c-2 (
   gain-at-reads.Asked,
   gain-at-reads.Learnt,
@@ -393,9 +382,8 @@ absorb-bins-add-inner-c-2 : (t : ℕ) → absorb-bins-lts.Need-add-inner-c-2 (
   put-reads.Asked,
   put-reads.Learnt,
 ) (absorb-bins-at t) absorb-bins.Post
-absorb-bins-add-inner-c-2 t c = omega (arith, (c .before .before .before .before .before .before .before .before .before .before .before .before .before .pre .1 .0), (formed (gridAt (c .before .before .before .before .before .before .before .before .before .before .before .before .before .args .level) (c .before .before .before .before .before .before .before .before .before .before .before .before .before .args .table .now) (c .before .before .before .before .before .before .before .before .before .before .before .before .before .args .reals .now) (c .before .before .before .before .before .before .before .before .before .before .before .before .before .args .counts .now)) (c .before .before .before .before .before .before .before .before .before .before .before .before .before .args .table .now) (c .before .before .before .before .before .before .before .before .before .before .before .before .before .args .reals .now) (c .before .before .before .before .before .before .before .before .before .before .before .before .before .args .counts .now) (c .before .before .before .before .before .before .before .before .before .before .before .before .before .args .w) (getD (c .before .before .before .before .before .before .before .before .before .before .before .before .before .args .table .now) ((c .before .before .before .before .before .before .before .before .before .before .before .before .before .args .w) + 2) 0) (headAt (c .before .before .before .before .before .before .before .before .before .before .before .before .before .args .table .now) (c .before .before .before .before .before .before .before .before .before .before .before .before .before .args .reals .now) (c .before .before .before .before .before .before .before .before .before .before .before .before .before .args .counts .now) (c .before .before .before .before .before .before .before .before .before .before .before .before .before .args .w)) (held (c .before .before .before .before .before .before .before .before .before .before .before .before .before .pre .1 .2)) (c .before .before .before .before .before .before .before .before .before .before .before .before .before .args .depth) (c .before .before .before .before .before .before .before .before .before .before .before .before .before .args .number) (c .before .before .before .before .before .before .before .before .before .before .before .before .before .pre .1 .2 .offer .takes)) .bin)
+absorb-bins-add-inner-c-2 t c = omega (arith, (c .before .before .before .before .before .before .before .before .before .before .before .before .before .pre .1 .0), below t (c .before .before .before .before .before .before .before .before .before .before .before .before .before))
 
--- src/absorbing.rt:120:9
 absorb-bins-gain-at-requires-2 : (t : ℕ) → absorb-bins-lts.Need-gain-at-requires-2 (
   gain-at-reads.Asked,
   gain-at-reads.Learnt,
@@ -404,17 +392,8 @@ absorb-bins-gain-at-requires-2 : (t : ℕ) → absorb-bins-lts.Need-gain-at-requ
   put-reads.Asked,
   put-reads.Learnt,
 ) (absorb-bins-at t) absorb-bins.Post
-unfolding binIn
-absorb-bins-gain-at-requires-2 t c κs =
-    let o = c .before .before .before .before .before .before .before .before .before .before .before .before .before .before .before in
-    let f = gridAt (o .args .level) (o .args .table .now) (o .args .reals .now) (o .args .counts .now) in
-    let n = getD (o .args .table .now) (o .args .w + 2) 0 in
-    let h = headAt (o .args .table .now) (o .args .reals .now) (o .args .counts .now) (o .args .w) in
-    let s = held (o .pre .1 .2) in
-    let b = formed f (o .args .table .now) (o .args .reals .now) (o .args .counts .now) (o .args .w) n h s (o .args .depth) (o .args .number) (o .pre .1 .2 .offer .takes) in
-    (omega (arith, o .pre .1 .0, b .bin), omega (arith, o .pre .1 .0, b .bin), spot-sound f (o .args .table .now) (o .args .reals .now) (o .args .counts .now) (o .args .w) n h s (o .args .depth) (o .args .number) (o .pre .1 .2 .offer .takes))
+absorb-bins-gain-at-requires-2 t c κs = (omega (arith, c .before .before .before .before .before .before .before .before .before .before .before .before .before .before .before .pre .1 .0, below t (c .before .before .before .before .before .before .before .before .before .before .before .before .before .before .before)), omega (arith, c .before .before .before .before .before .before .before .before .before .before .before .before .before .before .before .pre .1 .0, below t (c .before .before .before .before .before .before .before .before .before .before .before .before .before .before .before)), spot-well t (c .before .before .before .before .before .before .before .before .before .before .before .before .before .before .before))
 
--- src/absorbing.rt:130:9
 absorb-bins-add-absorb-child : (t : ℕ) → absorb-bins-lts.Need-add-absorb-child (
   gain-at-reads.Asked,
   gain-at-reads.Learnt,
@@ -425,7 +404,6 @@ absorb-bins-add-absorb-child : (t : ℕ) → absorb-bins-lts.Need-add-absorb-chi
 ) (absorb-bins-at t) absorb-bins.Post
 absorb-bins-add-absorb-child t c = omega (arith, c .before .before .before .before .before .before .before .before .before .before .before .before .before .before .before .before .before .before .pre .1 .1)
 
--- src/absorbing.rt:121:5
 absorb-bins-absorb-child-requires : (t : ℕ) → absorb-bins-lts.Need-absorb-child-requires (
   gain-at-reads.Asked,
   gain-at-reads.Learnt,
@@ -435,9 +413,8 @@ absorb-bins-absorb-child-requires : (t : ℕ) → absorb-bins-lts.Need-absorb-ch
   put-reads.Learnt,
 ) (absorb-bins-at t) absorb-bins.Post
 unfolding ChildLaid
-absorb-bins-absorb-child-requires t c κs = (omega (arith, c .before .before .before .before .before .before .before .before .before .before .before .before .before .before .before .before .before .before .pre .0), (λ z. (c .before .before .before .before .before .before .before .before .before .before .before .before .before .before .before .before .before .before .pre .1 .0) .children (getD (c .before .before .before .before .before .before .before .before .before .before .before .before .before .before .before .before .before .before .args .path .now) (c .before .before .before .before .before .before .before .before .before .before .before .before .before .before .before .before .before .before .args .depth) 0) ((formed (gridAt (c .before .before .before .before .before .before .before .before .before .before .before .before .before .before .before .before .before .before .args .level) (c .before .before .before .before .before .before .before .before .before .before .before .before .before .before .before .before .before .before .args .table .now) (c .before .before .before .before .before .before .before .before .before .before .before .before .before .before .before .before .before .before .args .reals .now) (c .before .before .before .before .before .before .before .before .before .before .before .before .before .before .before .before .before .before .args .counts .now)) (c .before .before .before .before .before .before .before .before .before .before .before .before .before .before .before .before .before .before .args .table .now) (c .before .before .before .before .before .before .before .before .before .before .before .before .before .before .before .before .before .before .args .reals .now) (c .before .before .before .before .before .before .before .before .before .before .before .before .before .before .before .before .before .before .args .counts .now) (c .before .before .before .before .before .before .before .before .before .before .before .before .before .before .before .before .before .before .args .w) (getD (c .before .before .before .before .before .before .before .before .before .before .before .before .before .before .before .before .before .before .args .table .now) ((c .before .before .before .before .before .before .before .before .before .before .before .before .before .before .before .before .before .before .args .w) + 2) 0) (headAt (c .before .before .before .before .before .before .before .before .before .before .before .before .before .before .before .before .before .before .args .table .now) (c .before .before .before .before .before .before .before .before .before .before .before .before .before .before .before .before .before .before .args .reals .now) (c .before .before .before .before .before .before .before .before .before .before .before .before .before .before .before .before .before .before .args .counts .now) (c .before .before .before .before .before .before .before .before .before .before .before .before .before .before .before .before .before .before .args .w)) (held (c .before .before .before .before .before .before .before .before .before .before .before .before .before .before .before .before .before .before .pre .1 .2)) (c .before .before .before .before .before .before .before .before .before .before .before .before .before .before .before .before .before .before .args .depth) (c .before .before .before .before .before .before .before .before .before .before .before .before .before .before .before .before .before .before .args .number) (c .before .before .before .before .before .before .before .before .before .before .before .before .before .before .before .before .before .before .pre .1 .2 .offer .takes)) .bin) z, omega (arith, c .before .before .before .before .before .before .before .before .before .before .before .before .before .before .before .before .before .before .pre .1 .1), held-below (gridAt (c .before .before .before .before .before .before .before .before .before .before .before .before .before .before .before .before .before .before .args .level) (c .before .before .before .before .before .before .before .before .before .before .before .before .before .before .before .before .before .before .args .table .now) (c .before .before .before .before .before .before .before .before .before .before .before .before .before .before .before .before .before .before .args .reals .now) (c .before .before .before .before .before .before .before .before .before .before .before .before .before .before .before .before .before .before .args .counts .now)) (c .before .before .before .before .before .before .before .before .before .before .before .before .before .before .before .before .before .before .args .table .now) (c .before .before .before .before .before .before .before .before .before .before .before .before .before .before .before .before .before .before .args .reals .now) (c .before .before .before .before .before .before .before .before .before .before .before .before .before .before .before .before .before .before .args .counts .now) (c .before .before .before .before .before .before .before .before .before .before .before .before .before .before .before .before .before .before .args .w) (getD (c .before .before .before .before .before .before .before .before .before .before .before .before .before .before .before .before .before .before .args .table .now) (c .before .before .before .before .before .before .before .before .before .before .before .before .before .before .before .before .before .before .args .w + 2) 0) (headAt (c .before .before .before .before .before .before .before .before .before .before .before .before .before .before .before .before .before .before .args .table .now) (c .before .before .before .before .before .before .before .before .before .before .before .before .before .before .before .before .before .before .args .reals .now) (c .before .before .before .before .before .before .before .before .before .before .before .before .before .before .before .before .before .before .args .counts .now) (c .before .before .before .before .before .before .before .before .before .before .before .before .before .before .before .before .before .before .args .w)) (c .before .before .before .before .before .before .before .before .before .before .before .before .before .before .before .before .before .before .pre .1 .2)))
+absorb-bins-absorb-child-requires t c κs = (omega (arith, c .before .before .before .before .before .before .before .before .before .before .before .before .before .before .before .before .before .before .pre .0), (λ z. (c .before .before .before .before .before .before .before .before .before .before .before .before .before .before .before .before .before .before .pre .1 .0) .children (getD (c .before .before .before .before .before .before .before .before .before .before .before .before .before .before .before .before .before .before .args .path .now) (c .before .before .before .before .before .before .before .before .before .before .before .before .before .before .before .before .before .before .args .depth) 0) (below t (c .before .before .before .before .before .before .before .before .before .before .before .before .before .before .before .before .before .before)) z, omega (arith, c .before .before .before .before .before .before .before .before .before .before .before .before .before .before .before .before .before .before .pre .1 .1), held-below (gridAt (c .before .before .before .before .before .before .before .before .before .before .before .before .before .before .before .before .before .before .args .level) (c .before .before .before .before .before .before .before .before .before .before .before .before .before .before .before .before .before .before .args .table .now) (c .before .before .before .before .before .before .before .before .before .before .before .before .before .before .before .before .before .before .args .reals .now) (c .before .before .before .before .before .before .before .before .before .before .before .before .before .before .before .before .before .before .args .counts .now)) (c .before .before .before .before .before .before .before .before .before .before .before .before .before .before .before .before .before .before .args .table .now) (c .before .before .before .before .before .before .before .before .before .before .before .before .before .before .before .before .before .before .args .reals .now) (c .before .before .before .before .before .before .before .before .before .before .before .before .before .before .before .before .before .before .args .counts .now) (c .before .before .before .before .before .before .before .before .before .before .before .before .before .before .before .before .before .before .args .w) (getD (c .before .before .before .before .before .before .before .before .before .before .before .before .before .before .before .before .before .before .args .table .now) (c .before .before .before .before .before .before .before .before .before .before .before .before .before .before .before .before .before .before .args .w + 2) 0) (headAt (c .before .before .before .before .before .before .before .before .before .before .before .before .before .before .before .before .before .before .args .table .now) (c .before .before .before .before .before .before .before .before .before .before .before .before .before .before .before .before .before .before .args .reals .now) (c .before .before .before .before .before .before .before .before .before .before .before .before .before .before .before .before .before .before .args .counts .now) (c .before .before .before .before .before .before .before .before .before .before .before .before .before .before .before .before .before .before .args .w)) (c .before .before .before .before .before .before .before .before .before .before .before .before .before .before .before .before .before .before .pre .1 .2)))
 
--- src/absorbing.rt:138:5
 absorb-bins-put-requires : (t : ℕ) → absorb-bins-lts.Need-put-requires (
   gain-at-reads.Asked,
   gain-at-reads.Learnt,
@@ -446,9 +423,8 @@ absorb-bins-put-requires : (t : ℕ) → absorb-bins-lts.Need-put-requires (
   put-reads.Asked,
   put-reads.Learnt,
 ) (absorb-bins-at t) absorb-bins.Post
-absorb-bins-put-requires t c κs = (omega (arith, (c .before .before .before .before .before .before .before .before .before .before .before .before .before .before .before .before .before .before .before .before .before .before .before .before .before .pre .1 .0), (formed (gridAt (c .before .before .before .before .before .before .before .before .before .before .before .before .before .before .before .before .before .before .before .before .before .before .before .before .before .args .level) (c .before .before .before .before .before .before .before .before .before .before .before .before .before .before .before .before .before .before .before .before .before .before .before .before .before .args .table .now) (c .before .before .before .before .before .before .before .before .before .before .before .before .before .before .before .before .before .before .before .before .before .before .before .before .before .args .reals .now) (c .before .before .before .before .before .before .before .before .before .before .before .before .before .before .before .before .before .before .before .before .before .before .before .before .before .args .counts .now)) (c .before .before .before .before .before .before .before .before .before .before .before .before .before .before .before .before .before .before .before .before .before .before .before .before .before .args .table .now) (c .before .before .before .before .before .before .before .before .before .before .before .before .before .before .before .before .before .before .before .before .before .before .before .before .before .args .reals .now) (c .before .before .before .before .before .before .before .before .before .before .before .before .before .before .before .before .before .before .before .before .before .before .before .before .before .args .counts .now) (c .before .before .before .before .before .before .before .before .before .before .before .before .before .before .before .before .before .before .before .before .before .before .before .before .before .args .w) (getD (c .before .before .before .before .before .before .before .before .before .before .before .before .before .before .before .before .before .before .before .before .before .before .before .before .before .args .table .now) ((c .before .before .before .before .before .before .before .before .before .before .before .before .before .before .before .before .before .before .before .before .before .before .before .before .before .args .w) + 2) 0) (headAt (c .before .before .before .before .before .before .before .before .before .before .before .before .before .before .before .before .before .before .before .before .before .before .before .before .before .args .table .now) (c .before .before .before .before .before .before .before .before .before .before .before .before .before .before .before .before .before .before .before .before .before .before .before .before .before .args .reals .now) (c .before .before .before .before .before .before .before .before .before .before .before .before .before .before .before .before .before .before .before .before .before .before .before .before .before .args .counts .now) (c .before .before .before .before .before .before .before .before .before .before .before .before .before .before .before .before .before .before .before .before .before .before .before .before .before .args .w)) (held (c .before .before .before .before .before .before .before .before .before .before .before .before .before .before .before .before .before .before .before .before .before .before .before .before .before .pre .1 .2)) (c .before .before .before .before .before .before .before .before .before .before .before .before .before .before .before .before .before .before .before .before .before .before .before .before .before .args .depth) (c .before .before .before .before .before .before .before .before .before .before .before .before .before .before .before .before .before .before .before .before .before .before .before .before .before .args .number) (c .before .before .before .before .before .before .before .before .before .before .before .before .before .before .before .before .before .before .before .before .before .before .before .before .before .pre .1 .2 .offer .takes)) .bin, c .before .before .before .before .before .before .absorb-child .kept .1 .0), omega (arith, (c .before .before .before .before .before .before .before .before .before .before .before .before .before .before .before .before .before .before .before .before .before .before .before .before .before .pre .1 .0), (formed (gridAt (c .before .before .before .before .before .before .before .before .before .before .before .before .before .before .before .before .before .before .before .before .before .before .before .before .before .args .level) (c .before .before .before .before .before .before .before .before .before .before .before .before .before .before .before .before .before .before .before .before .before .before .before .before .before .args .table .now) (c .before .before .before .before .before .before .before .before .before .before .before .before .before .before .before .before .before .before .before .before .before .before .before .before .before .args .reals .now) (c .before .before .before .before .before .before .before .before .before .before .before .before .before .before .before .before .before .before .before .before .before .before .before .before .before .args .counts .now)) (c .before .before .before .before .before .before .before .before .before .before .before .before .before .before .before .before .before .before .before .before .before .before .before .before .before .args .table .now) (c .before .before .before .before .before .before .before .before .before .before .before .before .before .before .before .before .before .before .before .before .before .before .before .before .before .args .reals .now) (c .before .before .before .before .before .before .before .before .before .before .before .before .before .before .before .before .before .before .before .before .before .before .before .before .before .args .counts .now) (c .before .before .before .before .before .before .before .before .before .before .before .before .before .before .before .before .before .before .before .before .before .before .before .before .before .args .w) (getD (c .before .before .before .before .before .before .before .before .before .before .before .before .before .before .before .before .before .before .before .before .before .before .before .before .before .args .table .now) ((c .before .before .before .before .before .before .before .before .before .before .before .before .before .before .before .before .before .before .before .before .before .before .before .before .before .args .w) + 2) 0) (headAt (c .before .before .before .before .before .before .before .before .before .before .before .before .before .before .before .before .before .before .before .before .before .before .before .before .before .args .table .now) (c .before .before .before .before .before .before .before .before .before .before .before .before .before .before .before .before .before .before .before .before .before .before .before .before .before .args .reals .now) (c .before .before .before .before .before .before .before .before .before .before .before .before .before .before .before .before .before .before .before .before .before .before .before .before .before .args .counts .now) (c .before .before .before .before .before .before .before .before .before .before .before .before .before .before .before .before .before .before .before .before .before .before .before .before .before .args .w)) (held (c .before .before .before .before .before .before .before .before .before .before .before .before .before .before .before .before .before .before .before .before .before .before .before .before .before .pre .1 .2)) (c .before .before .before .before .before .before .before .before .before .before .before .before .before .before .before .before .before .before .before .before .before .before .before .before .before .args .depth) (c .before .before .before .before .before .before .before .before .before .before .before .before .before .before .before .before .before .before .before .before .before .before .before .before .before .args .number) (c .before .before .before .before .before .before .before .before .before .before .before .before .before .before .before .before .before .before .before .before .before .before .before .before .before .pre .1 .2 .offer .takes)) .bin, c .before .before .before .before .before .before .absorb-child .kept .1 .1 .0))
+absorb-bins-put-requires t c κs = (omega (arith, (c .before .before .before .before .before .before .before .before .before .before .before .before .before .before .before .before .before .before .before .before .before .before .before .before .before .pre .1 .0), below t (c .before .before .before .before .before .before .before .before .before .before .before .before .before .before .before .before .before .before .before .before .before .before .before .before .before), c .before .before .before .before .before .before .absorb-child .kept .1 .0), omega (arith, (c .before .before .before .before .before .before .before .before .before .before .before .before .before .before .before .before .before .before .before .before .before .before .before .before .before .pre .1 .0), below t (c .before .before .before .before .before .before .before .before .before .before .before .before .before .before .before .before .before .before .before .before .before .before .before .before .before), c .before .before .before .before .before .before .absorb-child .kept .1 .1 .0))
 
--- src/absorbing.rt:139:5
 absorb-bins-put-requires-2 : (t : ℕ) → absorb-bins-lts.Need-put-requires-2 (
   gain-at-reads.Asked,
   gain-at-reads.Learnt,
@@ -459,7 +435,6 @@ absorb-bins-put-requires-2 : (t : ℕ) → absorb-bins-lts.Need-put-requires-2 (
 ) (absorb-bins-at t) absorb-bins.Post
 absorb-bins-put-requires-2 t c κs = (omega (arith, (c .before .before .before .before .before .before .before .before .before .before .before .before .before .before .before .before .before .before .before .before .before .before .before .before .before .before .before .before .before .before .before .before .pre .1 .0), c .before .before .before .before .before .before .before .before .before .before .before .before .before .absorb-child .kept .1 .0, c .before .before .before .before .before .before .put .kept .0), omega (arith, (c .before .before .before .before .before .before .before .before .before .before .before .before .before .before .before .before .before .before .before .before .before .before .before .before .before .before .before .before .before .before .before .before .pre .1 .0), c .before .before .before .before .before .before .before .before .before .before .before .before .before .absorb-child .kept .1 .1 .0, c .before .before .before .before .before .before .put .kept .1 .0))
 
--- src/absorbing.rt:89:1
 absorb-bins-same-length : (t : ℕ) → absorb-bins-lts.Need-same-length (
   gain-at-reads.Asked,
   gain-at-reads.Learnt,
@@ -470,7 +445,6 @@ absorb-bins-same-length : (t : ℕ) → absorb-bins-lts.Need-same-length (
 ) (absorb-bins-at t) absorb-bins.Post
 absorb-bins-same-length t c = c .before .before .before .before .put2 .kept .0 ∙ c .before .before .before .before .before .before .before .before .before .before .before .put .kept .0 ∙ c .before .before .before .before .before .before .before .before .before .before .before .before .before .before .before .before .before .before .absorb-child .kept .1 .0
 
--- src/absorbing.rt:89:1
 absorb-bins-same-length-2 : (t : ℕ) → absorb-bins-lts.Need-same-length-2 (
   gain-at-reads.Asked,
   gain-at-reads.Learnt,
@@ -481,7 +455,6 @@ absorb-bins-same-length-2 : (t : ℕ) → absorb-bins-lts.Need-same-length-2 (
 ) (absorb-bins-at t) absorb-bins.Post
 absorb-bins-same-length-2 t c = c .before .before .before .before .put2 .kept .1 .0 ∙ c .before .before .before .before .before .before .before .before .before .before .before .put .kept .1 .0 ∙ c .before .before .before .before .before .before .before .before .before .before .before .before .before .before .before .before .before .before .absorb-child .kept .1 .1 .0
 
--- src/absorbing.rt:89:1
 absorb-bins-returns : (t : ℕ) → absorb-bins-lts.Need-returns (
   gain-at-reads.Asked,
   gain-at-reads.Learnt,
@@ -492,14 +465,12 @@ absorb-bins-returns : (t : ℕ) → absorb-bins-lts.Need-returns (
 ) (absorb-bins-at t) absorb-bins.Post
 absorb-bins-returns t c h = bins-absorbed (c .before .before .before .before .before .before .before .before .before .before .before .before .before .before .before .before .before .before .before .before .before .before .before .before .before .before .before .before .before .before .before .before .before .before .before .before .before .args .table .now) (held h) (c .before .before .before .before .before .before .before .before .before .before .before .before .before .before .before .before .before .before .before .before .before .before .before .before .before .before .before .before .before .before .before .before .before .before .before .before .before .args .evaluation) (c .before .before .before .before .before .before .before .before .before .before .before .before .before .before .before .before .before .before .before .before .before .before .before .before .before .before .before .before .before .before .before .before .before .before .before .before .before .args .number) (c .before .before .before .before .before .before .before .before .before .before .before .before .before .before .before .before .before .before .before .before .before .before .before .before .before .before .before .before .before .before .before .before .before .before .before .before .before .args .w) (c .before .before .before .before .before .before .before .before .before .before .before .before .before .before .before .before .before .before .before .before .before .before .before .before .before .before .before .before .before .before .before .before .before .before .before .before .before .args .depth) (absorbed (c .before .before .before .before .before .before .before .before .before .before .before .before .before .before .before .before .before .before .before .before .before .before .before .before .before .before .before .before .before .before .before .before .before .before .before .before .before .args .level) (c .before .before .before .before .before .before .before .before .before .before .before .before .before .before .before .before .before .before .before .before .before .before .before .before .before .before .before .before .before .before .before .before .before .before .before .before .before .args .table .now) (held h) (c .before .before .before .before .before .before .before .before .before .before .before .before .before .before .before .before .before .before .before .before .before .before .before .before .before .before .before .before .before .before .before .before .before .before .before .before .before .args .evaluation) (c .before .before .before .before .before .before .before .before .before .before .before .before .before .before .before .before .before .before .before .before .before .before .before .before .before .before .before .before .before .before .before .before .before .before .before .before .before .args .number)) (memory (c .before .before .before .before .before .before .before .before .before .before .before .before .before .before .before .before .before .before .before .before .before .before .before .before .before .before .before .before .before .before .before .before .before .before .before .before .before .args .reals .now) (c .before .before .before .before .before .before .before .before .before .before .before .before .before .before .before .before .before .before .before .before .before .before .before .before .before .before .before .before .before .before .before .before .before .before .before .before .before .args .counts .now)) (memory (c .before .before .before .before .before .before .before .before .before .before .before .before .before .before .before .before .before .before .absorb-child .last .1 .0) (c .before .before .before .before .before .before .before .before .before .before .before .before .before .before .before .before .before .before .absorb-child .last .1 .1 .0)) (memory (c .before .before .before .before .before .before .before .before .before .before .before .put .last .0) (c .before .before .before .before .before .before .before .before .before .before .before .put .last .1 .0)) (memory (c .before .before .before .before .put2 .last .0) (c .before .before .before .before .put2 .last .1 .0)) (c .before .before .before .before .before .before .before .before .before .before .before .before .before .before .before .before .before .before .before .before .before .before .before .before .gain-at .result) (c .before .before .before .before .before .before .before .before .before .before .before .before .before .before .before .before .before .before .before .before .before .gain-at2 .result) (c .before .before .before .before .before .before .before .before .before .before .before .before .before .before .before .before .before .before .before .before .before .before .before .before .gain-at .ensures) (c .before .before .before .before .before .before .before .before .before .before .before .before .before .before .before .before .before .before .before .before .before .gain-at2 .ensures) (c .before .before .before .before .before .before .before .before .before .before .before .before .before .before .before .before .before .before .absorb-child .ensures (held-below (gridAt (c .before .before .before .before .before .before .before .before .before .before .before .before .before .before .before .before .before .before .before .before .before .before .before .before .before .before .before .before .before .before .before .before .before .before .before .before .before .args .level) (c .before .before .before .before .before .before .before .before .before .before .before .before .before .before .before .before .before .before .before .before .before .before .before .before .before .before .before .before .before .before .before .before .before .before .before .before .before .args .table .now) (c .before .before .before .before .before .before .before .before .before .before .before .before .before .before .before .before .before .before .before .before .before .before .before .before .before .before .before .before .before .before .before .before .before .before .before .before .before .args .reals .now) (c .before .before .before .before .before .before .before .before .before .before .before .before .before .before .before .before .before .before .before .before .before .before .before .before .before .before .before .before .before .before .before .before .before .before .before .before .before .args .counts .now)) (c .before .before .before .before .before .before .before .before .before .before .before .before .before .before .before .before .before .before .before .before .before .before .before .before .before .before .before .before .before .before .before .before .before .before .before .before .before .args .table .now) (c .before .before .before .before .before .before .before .before .before .before .before .before .before .before .before .before .before .before .before .before .before .before .before .before .before .before .before .before .before .before .before .before .before .before .before .before .before .args .reals .now) (c .before .before .before .before .before .before .before .before .before .before .before .before .before .before .before .before .before .before .before .before .before .before .before .before .before .before .before .before .before .before .before .before .before .before .before .before .before .args .counts .now) (c .before .before .before .before .before .before .before .before .before .before .before .before .before .before .before .before .before .before .before .before .before .before .before .before .before .before .before .before .before .before .before .before .before .before .before .before .before .args .w) (getD (c .before .before .before .before .before .before .before .before .before .before .before .before .before .before .before .before .before .before .before .before .before .before .before .before .before .before .before .before .before .before .before .before .before .before .before .before .before .args .table .now) (c .before .before .before .before .before .before .before .before .before .before .before .before .before .before .before .before .before .before .before .before .before .before .before .before .before .before .before .before .before .before .before .before .before .before .before .before .before .args .w + 2) 0) (headAt (c .before .before .before .before .before .before .before .before .before .before .before .before .before .before .before .before .before .before .before .before .before .before .before .before .before .before .before .before .before .before .before .before .before .before .before .before .before .args .table .now) (c .before .before .before .before .before .before .before .before .before .before .before .before .before .before .before .before .before .before .before .before .before .before .before .before .before .before .before .before .before .before .before .before .before .before .before .before .before .args .reals .now) (c .before .before .before .before .before .before .before .before .before .before .before .before .before .before .before .before .before .before .before .before .before .before .before .before .before .before .before .before .before .before .before .before .before .before .before .before .before .args .counts .now) (c .before .before .before .before .before .before .before .before .before .before .before .before .before .before .before .before .before .before .before .before .before .before .before .before .before .before .before .before .before .before .before .before .before .before .before .before .before .args .w)) h)) (c .before .before .before .before .before .before .before .before .before .before .before .put .ensures) (c .before .before .before .before .put2 .ensures)
 
--- src/absorbing.rt:67:9
 absorb-child-returns : (t : ℕ) → absorb-child-lts.Need-returns (
   absorb-grid-below t,
   absorb-grid.Post,
 ) (absorb-child-at t) absorb-child.Post
 absorb-child-returns t c h = nothing-absorbed (absorbed (c .before .before .before .before .args .level) (c .before .before .before .before .args .table .now) (heldChild h) (c .before .before .before .before .args .evaluation) (c .before .before .before .before .args .number)) (c .before .before .before .before .args .link) (c .before .before .before .before .args .depth) (memory (c .before .before .before .before .args .reals .now) (c .before .before .before .before .args .counts .now)) (c .if1 .taken)
 
--- src/absorbing.rt:69:5
 absorb-child-absorb-grid-requires : (t : ℕ) → absorb-child-lts.Need-absorb-grid-requires (
   absorb-grid-below t,
   absorb-grid.Post,
@@ -507,28 +478,24 @@ absorb-child-absorb-grid-requires : (t : ℕ) → absorb-child-lts.Need-absorb-g
 unfolding ChildLaid
 absorb-child-absorb-grid-requires t c κs = (omega (arith, c .before .before .before .before .before .before .pre .0), (c .before .before .before .before .before .before .pre .1 .0 (c .before .before .if1 .left), c .before .before .before .before .before .before .pre .1 .1, held-grid (gridAt (c .before .before .before .before .before .before .args .level) (c .before .before .before .before .before .before .args .table .now) (c .before .before .before .before .before .before .args .reals .now) (c .before .before .before .before .before .before .args .counts .now)) (c .before .before .before .before .before .before .args .link) (c .before .before .if1 .left) (c .before .before .before .before .before .before .pre .1 .2)))
 
--- src/absorbing.rt:46:1
 absorb-child-same-length : (t : ℕ) → absorb-child-lts.Need-same-length (
   absorb-grid-below t,
   absorb-grid.Post,
 ) (absorb-child-at t) absorb-child.Post
 absorb-child-same-length t c = c .before .before .before .before .absorb-grid .kept .1 .0
 
--- src/absorbing.rt:46:1
 absorb-child-same-length-2 : (t : ℕ) → absorb-child-lts.Need-same-length-2 (
   absorb-grid-below t,
   absorb-grid.Post,
 ) (absorb-child-at t) absorb-child.Post
 absorb-child-same-length-2 t c = c .before .before .before .before .absorb-grid .kept .1 .1 .0
 
--- src/absorbing.rt:46:1
 absorb-child-returns-2 : (t : ℕ) → absorb-child-lts.Need-returns-2 (
   absorb-grid-below t,
   absorb-grid.Post,
 ) (absorb-child-at t) absorb-child.Post
 absorb-child-returns-2 t c h = c .before .before .before .before .absorb-grid .ensures (held-grid (gridAt (c .before .before .before .before .before .before .before .before .before .before .before .args .level) (c .before .before .before .before .before .before .before .before .before .before .before .args .table .now) (c .before .before .before .before .before .before .before .before .before .before .before .args .reals .now) (c .before .before .before .before .before .before .before .before .before .before .before .args .counts .now)) (c .before .before .before .before .before .before .before .before .before .before .before .args .link) (c .before .before .before .before .before .before .before .if1 .left) h) ∙ child-absorbed (absorbed (c .before .before .before .before .before .before .before .before .before .before .before .args .level) (c .before .before .before .before .before .before .before .before .before .before .before .args .table .now) (heldChild h) (c .before .before .before .before .before .before .before .before .before .before .before .args .evaluation) (c .before .before .before .before .before .before .before .before .before .before .before .args .number)) (c .before .before .before .before .before .before .before .before .before .before .before .args .link) (c .before .before .before .before .before .before .before .before .before .before .before .args .depth) (memory (c .before .before .before .before .before .before .before .before .before .before .before .args .reals .now) (c .before .before .before .before .before .before .before .before .before .before .before .args .counts .now)) (c .before .before .before .before .before .before .before .if1 .left)
 
--- src/absorbing.rt:163:8
 absorb-grid-mul-if1 : (t : ℕ) → absorb-grid-lts.Need-mul-if1 (
   absorb-axes-reads.Asked,
   absorb-axes-reads.Learnt,
@@ -537,7 +504,6 @@ absorb-grid-mul-if1 : (t : ℕ) → absorb-grid-lts.Need-mul-if1 (
 ) (absorb-grid-at t) absorb-grid.Post
 absorb-grid-mul-if1 t c = let q = (laid-head (c .before .before .before .args .level) (c .before .before .before .args .table .now) (length (c .before .before .before .args .reals .now)) (length (c .before .before .before .args .counts .now)) (c .before .before .before .args .w) (c .before .before .before .pre .1 .0)) in omega arith
 
--- src/absorbing.rt:163:8
 absorb-grid-shared-slice-read-if1 : (t : ℕ) → absorb-grid-lts.Need-shared-slice-read-if1 (
   absorb-axes-reads.Asked,
   absorb-axes-reads.Learnt,
@@ -546,7 +512,6 @@ absorb-grid-shared-slice-read-if1 : (t : ℕ) → absorb-grid-lts.Need-shared-sl
 ) (absorb-grid-at t) absorb-grid.Post
 absorb-grid-shared-slice-read-if1 t c = let q = (laid-head (c .before .before .before .before .args .level) (c .before .before .before .before .args .table .now) (length (c .before .before .before .before .args .reals .now)) (length (c .before .before .before .before .args .counts .now)) (c .before .before .before .before .args .w) (c .before .before .before .before .pre .1 .0)) in omega arith
 
--- src/absorbing.rt:164:9
 absorb-grid-absorb-axes-requires : (t : ℕ) → absorb-grid-lts.Need-absorb-axes-requires (
   absorb-axes-reads.Asked,
   absorb-axes-reads.Learnt,
@@ -555,7 +520,6 @@ absorb-grid-absorb-axes-requires : (t : ℕ) → absorb-grid-lts.Need-absorb-axe
 ) (absorb-grid-at t) absorb-grid.Post
 absorb-grid-absorb-axes-requires t c κs = ((laid-axes (c .before .before .before .before .before .before .before .args .level) (c .before .before .before .before .before .before .before .args .table .now) (length (c .before .before .before .before .before .before .before .args .reals .now)) (length (c .before .before .before .before .before .before .before .args .counts .now)) (c .before .before .before .before .before .before .before .args .w) (c .before .before .before .before .before .before .before .pre .1 .0) (c .before .before .if1 .taken)), omega (arith, c .before .before .before .before .before .before .before .pre .1 .1), held-as (node-axes (c .before .before .before .before .before .before .before .args .level) (c .before .before .before .before .before .before .before .args .table .now) (c .before .before .before .before .before .before .before .args .reals .now) (c .before .before .before .before .before .before .before .args .counts .now) (c .before .before .before .before .before .before .before .args .w) (c .before .before .if1 .taken)) (c .before .before .before .before .before .before .before .pre .1 .2))
 
--- src/absorbing.rt:165:9
 absorb-grid-same-length : (t : ℕ) → absorb-grid-lts.Need-same-length (
   absorb-axes-reads.Asked,
   absorb-axes-reads.Learnt,
@@ -564,7 +528,6 @@ absorb-grid-same-length : (t : ℕ) → absorb-grid-lts.Need-same-length (
 ) (absorb-grid-at t) absorb-grid.Post
 absorb-grid-same-length t c = c .before .before .before .before .absorb-axes .kept .1 .0
 
--- src/absorbing.rt:165:9
 absorb-grid-same-length-2 : (t : ℕ) → absorb-grid-lts.Need-same-length-2 (
   absorb-axes-reads.Asked,
   absorb-axes-reads.Learnt,
@@ -573,7 +536,6 @@ absorb-grid-same-length-2 : (t : ℕ) → absorb-grid-lts.Need-same-length-2 (
 ) (absorb-grid-at t) absorb-grid.Post
 absorb-grid-same-length-2 t c = c .before .before .before .before .absorb-axes .kept .1 .1 .0
 
--- src/absorbing.rt:165:9
 absorb-grid-returns : (t : ℕ) → absorb-grid-lts.Need-returns (
   absorb-axes-reads.Asked,
   absorb-axes-reads.Learnt,
@@ -582,7 +544,6 @@ absorb-grid-returns : (t : ℕ) → absorb-grid-lts.Need-returns (
 ) (absorb-grid-at t) absorb-grid.Post
 absorb-grid-returns t c h = c .before .before .before .before .absorb-axes .ensures (held-as (node-axes (c .before .before .before .before .before .before .before .before .before .before .before .before .args .level) (c .before .before .before .before .before .before .before .before .before .before .before .before .args .table .now) (c .before .before .before .before .before .before .before .before .before .before .before .before .args .reals .now) (c .before .before .before .before .before .before .before .before .before .before .before .before .args .counts .now) (c .before .before .before .before .before .before .before .before .before .before .before .before .args .w) (c .before .before .before .before .before .before .before .if1 .taken)) h) ∙ absorbed-axes (c .before .before .before .before .before .before .before .before .before .before .before .before .args .table .now) (held h) (c .before .before .before .before .before .before .before .before .before .before .before .before .args .evaluation) (c .before .before .before .before .before .before .before .before .before .before .before .before .args .number) (c .before .before .before .before .before .before .before .before .before .before .before .before .args .w) (c .before .before .before .before .before .before .before .before .before .before .before .before .args .depth) (memory (c .before .before .before .before .before .before .before .before .before .before .before .before .args .reals .now) (c .before .before .before .before .before .before .before .before .before .before .before .before .args .counts .now)) (c .before .before .before .before .before .before .before .before .before .before .before .before .args .level) (c .before .before .before .before .before .before .before .if1 .taken)
 
--- src/absorbing.rt:171:9
 absorb-grid-sub-absorb-bins : (t : ℕ) → absorb-grid-lts.Need-sub-absorb-bins (
   absorb-axes-reads.Asked,
   absorb-axes-reads.Learnt,
@@ -591,7 +552,6 @@ absorb-grid-sub-absorb-bins : (t : ℕ) → absorb-grid-lts.Need-sub-absorb-bins
 ) (absorb-grid-at t) absorb-grid.Post
 absorb-grid-sub-absorb-bins t c = omega (arith, (laid-bins (c .before .before .before .before .before .before .before .args .level) (c .before .before .before .before .before .before .before .args .table .now) (length (c .before .before .before .before .before .before .before .args .reals .now)) (length (c .before .before .before .before .before .before .before .args .counts .now)) (c .before .before .before .before .before .before .before .args .w) (c .before .before .before .before .before .before .before .pre .1 .0) (c .before .before .if1 .left)) .level)
 
--- src/absorbing.rt:167:5
 absorb-grid-absorb-bins-requires : (t : ℕ) → absorb-grid-lts.Need-absorb-bins-requires (
   absorb-axes-reads.Asked,
   absorb-axes-reads.Learnt,
@@ -600,7 +560,6 @@ absorb-grid-absorb-bins-requires : (t : ℕ) → absorb-grid-lts.Need-absorb-bin
 ) (absorb-grid-at t) absorb-grid.Post
 absorb-grid-absorb-bins-requires t c κs = (omega (arith, c .before .before .before .before .before .before .before .pre .0, (laid-bins (c .before .before .before .before .before .before .before .args .level) (c .before .before .before .before .before .before .before .args .table .now) (length (c .before .before .before .before .before .before .before .args .reals .now)) (length (c .before .before .before .before .before .before .before .args .counts .now)) (c .before .before .before .before .before .before .before .args .w) (c .before .before .before .before .before .before .before .pre .1 .0) (c .before .before .if1 .left)) .level), ((laid-bins (c .before .before .before .before .before .before .before .args .level) (c .before .before .before .before .before .before .before .args .table .now) (length (c .before .before .before .before .before .before .before .args .reals .now)) (length (c .before .before .before .before .before .before .before .args .counts .now)) (c .before .before .before .before .before .before .before .args .w) (c .before .before .before .before .before .before .before .pre .1 .0) (c .before .before .if1 .left)) .bins, omega (arith, c .before .before .before .before .before .before .before .pre .1 .1, (laid-bins (c .before .before .before .before .before .before .before .args .level) (c .before .before .before .before .before .before .before .args .table .now) (length (c .before .before .before .before .before .before .before .args .reals .now)) (length (c .before .before .before .before .before .before .before .args .counts .now)) (c .before .before .before .before .before .before .before .args .w) (c .before .before .before .before .before .before .before .pre .1 .0) (c .before .before .if1 .left)) .level), held-as (node-bins (c .before .before .before .before .before .before .before .args .level) (c .before .before .before .before .before .before .before .args .table .now) (c .before .before .before .before .before .before .before .args .reals .now) (c .before .before .before .before .before .before .before .args .counts .now) (c .before .before .before .before .before .before .before .args .w) (c .before .before .if1 .left) ((laid-bins (c .before .before .before .before .before .before .before .args .level) (c .before .before .before .before .before .before .before .args .table .now) (length (c .before .before .before .before .before .before .before .args .reals .now)) (length (c .before .before .before .before .before .before .before .args .counts .now)) (c .before .before .before .before .before .before .before .args .w) (c .before .before .before .before .before .before .before .pre .1 .0) (c .before .before .if1 .left)) .level)) (c .before .before .before .before .before .before .before .pre .1 .2)))
 
--- src/absorbing.rt:143:1
 absorb-grid-same-length-3 : (t : ℕ) → absorb-grid-lts.Need-same-length-3 (
   absorb-axes-reads.Asked,
   absorb-axes-reads.Learnt,
@@ -609,7 +568,6 @@ absorb-grid-same-length-3 : (t : ℕ) → absorb-grid-lts.Need-same-length-3 (
 ) (absorb-grid-at t) absorb-grid.Post
 absorb-grid-same-length-3 t c = c .before .before .before .before .absorb-bins .kept .1 .0
 
--- src/absorbing.rt:143:1
 absorb-grid-same-length-4 : (t : ℕ) → absorb-grid-lts.Need-same-length-4 (
   absorb-axes-reads.Asked,
   absorb-axes-reads.Learnt,
@@ -618,7 +576,6 @@ absorb-grid-same-length-4 : (t : ℕ) → absorb-grid-lts.Need-same-length-4 (
 ) (absorb-grid-at t) absorb-grid.Post
 absorb-grid-same-length-4 t c = c .before .before .before .before .absorb-bins .kept .1 .1 .0
 
--- src/absorbing.rt:143:1
 absorb-grid-returns-2 : (t : ℕ) → absorb-grid-lts.Need-returns-2 (
   absorb-axes-reads.Asked,
   absorb-axes-reads.Learnt,

@@ -19,11 +19,11 @@ use Rattle.samples.proofs.training.train_axes.Reads as train-axes-reads
 
 -- src/absorbing.rt:35:18
 mul-weight : tie.Need-mul-weight
-mul-weight c = search needs
+mul-weight c = omega arith
 
 -- src/absorbing.rt:35:18
 element-copy-out-weight : tie.Need-element-copy-out-weight
-element-copy-out-weight c = search needs
+element-copy-out-weight c = omega arith
 
 -- src/absorbing.rt:36:9
 axes-place-requires : tie.Need-axes-place-requires
@@ -31,27 +31,27 @@ axes-place-requires c κs = tt
 
 -- src/absorbing.rt:37:19
 add-r : tie.Need-add-r
-add-r c = search needs
+add-r c = omega arith
 
 -- src/absorbing.rt:37:13
 mul-r : tie.Need-mul-r
-mul-r c = search needs
+mul-r c = omega arith
 
 -- src/absorbing.rt:37:13
 shared-slice-read-r : tie.Need-shared-slice-read-r
-shared-slice-read-r c = search needs
+shared-slice-read-r c = omega arith
 
 -- src/absorbing.rt:38:19
 add-c : tie.Need-add-c
-add-c c = search needs
+add-c c = omega arith
 
 -- src/absorbing.rt:38:13
 mul-c : tie.Need-mul-c
-mul-c c = search needs
+mul-c c = omega arith
 
 -- src/absorbing.rt:38:13
 shared-slice-read-c : tie.Need-shared-slice-read-c
-shared-slice-read-c c = search needs
+shared-slice-read-c c = omega arith
 
 -- src/absorbing.rt:40:9
 gain-at-requires : tie.Need-gain-at-requires
@@ -73,11 +73,11 @@ put-requires c κs = let o = c .before .before .before .before .before .before .
 
 -- src/absorbing.rt:16:1
 same-length : tie.Need-same-length
-same-length c = search needs
+same-length c = omega arith
 
 -- src/absorbing.rt:16:1
 same-length-2 : tie.Need-same-length-2
-same-length-2 c = search needs
+same-length-2 c = omega arith
 
 -- src/absorbing.rt:16:1
 returns : tie.Need-returns

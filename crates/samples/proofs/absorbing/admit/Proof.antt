@@ -7,7 +7,6 @@ use Rattle.lent.specs.Sampled.{sampleIn}
 use Rattle.lent.proofs.Objections.{takes-root}
 use Rattle.lent.proofs.Finds.{held-of}
 use Rattle.lent.proofs.Absorbs.{admitted-all, admitted-none}
-use borrow.Author.Needs.{needs}
 use Rattle.samples.proofs.absorbing.admit.Statement.{statement}
 use Rattle.samples.proofs.absorbing.admit.Tie as tie
 use Rattle.samples.proofs.absorbing.admit.Reads as reads
@@ -21,11 +20,11 @@ objection-requires c κs = let o = c .before .before .before .before .before .be
 
 -- src/absorbing.rt:242:9
 same-length : tie.Need-same-length
-same-length c = search needs
+same-length c = omega arith
 
 -- src/absorbing.rt:242:9
 same-length-2 : tie.Need-same-length-2
-same-length-2 c = search needs
+same-length-2 c = omega arith
 
 -- src/absorbing.rt:242:9
 returns : tie.Need-returns
@@ -42,11 +41,11 @@ absorb-grid-requires c κs =
 
 -- src/absorbing.rt:209:1
 same-length-3 : tie.Need-same-length-3
-same-length-3 c = search needs
+same-length-3 c = omega arith
 
 -- src/absorbing.rt:209:1
 same-length-4 : tie.Need-same-length-4
-same-length-4 c = search needs
+same-length-4 c = omega arith
 
 -- src/absorbing.rt:209:1
 returns-2 : tie.Need-returns-2

@@ -1,9 +1,10 @@
 -- Of a well-formed grid only what the sample touches may fail: along the path an accumulator, the bin's, and what hangs there.
-use mathlib.Core.Path.{sym, ap, ap₂, _∙_, subst}
-use mathlib.Core.Bool.{_&&_}
+use mathlib.Core.Path.{_≡_, sym, ap, ap₂, _∙_, subst}
+use mathlib.Core.Bool.{true, _&&_}
 use native.Mathlib.Omega.{arith}
 use Prim.Native.Nat.{_+_, _-_, _*_}
 use lib.ListN.{length, getD}
+use Rattle.accumulator.specs.Record.{wellFormed}
 use Rattle.model.specs.Grid.{Grid}
 use Rattle.model.specs.Sound.{keptGrid}
 use Rattle.model.specs.Train.{trainGrid}
@@ -73,7 +74,25 @@ grid-accepts-below t =
     (falls 7 grid-accepts-kinds.ps _<_ μ-grid-accepts t)
     grid-accepts.Pre
 
--- src/acceptance.rt:115:15
+-- where `bins_accept` begins
+abbrev Begun : ℕ → Type 0
+Begun t = bins-accept-lts.Start (
+  fits-with-reads.Asked,
+  fits-with-reads.Learnt,
+  child-accepts-below t,
+  child-accepts.Post,
+) (bins-accept-at t) bins-accept.Post
+
+-- there the sample's bin is one of the grid's, and both accumulators are well formed
+below : (t : ℕ) (o : Begun t) → getD (o .args .path .now) (o .args .depth) 0 < getD (o .args .table .now) (o .args .w + 2) 0
+below t o = formed (gridAt (o .args .level) (o .args .table .now) (o .args .reals .now) (o .args .counts .now)) (o .args .table .now) (o .args .reals .now) (o .args .counts .now) (o .args .w) (getD (o .args .table .now) ((o .args .w) + 2) 0) (headAt (o .args .table .now) (o .args .reals .now) (o .args .counts .now) (o .args .w)) (offered (o .pre .1 .2)) (o .args .depth) (o .args .number) (o .pre .1 .2 .takes) .bin
+
+own-well : (t : ℕ) (o : Begun t) → wellFormed (headAt (o .args .table .now) (o .args .reals .now) (o .args .counts .now) (o .args .w) .own) ≡ true
+own-well t o = head-sound (gridAt (o .args .level) (o .args .table .now) (o .args .reals .now) (o .args .counts .now)) (o .args .table .now) (o .args .reals .now) (o .args .counts .now) (o .args .w) (getD (o .args .table .now) ((o .args .w) + 2) 0) (headAt (o .args .table .now) (o .args .reals .now) (o .args .counts .now) (o .args .w)) (offered (o .pre .1 .2)) (o .args .depth) (o .args .number) (o .pre .1 .2 .takes)
+
+spot-well : (t : ℕ) (o : Begun t) → wellFormed (binIn (o .args .table .now) (o .args .reals .now) (o .args .counts .now) (o .args .w) (getD (o .args .path .now) (o .args .depth) 0) .own) ≡ true
+spot-well t o = spot-sound (gridAt (o .args .level) (o .args .table .now) (o .args .reals .now) (o .args .counts .now)) (o .args .table .now) (o .args .reals .now) (o .args .counts .now) (o .args .w) (getD (o .args .table .now) ((o .args .w) + 2) 0) (headAt (o .args .table .now) (o .args .reals .now) (o .args .counts .now) (o .args .w)) (offered (o .pre .1 .2)) (o .args .depth) (o .args .number) (o .pre .1 .2 .takes)
+
 bins-accept-mul-bin : (t : ℕ) → bins-accept-lts.Need-mul-bin (
   fits-with-reads.Asked,
   fits-with-reads.Learnt,
@@ -82,7 +101,6 @@ bins-accept-mul-bin : (t : ℕ) → bins-accept-lts.Need-mul-bin (
 ) (bins-accept-at t) bins-accept.Post
 bins-accept-mul-bin t c = omega (arith, c .before .before .before .pre .1 .1)
 
--- src/acceptance.rt:115:15
 bins-accept-element-copy-out-bin : (t : ℕ) → bins-accept-lts.Need-element-copy-out-bin (
   fits-with-reads.Asked,
   fits-with-reads.Learnt,
@@ -91,7 +109,6 @@ bins-accept-element-copy-out-bin : (t : ℕ) → bins-accept-lts.Need-element-co
 ) (bins-accept-at t) bins-accept.Post
 bins-accept-element-copy-out-bin t c = omega (arith, c .before .before .before .pre .1 .1)
 
--- src/acceptance.rt:116:18
 bins-accept-mul-weight : (t : ℕ) → bins-accept-lts.Need-mul-weight (
   fits-with-reads.Asked,
   fits-with-reads.Learnt,
@@ -100,7 +117,6 @@ bins-accept-mul-weight : (t : ℕ) → bins-accept-lts.Need-mul-weight (
 ) (bins-accept-at t) bins-accept.Post
 bins-accept-mul-weight t c = omega (arith, c .before .before .before .before .pre .1 .1)
 
--- src/acceptance.rt:116:18
 bins-accept-element-copy-out-weight : (t : ℕ) → bins-accept-lts.Need-element-copy-out-weight (
   fits-with-reads.Asked,
   fits-with-reads.Learnt,
@@ -109,7 +125,6 @@ bins-accept-element-copy-out-weight : (t : ℕ) → bins-accept-lts.Need-element
 ) (bins-accept-at t) bins-accept.Post
 bins-accept-element-copy-out-weight t c = omega (arith, c .before .before .before .before .pre .1 .1)
 
--- src/acceptance.rt:117:19
 bins-accept-add-n : (t : ℕ) → bins-accept-lts.Need-add-n (
   fits-with-reads.Asked,
   fits-with-reads.Learnt,
@@ -118,7 +133,6 @@ bins-accept-add-n : (t : ℕ) → bins-accept-lts.Need-add-n (
 ) (bins-accept-at t) bins-accept.Post
 bins-accept-add-n t c = omega (arith, (c .before .before .before .before .before .pre .1 .0))
 
--- src/acceptance.rt:117:13
 bins-accept-mul-n : (t : ℕ) → bins-accept-lts.Need-mul-n (
   fits-with-reads.Asked,
   fits-with-reads.Learnt,
@@ -127,7 +141,6 @@ bins-accept-mul-n : (t : ℕ) → bins-accept-lts.Need-mul-n (
 ) (bins-accept-at t) bins-accept.Post
 bins-accept-mul-n t c = omega (arith, (c .before .before .before .before .before .pre .1 .0))
 
--- src/acceptance.rt:117:13
 bins-accept-shared-slice-read-n : (t : ℕ) → bins-accept-lts.Need-shared-slice-read-n (
   fits-with-reads.Asked,
   fits-with-reads.Learnt,
@@ -136,7 +149,6 @@ bins-accept-shared-slice-read-n : (t : ℕ) → bins-accept-lts.Need-shared-slic
 ) (bins-accept-at t) bins-accept.Post
 bins-accept-shared-slice-read-n t c = omega (arith, (c .before .before .before .before .before .before .pre .1 .0))
 
--- src/acceptance.rt:118:19
 bins-accept-add-r : (t : ℕ) → bins-accept-lts.Need-add-r (
   fits-with-reads.Asked,
   fits-with-reads.Learnt,
@@ -145,7 +157,6 @@ bins-accept-add-r : (t : ℕ) → bins-accept-lts.Need-add-r (
 ) (bins-accept-at t) bins-accept.Post
 bins-accept-add-r t c = omega (arith, (c .before .before .before .before .before .before .pre .1 .0))
 
--- src/acceptance.rt:118:13
 bins-accept-mul-r : (t : ℕ) → bins-accept-lts.Need-mul-r (
   fits-with-reads.Asked,
   fits-with-reads.Learnt,
@@ -154,7 +165,6 @@ bins-accept-mul-r : (t : ℕ) → bins-accept-lts.Need-mul-r (
 ) (bins-accept-at t) bins-accept.Post
 bins-accept-mul-r t c = omega (arith, (c .before .before .before .before .before .before .pre .1 .0))
 
--- src/acceptance.rt:118:13
 bins-accept-shared-slice-read-r : (t : ℕ) → bins-accept-lts.Need-shared-slice-read-r (
   fits-with-reads.Asked,
   fits-with-reads.Learnt,
@@ -163,7 +173,6 @@ bins-accept-shared-slice-read-r : (t : ℕ) → bins-accept-lts.Need-shared-slic
 ) (bins-accept-at t) bins-accept.Post
 bins-accept-shared-slice-read-r t c = omega (arith, (c .before .before .before .before .before .before .before .pre .1 .0))
 
--- src/acceptance.rt:119:19
 bins-accept-add-c : (t : ℕ) → bins-accept-lts.Need-add-c (
   fits-with-reads.Asked,
   fits-with-reads.Learnt,
@@ -172,7 +181,6 @@ bins-accept-add-c : (t : ℕ) → bins-accept-lts.Need-add-c (
 ) (bins-accept-at t) bins-accept.Post
 bins-accept-add-c t c = omega (arith, (c .before .before .before .before .before .before .before .pre .1 .0))
 
--- src/acceptance.rt:119:13
 bins-accept-mul-c : (t : ℕ) → bins-accept-lts.Need-mul-c (
   fits-with-reads.Asked,
   fits-with-reads.Learnt,
@@ -181,7 +189,6 @@ bins-accept-mul-c : (t : ℕ) → bins-accept-lts.Need-mul-c (
 ) (bins-accept-at t) bins-accept.Post
 bins-accept-mul-c t c = omega (arith, (c .before .before .before .before .before .before .before .pre .1 .0))
 
--- src/acceptance.rt:119:13
 bins-accept-shared-slice-read-c : (t : ℕ) → bins-accept-lts.Need-shared-slice-read-c (
   fits-with-reads.Asked,
   fits-with-reads.Learnt,
@@ -190,43 +197,38 @@ bins-accept-shared-slice-read-c : (t : ℕ) → bins-accept-lts.Need-shared-slic
 ) (bins-accept-at t) bins-accept.Post
 bins-accept-shared-slice-read-c t c = omega (arith, (c .before .before .before .before .before .before .before .before .pre .1 .0))
 
--- src/acceptance.rt:120:33
 bins-accept-add-value : (t : ℕ) → bins-accept-lts.Need-add-value (
   fits-with-reads.Asked,
   fits-with-reads.Learnt,
   child-accepts-below t,
   child-accepts.Post,
 ) (bins-accept-at t) bins-accept.Post
-bins-accept-add-value t c = omega (arith, (c .before .before .before .before .before .before .before .before .pre .1 .0), (formed (gridAt (c .before .before .before .before .before .before .before .before .args .level) (c .before .before .before .before .before .before .before .before .args .table .now) (c .before .before .before .before .before .before .before .before .args .reals .now) (c .before .before .before .before .before .before .before .before .args .counts .now)) (c .before .before .before .before .before .before .before .before .args .table .now) (c .before .before .before .before .before .before .before .before .args .reals .now) (c .before .before .before .before .before .before .before .before .args .counts .now) (c .before .before .before .before .before .before .before .before .args .w) (getD (c .before .before .before .before .before .before .before .before .args .table .now) ((c .before .before .before .before .before .before .before .before .args .w) + 2) 0) (headAt (c .before .before .before .before .before .before .before .before .args .table .now) (c .before .before .before .before .before .before .before .before .args .reals .now) (c .before .before .before .before .before .before .before .before .args .counts .now) (c .before .before .before .before .before .before .before .before .args .w)) (offered (c .before .before .before .before .before .before .before .before .pre .1 .2)) (c .before .before .before .before .before .before .before .before .args .depth) (c .before .before .before .before .before .before .before .before .args .number) (c .before .before .before .before .before .before .before .before .pre .1 .2 .takes)) .bin)
+bins-accept-add-value t c = omega (arith, (c .before .before .before .before .before .before .before .before .pre .1 .0), below t (c .before .before .before .before .before .before .before .before))
 
--- src/acceptance.rt:120:33
 bins-accept-add-value-2 : (t : ℕ) → bins-accept-lts.Need-add-value-2 (
   fits-with-reads.Asked,
   fits-with-reads.Learnt,
   child-accepts-below t,
   child-accepts.Post,
 ) (bins-accept-at t) bins-accept.Post
-bins-accept-add-value-2 t c = omega (arith, (c .before .before .before .before .before .before .before .before .pre .1 .0), (formed (gridAt (c .before .before .before .before .before .before .before .before .args .level) (c .before .before .before .before .before .before .before .before .args .table .now) (c .before .before .before .before .before .before .before .before .args .reals .now) (c .before .before .before .before .before .before .before .before .args .counts .now)) (c .before .before .before .before .before .before .before .before .args .table .now) (c .before .before .before .before .before .before .before .before .args .reals .now) (c .before .before .before .before .before .before .before .before .args .counts .now) (c .before .before .before .before .before .before .before .before .args .w) (getD (c .before .before .before .before .before .before .before .before .args .table .now) ((c .before .before .before .before .before .before .before .before .args .w) + 2) 0) (headAt (c .before .before .before .before .before .before .before .before .args .table .now) (c .before .before .before .before .before .before .before .before .args .reals .now) (c .before .before .before .before .before .before .before .before .args .counts .now) (c .before .before .before .before .before .before .before .before .args .w)) (offered (c .before .before .before .before .before .before .before .before .pre .1 .2)) (c .before .before .before .before .before .before .before .before .args .depth) (c .before .before .before .before .before .before .before .before .args .number) (c .before .before .before .before .before .before .before .before .pre .1 .2 .takes)) .bin)
+bins-accept-add-value-2 t c = omega (arith, (c .before .before .before .before .before .before .before .before .pre .1 .0), below t (c .before .before .before .before .before .before .before .before))
 
--- src/acceptance.rt:120:27
 bins-accept-mul-value : (t : ℕ) → bins-accept-lts.Need-mul-value (
   fits-with-reads.Asked,
   fits-with-reads.Learnt,
   child-accepts-below t,
   child-accepts.Post,
 ) (bins-accept-at t) bins-accept.Post
-bins-accept-mul-value t c = omega (arith, (c .before .before .before .before .before .before .before .before .pre .1 .0), (formed (gridAt (c .before .before .before .before .before .before .before .before .args .level) (c .before .before .before .before .before .before .before .before .args .table .now) (c .before .before .before .before .before .before .before .before .args .reals .now) (c .before .before .before .before .before .before .before .before .args .counts .now)) (c .before .before .before .before .before .before .before .before .args .table .now) (c .before .before .before .before .before .before .before .before .args .reals .now) (c .before .before .before .before .before .before .before .before .args .counts .now) (c .before .before .before .before .before .before .before .before .args .w) (getD (c .before .before .before .before .before .before .before .before .args .table .now) ((c .before .before .before .before .before .before .before .before .args .w) + 2) 0) (headAt (c .before .before .before .before .before .before .before .before .args .table .now) (c .before .before .before .before .before .before .before .before .args .reals .now) (c .before .before .before .before .before .before .before .before .args .counts .now) (c .before .before .before .before .before .before .before .before .args .w)) (offered (c .before .before .before .before .before .before .before .before .pre .1 .2)) (c .before .before .before .before .before .before .before .before .args .depth) (c .before .before .before .before .before .before .before .before .args .number) (c .before .before .before .before .before .before .before .before .pre .1 .2 .takes)) .bin)
+bins-accept-mul-value t c = omega (arith, (c .before .before .before .before .before .before .before .before .pre .1 .0), below t (c .before .before .before .before .before .before .before .before))
 
--- src/acceptance.rt:120:27
 bins-accept-shared-slice-read-value : (t : ℕ) → bins-accept-lts.Need-shared-slice-read-value (
   fits-with-reads.Asked,
   fits-with-reads.Learnt,
   child-accepts-below t,
   child-accepts.Post,
 ) (bins-accept-at t) bins-accept.Post
-bins-accept-shared-slice-read-value t c = omega (arith, (c .before .before .before .before .before .before .before .before .before .pre .1 .0), (formed (gridAt (c .before .before .before .before .before .before .before .before .before .args .level) (c .before .before .before .before .before .before .before .before .before .args .table .now) (c .before .before .before .before .before .before .before .before .before .args .reals .now) (c .before .before .before .before .before .before .before .before .before .args .counts .now)) (c .before .before .before .before .before .before .before .before .before .args .table .now) (c .before .before .before .before .before .before .before .before .before .args .reals .now) (c .before .before .before .before .before .before .before .before .before .args .counts .now) (c .before .before .before .before .before .before .before .before .before .args .w) (getD (c .before .before .before .before .before .before .before .before .before .args .table .now) ((c .before .before .before .before .before .before .before .before .before .args .w) + 2) 0) (headAt (c .before .before .before .before .before .before .before .before .before .args .table .now) (c .before .before .before .before .before .before .before .before .before .args .reals .now) (c .before .before .before .before .before .before .before .before .before .args .counts .now) (c .before .before .before .before .before .before .before .before .before .args .w)) (offered (c .before .before .before .before .before .before .before .before .before .pre .1 .2)) (c .before .before .before .before .before .before .before .before .before .args .depth) (c .before .before .before .before .before .before .before .before .before .args .number) (c .before .before .before .before .before .before .before .before .before .pre .1 .2 .takes)) .bin)
+bins-accept-shared-slice-read-value t c = omega (arith, (c .before .before .before .before .before .before .before .before .before .pre .1 .0), below t (c .before .before .before .before .before .before .before .before .before))
 
--- src/acceptance.rt:121:9
 bins-accept-fits-with-requires : (t : ℕ) → bins-accept-lts.Need-fits-with-requires (
   fits-with-reads.Asked,
   fits-with-reads.Learnt,
@@ -234,72 +236,64 @@ bins-accept-fits-with-requires : (t : ℕ) → bins-accept-lts.Need-fits-with-re
   child-accepts.Post,
 ) (bins-accept-at t) bins-accept.Post
 unfolding headAt
-bins-accept-fits-with-requires t c κs = (omega (arith, (c .before .before .before .before .before .before .before .before .before .pre .1 .0)), omega (arith, (c .before .before .before .before .before .before .before .before .before .pre .1 .0)), head-sound (gridAt (c .before .before .before .before .before .before .before .before .before .args .level) (c .before .before .before .before .before .before .before .before .before .args .table .now) (c .before .before .before .before .before .before .before .before .before .args .reals .now) (c .before .before .before .before .before .before .before .before .before .args .counts .now)) (c .before .before .before .before .before .before .before .before .before .args .table .now) (c .before .before .before .before .before .before .before .before .before .args .reals .now) (c .before .before .before .before .before .before .before .before .before .args .counts .now) (c .before .before .before .before .before .before .before .before .before .args .w) (getD (c .before .before .before .before .before .before .before .before .before .args .table .now) ((c .before .before .before .before .before .before .before .before .before .args .w) + 2) 0) (headAt (c .before .before .before .before .before .before .before .before .before .args .table .now) (c .before .before .before .before .before .before .before .before .before .args .reals .now) (c .before .before .before .before .before .before .before .before .before .args .counts .now) (c .before .before .before .before .before .before .before .before .before .args .w)) (offered (c .before .before .before .before .before .before .before .before .before .pre .1 .2)) (c .before .before .before .before .before .before .before .before .before .args .depth) (c .before .before .before .before .before .before .before .before .before .args .number) (c .before .before .before .before .before .before .before .before .before .pre .1 .2 .takes), (c .before .before .before .before .before .before .before .before .before .pre .1 .2 .takes) .number)
+bins-accept-fits-with-requires t c κs = (omega (arith, (c .before .before .before .before .before .before .before .before .before .pre .1 .0)), omega (arith, (c .before .before .before .before .before .before .before .before .before .pre .1 .0)), own-well t (c .before .before .before .before .before .before .before .before .before), (c .before .before .before .before .before .before .before .before .before .pre .1 .2 .takes) .number)
 
--- src/acceptance.rt:122:19
 bins-accept-add-inner-r : (t : ℕ) → bins-accept-lts.Need-add-inner-r (
   fits-with-reads.Asked,
   fits-with-reads.Learnt,
   child-accepts-below t,
   child-accepts.Post,
 ) (bins-accept-at t) bins-accept.Post
-bins-accept-add-inner-r t c = omega (arith, (c .before .before .before .before .before .before .before .before .before .before .pre .1 .0), (formed (gridAt (c .before .before .before .before .before .before .before .before .before .before .args .level) (c .before .before .before .before .before .before .before .before .before .before .args .table .now) (c .before .before .before .before .before .before .before .before .before .before .args .reals .now) (c .before .before .before .before .before .before .before .before .before .before .args .counts .now)) (c .before .before .before .before .before .before .before .before .before .before .args .table .now) (c .before .before .before .before .before .before .before .before .before .before .args .reals .now) (c .before .before .before .before .before .before .before .before .before .before .args .counts .now) (c .before .before .before .before .before .before .before .before .before .before .args .w) (getD (c .before .before .before .before .before .before .before .before .before .before .args .table .now) ((c .before .before .before .before .before .before .before .before .before .before .args .w) + 2) 0) (headAt (c .before .before .before .before .before .before .before .before .before .before .args .table .now) (c .before .before .before .before .before .before .before .before .before .before .args .reals .now) (c .before .before .before .before .before .before .before .before .before .before .args .counts .now) (c .before .before .before .before .before .before .before .before .before .before .args .w)) (offered (c .before .before .before .before .before .before .before .before .before .before .pre .1 .2)) (c .before .before .before .before .before .before .before .before .before .before .args .depth) (c .before .before .before .before .before .before .before .before .before .before .args .number) (c .before .before .before .before .before .before .before .before .before .before .pre .1 .2 .takes)) .bin)
+bins-accept-add-inner-r t c = omega (arith, (c .before .before .before .before .before .before .before .before .before .before .pre .1 .0), below t (c .before .before .before .before .before .before .before .before .before .before))
 
--- src/acceptance.rt:122:19
 bins-accept-add-inner-r-2 : (t : ℕ) → bins-accept-lts.Need-add-inner-r-2 (
   fits-with-reads.Asked,
   fits-with-reads.Learnt,
   child-accepts-below t,
   child-accepts.Post,
 ) (bins-accept-at t) bins-accept.Post
-bins-accept-add-inner-r-2 t c = omega (arith, (c .before .before .before .before .before .before .before .before .before .before .pre .1 .0), (formed (gridAt (c .before .before .before .before .before .before .before .before .before .before .args .level) (c .before .before .before .before .before .before .before .before .before .before .args .table .now) (c .before .before .before .before .before .before .before .before .before .before .args .reals .now) (c .before .before .before .before .before .before .before .before .before .before .args .counts .now)) (c .before .before .before .before .before .before .before .before .before .before .args .table .now) (c .before .before .before .before .before .before .before .before .before .before .args .reals .now) (c .before .before .before .before .before .before .before .before .before .before .args .counts .now) (c .before .before .before .before .before .before .before .before .before .before .args .w) (getD (c .before .before .before .before .before .before .before .before .before .before .args .table .now) ((c .before .before .before .before .before .before .before .before .before .before .args .w) + 2) 0) (headAt (c .before .before .before .before .before .before .before .before .before .before .args .table .now) (c .before .before .before .before .before .before .before .before .before .before .args .reals .now) (c .before .before .before .before .before .before .before .before .before .before .args .counts .now) (c .before .before .before .before .before .before .before .before .before .before .args .w)) (offered (c .before .before .before .before .before .before .before .before .before .before .pre .1 .2)) (c .before .before .before .before .before .before .before .before .before .before .args .depth) (c .before .before .before .before .before .before .before .before .before .before .args .number) (c .before .before .before .before .before .before .before .before .before .before .pre .1 .2 .takes)) .bin)
+bins-accept-add-inner-r-2 t c = omega (arith, (c .before .before .before .before .before .before .before .before .before .before .pre .1 .0), below t (c .before .before .before .before .before .before .before .before .before .before))
 
--- src/acceptance.rt:122:32
 bins-accept-mul-inner-r : (t : ℕ) → bins-accept-lts.Need-mul-inner-r (
   fits-with-reads.Asked,
   fits-with-reads.Learnt,
   child-accepts-below t,
   child-accepts.Post,
 ) (bins-accept-at t) bins-accept.Post
-bins-accept-mul-inner-r t c = omega (arith, (c .before .before .before .before .before .before .before .before .before .before .pre .1 .0), (formed (gridAt (c .before .before .before .before .before .before .before .before .before .before .args .level) (c .before .before .before .before .before .before .before .before .before .before .args .table .now) (c .before .before .before .before .before .before .before .before .before .before .args .reals .now) (c .before .before .before .before .before .before .before .before .before .before .args .counts .now)) (c .before .before .before .before .before .before .before .before .before .before .args .table .now) (c .before .before .before .before .before .before .before .before .before .before .args .reals .now) (c .before .before .before .before .before .before .before .before .before .before .args .counts .now) (c .before .before .before .before .before .before .before .before .before .before .args .w) (getD (c .before .before .before .before .before .before .before .before .before .before .args .table .now) ((c .before .before .before .before .before .before .before .before .before .before .args .w) + 2) 0) (headAt (c .before .before .before .before .before .before .before .before .before .before .args .table .now) (c .before .before .before .before .before .before .before .before .before .before .args .reals .now) (c .before .before .before .before .before .before .before .before .before .before .args .counts .now) (c .before .before .before .before .before .before .before .before .before .before .args .w)) (offered (c .before .before .before .before .before .before .before .before .before .before .pre .1 .2)) (c .before .before .before .before .before .before .before .before .before .before .args .depth) (c .before .before .before .before .before .before .before .before .before .before .args .number) (c .before .before .before .before .before .before .before .before .before .before .pre .1 .2 .takes)) .bin)
+bins-accept-mul-inner-r t c = omega (arith, (c .before .before .before .before .before .before .before .before .before .before .pre .1 .0), below t (c .before .before .before .before .before .before .before .before .before .before))
 
--- src/acceptance.rt:122:19
 bins-accept-add-inner-r-3 : (t : ℕ) → bins-accept-lts.Need-add-inner-r-3 (
   fits-with-reads.Asked,
   fits-with-reads.Learnt,
   child-accepts-below t,
   child-accepts.Post,
 ) (bins-accept-at t) bins-accept.Post
-bins-accept-add-inner-r-3 t c = omega (arith, (c .before .before .before .before .before .before .before .before .before .before .pre .1 .0), (formed (gridAt (c .before .before .before .before .before .before .before .before .before .before .args .level) (c .before .before .before .before .before .before .before .before .before .before .args .table .now) (c .before .before .before .before .before .before .before .before .before .before .args .reals .now) (c .before .before .before .before .before .before .before .before .before .before .args .counts .now)) (c .before .before .before .before .before .before .before .before .before .before .args .table .now) (c .before .before .before .before .before .before .before .before .before .before .args .reals .now) (c .before .before .before .before .before .before .before .before .before .before .args .counts .now) (c .before .before .before .before .before .before .before .before .before .before .args .w) (getD (c .before .before .before .before .before .before .before .before .before .before .args .table .now) ((c .before .before .before .before .before .before .before .before .before .before .args .w) + 2) 0) (headAt (c .before .before .before .before .before .before .before .before .before .before .args .table .now) (c .before .before .before .before .before .before .before .before .before .before .args .reals .now) (c .before .before .before .before .before .before .before .before .before .before .args .counts .now) (c .before .before .before .before .before .before .before .before .before .before .args .w)) (offered (c .before .before .before .before .before .before .before .before .before .before .pre .1 .2)) (c .before .before .before .before .before .before .before .before .before .before .args .depth) (c .before .before .before .before .before .before .before .before .before .before .args .number) (c .before .before .before .before .before .before .before .before .before .before .pre .1 .2 .takes)) .bin)
+bins-accept-add-inner-r-3 t c = omega (arith, (c .before .before .before .before .before .before .before .before .before .before .pre .1 .0), below t (c .before .before .before .before .before .before .before .before .before .before))
 
--- src/acceptance.rt:123:19
 bins-accept-add-inner-c : (t : ℕ) → bins-accept-lts.Need-add-inner-c (
   fits-with-reads.Asked,
   fits-with-reads.Learnt,
   child-accepts-below t,
   child-accepts.Post,
 ) (bins-accept-at t) bins-accept.Post
-bins-accept-add-inner-c t c = omega (arith, (c .before .before .before .before .before .before .before .before .before .before .pre .1 .0), (formed (gridAt (c .before .before .before .before .before .before .before .before .before .before .args .level) (c .before .before .before .before .before .before .before .before .before .before .args .table .now) (c .before .before .before .before .before .before .before .before .before .before .args .reals .now) (c .before .before .before .before .before .before .before .before .before .before .args .counts .now)) (c .before .before .before .before .before .before .before .before .before .before .args .table .now) (c .before .before .before .before .before .before .before .before .before .before .args .reals .now) (c .before .before .before .before .before .before .before .before .before .before .args .counts .now) (c .before .before .before .before .before .before .before .before .before .before .args .w) (getD (c .before .before .before .before .before .before .before .before .before .before .args .table .now) ((c .before .before .before .before .before .before .before .before .before .before .args .w) + 2) 0) (headAt (c .before .before .before .before .before .before .before .before .before .before .args .table .now) (c .before .before .before .before .before .before .before .before .before .before .args .reals .now) (c .before .before .before .before .before .before .before .before .before .before .args .counts .now) (c .before .before .before .before .before .before .before .before .before .before .args .w)) (offered (c .before .before .before .before .before .before .before .before .before .before .pre .1 .2)) (c .before .before .before .before .before .before .before .before .before .before .args .depth) (c .before .before .before .before .before .before .before .before .before .before .args .number) (c .before .before .before .before .before .before .before .before .before .before .pre .1 .2 .takes)) .bin)
+bins-accept-add-inner-c t c = omega (arith, (c .before .before .before .before .before .before .before .before .before .before .pre .1 .0), below t (c .before .before .before .before .before .before .before .before .before .before))
 
--- src/acceptance.rt:123:27
 bins-accept-mul-inner-c : (t : ℕ) → bins-accept-lts.Need-mul-inner-c (
   fits-with-reads.Asked,
   fits-with-reads.Learnt,
   child-accepts-below t,
   child-accepts.Post,
 ) (bins-accept-at t) bins-accept.Post
-bins-accept-mul-inner-c t c = omega (arith, (c .before .before .before .before .before .before .before .before .before .before .pre .1 .0), (formed (gridAt (c .before .before .before .before .before .before .before .before .before .before .args .level) (c .before .before .before .before .before .before .before .before .before .before .args .table .now) (c .before .before .before .before .before .before .before .before .before .before .args .reals .now) (c .before .before .before .before .before .before .before .before .before .before .args .counts .now)) (c .before .before .before .before .before .before .before .before .before .before .args .table .now) (c .before .before .before .before .before .before .before .before .before .before .args .reals .now) (c .before .before .before .before .before .before .before .before .before .before .args .counts .now) (c .before .before .before .before .before .before .before .before .before .before .args .w) (getD (c .before .before .before .before .before .before .before .before .before .before .args .table .now) ((c .before .before .before .before .before .before .before .before .before .before .args .w) + 2) 0) (headAt (c .before .before .before .before .before .before .before .before .before .before .args .table .now) (c .before .before .before .before .before .before .before .before .before .before .args .reals .now) (c .before .before .before .before .before .before .before .before .before .before .args .counts .now) (c .before .before .before .before .before .before .before .before .before .before .args .w)) (offered (c .before .before .before .before .before .before .before .before .before .before .pre .1 .2)) (c .before .before .before .before .before .before .before .before .before .before .args .depth) (c .before .before .before .before .before .before .before .before .before .before .args .number) (c .before .before .before .before .before .before .before .before .before .before .pre .1 .2 .takes)) .bin)
+bins-accept-mul-inner-c t c = omega (arith, (c .before .before .before .before .before .before .before .before .before .before .pre .1 .0), below t (c .before .before .before .before .before .before .before .before .before .before))
 
--- src/acceptance.rt:123:19
 bins-accept-add-inner-c-2 : (t : ℕ) → bins-accept-lts.Need-add-inner-c-2 (
   fits-with-reads.Asked,
   fits-with-reads.Learnt,
   child-accepts-below t,
   child-accepts.Post,
 ) (bins-accept-at t) bins-accept.Post
-bins-accept-add-inner-c-2 t c = omega (arith, (c .before .before .before .before .before .before .before .before .before .before .pre .1 .0), (formed (gridAt (c .before .before .before .before .before .before .before .before .before .before .args .level) (c .before .before .before .before .before .before .before .before .before .before .args .table .now) (c .before .before .before .before .before .before .before .before .before .before .args .reals .now) (c .before .before .before .before .before .before .before .before .before .before .args .counts .now)) (c .before .before .before .before .before .before .before .before .before .before .args .table .now) (c .before .before .before .before .before .before .before .before .before .before .args .reals .now) (c .before .before .before .before .before .before .before .before .before .before .args .counts .now) (c .before .before .before .before .before .before .before .before .before .before .args .w) (getD (c .before .before .before .before .before .before .before .before .before .before .args .table .now) ((c .before .before .before .before .before .before .before .before .before .before .args .w) + 2) 0) (headAt (c .before .before .before .before .before .before .before .before .before .before .args .table .now) (c .before .before .before .before .before .before .before .before .before .before .args .reals .now) (c .before .before .before .before .before .before .before .before .before .before .args .counts .now) (c .before .before .before .before .before .before .before .before .before .before .args .w)) (offered (c .before .before .before .before .before .before .before .before .before .before .pre .1 .2)) (c .before .before .before .before .before .before .before .before .before .before .args .depth) (c .before .before .before .before .before .before .before .before .before .before .args .number) (c .before .before .before .before .before .before .before .before .before .before .pre .1 .2 .takes)) .bin)
+bins-accept-add-inner-c-2 t c = omega (arith, (c .before .before .before .before .before .before .before .before .before .before .pre .1 .0), below t (c .before .before .before .before .before .before .before .before .before .before))
 
--- src/acceptance.rt:124:9
 bins-accept-fits-with-requires-2 : (t : ℕ) → bins-accept-lts.Need-fits-with-requires-2 (
   fits-with-reads.Asked,
   fits-with-reads.Learnt,
@@ -307,45 +301,40 @@ bins-accept-fits-with-requires-2 : (t : ℕ) → bins-accept-lts.Need-fits-with-
   child-accepts.Post,
 ) (bins-accept-at t) bins-accept.Post
 unfolding binIn
-bins-accept-fits-with-requires-2 t c κs = (omega (arith, (c .before .before .before .before .before .before .before .before .before .before .pre .1 .0), (formed (gridAt (c .before .before .before .before .before .before .before .before .before .before .args .level) (c .before .before .before .before .before .before .before .before .before .before .args .table .now) (c .before .before .before .before .before .before .before .before .before .before .args .reals .now) (c .before .before .before .before .before .before .before .before .before .before .args .counts .now)) (c .before .before .before .before .before .before .before .before .before .before .args .table .now) (c .before .before .before .before .before .before .before .before .before .before .args .reals .now) (c .before .before .before .before .before .before .before .before .before .before .args .counts .now) (c .before .before .before .before .before .before .before .before .before .before .args .w) (getD (c .before .before .before .before .before .before .before .before .before .before .args .table .now) ((c .before .before .before .before .before .before .before .before .before .before .args .w) + 2) 0) (headAt (c .before .before .before .before .before .before .before .before .before .before .args .table .now) (c .before .before .before .before .before .before .before .before .before .before .args .reals .now) (c .before .before .before .before .before .before .before .before .before .before .args .counts .now) (c .before .before .before .before .before .before .before .before .before .before .args .w)) (offered (c .before .before .before .before .before .before .before .before .before .before .pre .1 .2)) (c .before .before .before .before .before .before .before .before .before .before .args .depth) (c .before .before .before .before .before .before .before .before .before .before .args .number) (c .before .before .before .before .before .before .before .before .before .before .pre .1 .2 .takes)) .bin), omega (arith, (c .before .before .before .before .before .before .before .before .before .before .pre .1 .0), (formed (gridAt (c .before .before .before .before .before .before .before .before .before .before .args .level) (c .before .before .before .before .before .before .before .before .before .before .args .table .now) (c .before .before .before .before .before .before .before .before .before .before .args .reals .now) (c .before .before .before .before .before .before .before .before .before .before .args .counts .now)) (c .before .before .before .before .before .before .before .before .before .before .args .table .now) (c .before .before .before .before .before .before .before .before .before .before .args .reals .now) (c .before .before .before .before .before .before .before .before .before .before .args .counts .now) (c .before .before .before .before .before .before .before .before .before .before .args .w) (getD (c .before .before .before .before .before .before .before .before .before .before .args .table .now) ((c .before .before .before .before .before .before .before .before .before .before .args .w) + 2) 0) (headAt (c .before .before .before .before .before .before .before .before .before .before .args .table .now) (c .before .before .before .before .before .before .before .before .before .before .args .reals .now) (c .before .before .before .before .before .before .before .before .before .before .args .counts .now) (c .before .before .before .before .before .before .before .before .before .before .args .w)) (offered (c .before .before .before .before .before .before .before .before .before .before .pre .1 .2)) (c .before .before .before .before .before .before .before .before .before .before .args .depth) (c .before .before .before .before .before .before .before .before .before .before .args .number) (c .before .before .before .before .before .before .before .before .before .before .pre .1 .2 .takes)) .bin), spot-sound (gridAt (c .before .before .before .before .before .before .before .before .before .before .args .level) (c .before .before .before .before .before .before .before .before .before .before .args .table .now) (c .before .before .before .before .before .before .before .before .before .before .args .reals .now) (c .before .before .before .before .before .before .before .before .before .before .args .counts .now)) (c .before .before .before .before .before .before .before .before .before .before .args .table .now) (c .before .before .before .before .before .before .before .before .before .before .args .reals .now) (c .before .before .before .before .before .before .before .before .before .before .args .counts .now) (c .before .before .before .before .before .before .before .before .before .before .args .w) (getD (c .before .before .before .before .before .before .before .before .before .before .args .table .now) ((c .before .before .before .before .before .before .before .before .before .before .args .w) + 2) 0) (headAt (c .before .before .before .before .before .before .before .before .before .before .args .table .now) (c .before .before .before .before .before .before .before .before .before .before .args .reals .now) (c .before .before .before .before .before .before .before .before .before .before .args .counts .now) (c .before .before .before .before .before .before .before .before .before .before .args .w)) (offered (c .before .before .before .before .before .before .before .before .before .before .pre .1 .2)) (c .before .before .before .before .before .before .before .before .before .before .args .depth) (c .before .before .before .before .before .before .before .before .before .before .args .number) (c .before .before .before .before .before .before .before .before .before .before .pre .1 .2 .takes), (c .before .before .before .before .before .before .before .before .before .before .pre .1 .2 .takes) .number)
+bins-accept-fits-with-requires-2 t c κs = (omega (arith, (c .before .before .before .before .before .before .before .before .before .before .pre .1 .0), below t (c .before .before .before .before .before .before .before .before .before .before)), omega (arith, (c .before .before .before .before .before .before .before .before .before .before .pre .1 .0), below t (c .before .before .before .before .before .before .before .before .before .before)), spot-well t (c .before .before .before .before .before .before .before .before .before .before), (c .before .before .before .before .before .before .before .before .before .before .pre .1 .2 .takes) .number)
 
--- src/acceptance.rt:125:22
 bins-accept-add-link : (t : ℕ) → bins-accept-lts.Need-add-link (
   fits-with-reads.Asked,
   fits-with-reads.Learnt,
   child-accepts-below t,
   child-accepts.Post,
 ) (bins-accept-at t) bins-accept.Post
-bins-accept-add-link t c = omega (arith, (c .before .before .before .before .before .before .before .before .before .before .before .pre .1 .0), (formed (gridAt (c .before .before .before .before .before .before .before .before .before .before .before .args .level) (c .before .before .before .before .before .before .before .before .before .before .before .args .table .now) (c .before .before .before .before .before .before .before .before .before .before .before .args .reals .now) (c .before .before .before .before .before .before .before .before .before .before .before .args .counts .now)) (c .before .before .before .before .before .before .before .before .before .before .before .args .table .now) (c .before .before .before .before .before .before .before .before .before .before .before .args .reals .now) (c .before .before .before .before .before .before .before .before .before .before .before .args .counts .now) (c .before .before .before .before .before .before .before .before .before .before .before .args .w) (getD (c .before .before .before .before .before .before .before .before .before .before .before .args .table .now) ((c .before .before .before .before .before .before .before .before .before .before .before .args .w) + 2) 0) (headAt (c .before .before .before .before .before .before .before .before .before .before .before .args .table .now) (c .before .before .before .before .before .before .before .before .before .before .before .args .reals .now) (c .before .before .before .before .before .before .before .before .before .before .before .args .counts .now) (c .before .before .before .before .before .before .before .before .before .before .before .args .w)) (offered (c .before .before .before .before .before .before .before .before .before .before .before .pre .1 .2)) (c .before .before .before .before .before .before .before .before .before .before .before .args .depth) (c .before .before .before .before .before .before .before .before .before .before .before .args .number) (c .before .before .before .before .before .before .before .before .before .before .before .pre .1 .2 .takes)) .bin)
+bins-accept-add-link t c = omega (arith, (c .before .before .before .before .before .before .before .before .before .before .before .pre .1 .0), below t (c .before .before .before .before .before .before .before .before .before .before .before))
 
--- src/acceptance.rt:125:22
 bins-accept-add-link-2 : (t : ℕ) → bins-accept-lts.Need-add-link-2 (
   fits-with-reads.Asked,
   fits-with-reads.Learnt,
   child-accepts-below t,
   child-accepts.Post,
 ) (bins-accept-at t) bins-accept.Post
-bins-accept-add-link-2 t c = omega (arith, (c .before .before .before .before .before .before .before .before .before .before .before .pre .1 .0), (formed (gridAt (c .before .before .before .before .before .before .before .before .before .before .before .args .level) (c .before .before .before .before .before .before .before .before .before .before .before .args .table .now) (c .before .before .before .before .before .before .before .before .before .before .before .args .reals .now) (c .before .before .before .before .before .before .before .before .before .before .before .args .counts .now)) (c .before .before .before .before .before .before .before .before .before .before .before .args .table .now) (c .before .before .before .before .before .before .before .before .before .before .before .args .reals .now) (c .before .before .before .before .before .before .before .before .before .before .before .args .counts .now) (c .before .before .before .before .before .before .before .before .before .before .before .args .w) (getD (c .before .before .before .before .before .before .before .before .before .before .before .args .table .now) ((c .before .before .before .before .before .before .before .before .before .before .before .args .w) + 2) 0) (headAt (c .before .before .before .before .before .before .before .before .before .before .before .args .table .now) (c .before .before .before .before .before .before .before .before .before .before .before .args .reals .now) (c .before .before .before .before .before .before .before .before .before .before .before .args .counts .now) (c .before .before .before .before .before .before .before .before .before .before .before .args .w)) (offered (c .before .before .before .before .before .before .before .before .before .before .before .pre .1 .2)) (c .before .before .before .before .before .before .before .before .before .before .before .args .depth) (c .before .before .before .before .before .before .before .before .before .before .before .args .number) (c .before .before .before .before .before .before .before .before .before .before .before .pre .1 .2 .takes)) .bin)
+bins-accept-add-link-2 t c = omega (arith, (c .before .before .before .before .before .before .before .before .before .before .before .pre .1 .0), below t (c .before .before .before .before .before .before .before .before .before .before .before))
 
--- src/acceptance.rt:125:16
 bins-accept-mul-link : (t : ℕ) → bins-accept-lts.Need-mul-link (
   fits-with-reads.Asked,
   fits-with-reads.Learnt,
   child-accepts-below t,
   child-accepts.Post,
 ) (bins-accept-at t) bins-accept.Post
-bins-accept-mul-link t c = omega (arith, (c .before .before .before .before .before .before .before .before .before .before .before .pre .1 .0), (formed (gridAt (c .before .before .before .before .before .before .before .before .before .before .before .args .level) (c .before .before .before .before .before .before .before .before .before .before .before .args .table .now) (c .before .before .before .before .before .before .before .before .before .before .before .args .reals .now) (c .before .before .before .before .before .before .before .before .before .before .before .args .counts .now)) (c .before .before .before .before .before .before .before .before .before .before .before .args .table .now) (c .before .before .before .before .before .before .before .before .before .before .before .args .reals .now) (c .before .before .before .before .before .before .before .before .before .before .before .args .counts .now) (c .before .before .before .before .before .before .before .before .before .before .before .args .w) (getD (c .before .before .before .before .before .before .before .before .before .before .before .args .table .now) ((c .before .before .before .before .before .before .before .before .before .before .before .args .w) + 2) 0) (headAt (c .before .before .before .before .before .before .before .before .before .before .before .args .table .now) (c .before .before .before .before .before .before .before .before .before .before .before .args .reals .now) (c .before .before .before .before .before .before .before .before .before .before .before .args .counts .now) (c .before .before .before .before .before .before .before .before .before .before .before .args .w)) (offered (c .before .before .before .before .before .before .before .before .before .before .before .pre .1 .2)) (c .before .before .before .before .before .before .before .before .before .before .before .args .depth) (c .before .before .before .before .before .before .before .before .before .before .before .args .number) (c .before .before .before .before .before .before .before .before .before .before .before .pre .1 .2 .takes)) .bin)
+bins-accept-mul-link t c = omega (arith, (c .before .before .before .before .before .before .before .before .before .before .before .pre .1 .0), below t (c .before .before .before .before .before .before .before .before .before .before .before))
 
--- src/acceptance.rt:125:16
 bins-accept-shared-slice-read-link : (t : ℕ) → bins-accept-lts.Need-shared-slice-read-link (
   fits-with-reads.Asked,
   fits-with-reads.Learnt,
   child-accepts-below t,
   child-accepts.Post,
 ) (bins-accept-at t) bins-accept.Post
-bins-accept-shared-slice-read-link t c = omega (arith, (c .before .before .before .before .before .before .before .before .before .before .before .before .pre .1 .0), (formed (gridAt (c .before .before .before .before .before .before .before .before .before .before .before .before .args .level) (c .before .before .before .before .before .before .before .before .before .before .before .before .args .table .now) (c .before .before .before .before .before .before .before .before .before .before .before .before .args .reals .now) (c .before .before .before .before .before .before .before .before .before .before .before .before .args .counts .now)) (c .before .before .before .before .before .before .before .before .before .before .before .before .args .table .now) (c .before .before .before .before .before .before .before .before .before .before .before .before .args .reals .now) (c .before .before .before .before .before .before .before .before .before .before .before .before .args .counts .now) (c .before .before .before .before .before .before .before .before .before .before .before .before .args .w) (getD (c .before .before .before .before .before .before .before .before .before .before .before .before .args .table .now) ((c .before .before .before .before .before .before .before .before .before .before .before .before .args .w) + 2) 0) (headAt (c .before .before .before .before .before .before .before .before .before .before .before .before .args .table .now) (c .before .before .before .before .before .before .before .before .before .before .before .before .args .reals .now) (c .before .before .before .before .before .before .before .before .before .before .before .before .args .counts .now) (c .before .before .before .before .before .before .before .before .before .before .before .before .args .w)) (offered (c .before .before .before .before .before .before .before .before .before .before .before .before .pre .1 .2)) (c .before .before .before .before .before .before .before .before .before .before .before .before .args .depth) (c .before .before .before .before .before .before .before .before .before .before .before .before .args .number) (c .before .before .before .before .before .before .before .before .before .before .before .before .pre .1 .2 .takes)) .bin)
+bins-accept-shared-slice-read-link t c = omega (arith, (c .before .before .before .before .before .before .before .before .before .before .before .before .pre .1 .0), below t (c .before .before .before .before .before .before .before .before .before .before .before .before))
 
--- src/acceptance.rt:135:9
 bins-accept-add-child-accepts : (t : ℕ) → bins-accept-lts.Need-add-child-accepts (
   fits-with-reads.Asked,
   fits-with-reads.Learnt,
@@ -354,7 +343,6 @@ bins-accept-add-child-accepts : (t : ℕ) → bins-accept-lts.Need-add-child-acc
 ) (bins-accept-at t) bins-accept.Post
 bins-accept-add-child-accepts t c = omega (arith, c .before .before .before .before .before .before .before .before .before .before .before .before .pre .1 .1)
 
--- src/acceptance.rt:126:9
 bins-accept-child-accepts-requires : (t : ℕ) → bins-accept-lts.Need-child-accepts-requires (
   fits-with-reads.Asked,
   fits-with-reads.Learnt,
@@ -362,9 +350,8 @@ bins-accept-child-accepts-requires : (t : ℕ) → bins-accept-lts.Need-child-ac
   child-accepts.Post,
 ) (bins-accept-at t) bins-accept.Post
 unfolding ChildLaid
-bins-accept-child-accepts-requires t c κs = (omega (arith, c .before .before .before .before .before .before .before .before .before .before .before .before .before .pre .0), (λ z. (c .before .before .before .before .before .before .before .before .before .before .before .before .before .pre .1 .0) .children (getD (c .before .before .before .before .before .before .before .before .before .before .before .before .before .args .path .now) (c .before .before .before .before .before .before .before .before .before .before .before .before .before .args .depth) 0) ((formed (gridAt (c .before .before .before .before .before .before .before .before .before .before .before .before .before .args .level) (c .before .before .before .before .before .before .before .before .before .before .before .before .before .args .table .now) (c .before .before .before .before .before .before .before .before .before .before .before .before .before .args .reals .now) (c .before .before .before .before .before .before .before .before .before .before .before .before .before .args .counts .now)) (c .before .before .before .before .before .before .before .before .before .before .before .before .before .args .table .now) (c .before .before .before .before .before .before .before .before .before .before .before .before .before .args .reals .now) (c .before .before .before .before .before .before .before .before .before .before .before .before .before .args .counts .now) (c .before .before .before .before .before .before .before .before .before .before .before .before .before .args .w) (getD (c .before .before .before .before .before .before .before .before .before .before .before .before .before .args .table .now) ((c .before .before .before .before .before .before .before .before .before .before .before .before .before .args .w) + 2) 0) (headAt (c .before .before .before .before .before .before .before .before .before .before .before .before .before .args .table .now) (c .before .before .before .before .before .before .before .before .before .before .before .before .before .args .reals .now) (c .before .before .before .before .before .before .before .before .before .before .before .before .before .args .counts .now) (c .before .before .before .before .before .before .before .before .before .before .before .before .before .args .w)) (offered (c .before .before .before .before .before .before .before .before .before .before .before .before .before .pre .1 .2)) (c .before .before .before .before .before .before .before .before .before .before .before .before .before .args .depth) (c .before .before .before .before .before .before .before .before .before .before .before .before .before .args .number) (c .before .before .before .before .before .before .before .before .before .before .before .before .before .pre .1 .2 .takes)) .bin) z, omega (arith, c .before .before .before .before .before .before .before .before .before .before .before .before .before .pre .1 .1), offered-below (gridAt (c .before .before .before .before .before .before .before .before .before .before .before .before .before .args .level) (c .before .before .before .before .before .before .before .before .before .before .before .before .before .args .table .now) (c .before .before .before .before .before .before .before .before .before .before .before .before .before .args .reals .now) (c .before .before .before .before .before .before .before .before .before .before .before .before .before .args .counts .now)) (c .before .before .before .before .before .before .before .before .before .before .before .before .before .args .table .now) (c .before .before .before .before .before .before .before .before .before .before .before .before .before .args .reals .now) (c .before .before .before .before .before .before .before .before .before .before .before .before .before .args .counts .now) (c .before .before .before .before .before .before .before .before .before .before .before .before .before .args .w) (getD (c .before .before .before .before .before .before .before .before .before .before .before .before .before .args .table .now) (c .before .before .before .before .before .before .before .before .before .before .before .before .before .args .w + 2) 0) (headAt (c .before .before .before .before .before .before .before .before .before .before .before .before .before .args .table .now) (c .before .before .before .before .before .before .before .before .before .before .before .before .before .args .reals .now) (c .before .before .before .before .before .before .before .before .before .before .before .before .before .args .counts .now) (c .before .before .before .before .before .before .before .before .before .before .before .before .before .args .w)) (c .before .before .before .before .before .before .before .before .before .before .before .before .before .pre .1 .2), c .before .before .before .before .before .before .before .before .before .before .before .before .before .pre .1 .3))
+bins-accept-child-accepts-requires t c κs = (omega (arith, c .before .before .before .before .before .before .before .before .before .before .before .before .before .pre .0), (λ z. (c .before .before .before .before .before .before .before .before .before .before .before .before .before .pre .1 .0) .children (getD (c .before .before .before .before .before .before .before .before .before .before .before .before .before .args .path .now) (c .before .before .before .before .before .before .before .before .before .before .before .before .before .args .depth) 0) (below t (c .before .before .before .before .before .before .before .before .before .before .before .before .before)) z, omega (arith, c .before .before .before .before .before .before .before .before .before .before .before .before .before .pre .1 .1), offered-below (gridAt (c .before .before .before .before .before .before .before .before .before .before .before .before .before .args .level) (c .before .before .before .before .before .before .before .before .before .before .before .before .before .args .table .now) (c .before .before .before .before .before .before .before .before .before .before .before .before .before .args .reals .now) (c .before .before .before .before .before .before .before .before .before .before .before .before .before .args .counts .now)) (c .before .before .before .before .before .before .before .before .before .before .before .before .before .args .table .now) (c .before .before .before .before .before .before .before .before .before .before .before .before .before .args .reals .now) (c .before .before .before .before .before .before .before .before .before .before .before .before .before .args .counts .now) (c .before .before .before .before .before .before .before .before .before .before .before .before .before .args .w) (getD (c .before .before .before .before .before .before .before .before .before .before .before .before .before .args .table .now) (c .before .before .before .before .before .before .before .before .before .before .before .before .before .args .w + 2) 0) (headAt (c .before .before .before .before .before .before .before .before .before .before .before .before .before .args .table .now) (c .before .before .before .before .before .before .before .before .before .before .before .before .before .args .reals .now) (c .before .before .before .before .before .before .before .before .before .before .before .before .before .args .counts .now) (c .before .before .before .before .before .before .before .before .before .before .before .before .before .args .w)) (c .before .before .before .before .before .before .before .before .before .before .before .before .before .pre .1 .2), c .before .before .before .before .before .before .before .before .before .before .before .before .before .pre .1 .3))
 
--- src/acceptance.rt:92:1
 bins-accept-returns : (t : ℕ) → bins-accept-lts.Need-returns (
   fits-with-reads.Asked,
   fits-with-reads.Learnt,
@@ -374,14 +361,12 @@ bins-accept-returns : (t : ℕ) → bins-accept-lts.Need-returns (
 unfolding binIn headAt
 bins-accept-returns t c s = (ap₂ _&&_ (c .before .before .before .before .fits-with .ensures) (ap₂ _&&_ (c .before .before .before .fits-with2 .ensures) (c .child-accepts .ensures (offered-below (gridAt (c .before .before .before .before .before .before .before .before .before .before .before .before .before .before .args .level) (c .before .before .before .before .before .before .before .before .before .before .before .before .before .before .args .table .now) (c .before .before .before .before .before .before .before .before .before .before .before .before .before .before .args .reals .now) (c .before .before .before .before .before .before .before .before .before .before .before .before .before .before .args .counts .now)) (c .before .before .before .before .before .before .before .before .before .before .before .before .before .before .args .table .now) (c .before .before .before .before .before .before .before .before .before .before .before .before .before .before .args .reals .now) (c .before .before .before .before .before .before .before .before .before .before .before .before .before .before .args .counts .now) (c .before .before .before .before .before .before .before .before .before .before .before .before .before .before .args .w) (getD (c .before .before .before .before .before .before .before .before .before .before .before .before .before .before .args .table .now) (c .before .before .before .before .before .before .before .before .before .before .before .before .before .before .args .w + 2) 0) (headAt (c .before .before .before .before .before .before .before .before .before .before .before .before .before .before .args .table .now) (c .before .before .before .before .before .before .before .before .before .before .before .before .before .before .args .reals .now) (c .before .before .before .before .before .before .before .before .before .before .before .before .before .before .args .counts .now) (c .before .before .before .before .before .before .before .before .before .before .before .before .before .before .args .w)) s) .0)) ∙ bins-told (gridAt (c .before .before .before .before .before .before .before .before .before .before .before .before .before .before .args .level) (c .before .before .before .before .before .before .before .before .before .before .before .before .before .before .args .table .now) (c .before .before .before .before .before .before .before .before .before .before .before .before .before .before .args .reals .now) (c .before .before .before .before .before .before .before .before .before .before .before .before .before .before .args .counts .now)) (c .before .before .before .before .before .before .before .before .before .before .before .before .before .before .args .table .now) (c .before .before .before .before .before .before .before .before .before .before .before .before .before .before .args .reals .now) (c .before .before .before .before .before .before .before .before .before .before .before .before .before .before .args .counts .now) (c .before .before .before .before .before .before .before .before .before .before .before .before .before .before .args .w) (getD (c .before .before .before .before .before .before .before .before .before .before .before .before .before .before .args .table .now) ((c .before .before .before .before .before .before .before .before .before .before .before .before .before .before .args .w) + 2) 0) (headAt (c .before .before .before .before .before .before .before .before .before .before .before .before .before .before .args .table .now) (c .before .before .before .before .before .before .before .before .before .before .before .before .before .before .args .reals .now) (c .before .before .before .before .before .before .before .before .before .before .before .before .before .before .args .counts .now) (c .before .before .before .before .before .before .before .before .before .before .before .before .before .before .args .w)) (offered s) (c .before .before .before .before .before .before .before .before .before .before .before .before .before .before .args .depth) (c .before .before .before .before .before .before .before .before .before .before .before .before .before .before .args .number) (s .takes) (c .before .before .before .before .before .before .before .before .before .before .before .before .before .before .args .evaluation), bins-found (gridAt (c .before .before .before .before .before .before .before .before .before .before .before .before .before .before .args .level) (c .before .before .before .before .before .before .before .before .before .before .before .before .before .before .args .table .now) (c .before .before .before .before .before .before .before .before .before .before .before .before .before .before .args .reals .now) (c .before .before .before .before .before .before .before .before .before .before .before .before .before .before .args .counts .now)) (c .before .before .before .before .before .before .before .before .before .before .before .before .before .before .args .table .now) (c .before .before .before .before .before .before .before .before .before .before .before .before .before .before .args .reals .now) (c .before .before .before .before .before .before .before .before .before .before .before .before .before .before .args .counts .now) (c .before .before .before .before .before .before .before .before .before .before .before .before .before .before .args .w) (getD (c .before .before .before .before .before .before .before .before .before .before .before .before .before .before .args .table .now) ((c .before .before .before .before .before .before .before .before .before .before .before .before .before .before .args .w) + 2) 0) (headAt (c .before .before .before .before .before .before .before .before .before .before .before .before .before .before .args .table .now) (c .before .before .before .before .before .before .before .before .before .before .before .before .before .before .args .reals .now) (c .before .before .before .before .before .before .before .before .before .before .before .before .before .before .args .counts .now) (c .before .before .before .before .before .before .before .before .before .before .before .before .before .before .args .w)) (offered s) (c .before .before .before .before .before .before .before .before .before .before .before .before .before .before .args .depth) (c .before .before .before .before .before .before .before .before .before .before .before .before .before .before .args .number) (s .takes) (c .child-accepts .last .1 .1 .1 .1 .1 .1 .1 .1 .1 .1 .1 .0) (c .child-accepts .ensures (offered-below (gridAt (c .before .before .before .before .before .before .before .before .before .before .before .before .before .before .args .level) (c .before .before .before .before .before .before .before .before .before .before .before .before .before .before .args .table .now) (c .before .before .before .before .before .before .before .before .before .before .before .before .before .before .args .reals .now) (c .before .before .before .before .before .before .before .before .before .before .before .before .before .before .args .counts .now)) (c .before .before .before .before .before .before .before .before .before .before .before .before .before .before .args .table .now) (c .before .before .before .before .before .before .before .before .before .before .before .before .before .before .args .reals .now) (c .before .before .before .before .before .before .before .before .before .before .before .before .before .before .args .counts .now) (c .before .before .before .before .before .before .before .before .before .before .before .before .before .before .args .w) (getD (c .before .before .before .before .before .before .before .before .before .before .before .before .before .before .args .table .now) (c .before .before .before .before .before .before .before .before .before .before .before .before .before .before .args .w + 2) 0) (headAt (c .before .before .before .before .before .before .before .before .before .before .before .before .before .before .args .table .now) (c .before .before .before .before .before .before .before .before .before .before .before .before .before .before .args .reals .now) (c .before .before .before .before .before .before .before .before .before .before .before .before .before .before .args .counts .now) (c .before .before .before .before .before .before .before .before .before .before .before .before .before .before .args .w)) s) .1))
 
--- src/acceptance.rt:70:9
 child-accepts-returns : (t : ℕ) → child-accepts-lts.Need-returns (
   grid-accepts-below t,
   grid-accepts.Post,
 ) (child-accepts-at t) child-accepts.Post
 child-accepts-returns t c s = (none-told (gridAt (c .before .before .before .before .args .level) (c .before .before .before .before .args .table .now) (c .before .before .before .before .args .reals .now) (c .before .before .before .before .args .counts .now)) (c .before .before .before .before .args .link) (pathLeft (offeredChild s) (c .before .before .before .before .args .depth)) (weightsLeft (offeredChild s) (c .before .before .before .before .args .depth)) (placesIn (offeredChild s)) (c .before .before .before .before .args .evaluation) (c .before .before .before .before .args .number) (c .if1 .taken), none-found (gridAt (c .before .before .before .before .args .level) (c .before .before .before .before .args .table .now) (c .before .before .before .before .args .reals .now) (c .before .before .before .before .args .counts .now)) (c .before .before .before .before .args .link) (offeredChild s) (c .before .before .before .before .args .depth) (c .before .before .before .before .args .spots .now) (c .if1 .taken))
 
--- src/acceptance.rt:72:5
 child-accepts-grid-accepts-requires : (t : ℕ) → child-accepts-lts.Need-grid-accepts-requires (
   grid-accepts-below t,
   grid-accepts.Post,
@@ -389,14 +374,12 @@ child-accepts-grid-accepts-requires : (t : ℕ) → child-accepts-lts.Need-grid-
 unfolding ChildLaid
 child-accepts-grid-accepts-requires t c κs = (omega (arith, c .before .before .before .before .before .pre .0), (c .before .before .before .before .before .pre .1 .0 (c .before .if1 .left), c .before .before .before .before .before .pre .1 .1, offered-grid (gridAt (c .before .before .before .before .before .args .level) (c .before .before .before .before .before .args .table .now) (c .before .before .before .before .before .args .reals .now) (c .before .before .before .before .before .args .counts .now)) (c .before .before .before .before .before .args .link) (c .before .if1 .left) (c .before .before .before .before .before .pre .1 .2), c .before .before .before .before .before .pre .1 .3))
 
--- src/acceptance.rt:49:1
 child-accepts-returns-2 : (t : ℕ) → child-accepts-lts.Need-returns-2 (
   grid-accepts-below t,
   grid-accepts.Post,
 ) (child-accepts-at t) child-accepts.Post
 child-accepts-returns-2 t c s = (c .grid-accepts .ensures (offered-grid (gridAt (c .before .before .before .before .before .before .args .level) (c .before .before .before .before .before .before .args .table .now) (c .before .before .before .before .before .before .args .reals .now) (c .before .before .before .before .before .before .args .counts .now)) (c .before .before .before .before .before .before .args .link) (c .before .before .if1 .left) s) .0 ∙ grid-told (gridAt (c .before .before .before .before .before .before .args .level) (c .before .before .before .before .before .before .args .table .now) (c .before .before .before .before .before .before .args .reals .now) (c .before .before .before .before .before .before .args .counts .now)) (c .before .before .before .before .before .before .args .link) (pathLeft (offeredChild s) (c .before .before .before .before .before .before .args .depth)) (weightsLeft (offeredChild s) (c .before .before .before .before .before .before .args .depth)) (placesIn (offeredChild s)) (c .before .before .before .before .before .before .args .evaluation) (c .before .before .before .before .before .before .args .number) (c .before .before .if1 .left), grid-found (gridAt (c .before .before .before .before .before .before .args .level) (c .before .before .before .before .before .before .args .table .now) (c .before .before .before .before .before .before .args .reals .now) (c .before .before .before .before .before .before .args .counts .now)) (c .before .before .before .before .before .before .args .link) (offeredChild s) (c .before .before .before .before .before .before .args .depth) (c .grid-accepts .last .1 .1 .1 .1 .1 .1 .1 .1 .1 .1 .1 .0) (c .before .before .if1 .left) (c .grid-accepts .ensures (offered-grid (gridAt (c .before .before .before .before .before .before .args .level) (c .before .before .before .before .before .before .args .table .now) (c .before .before .before .before .before .before .args .reals .now) (c .before .before .before .before .before .before .args .counts .now)) (c .before .before .before .before .before .before .args .link) (c .before .before .if1 .left) s) .1))
 
--- src/acceptance.rt:167:8
 grid-accepts-mul-if1 : (t : ℕ) → grid-accepts-lts.Need-mul-if1 (
   axes-accept-reads.Asked,
   axes-accept-reads.Learnt,
@@ -405,7 +388,6 @@ grid-accepts-mul-if1 : (t : ℕ) → grid-accepts-lts.Need-mul-if1 (
 ) (grid-accepts-at t) grid-accepts.Post
 grid-accepts-mul-if1 t c = let q = (laid-head (c .before .before .before .args .level) (c .before .before .before .args .table .now) (length (c .before .before .before .args .reals .now)) (length (c .before .before .before .args .counts .now)) (c .before .before .before .args .w) (c .before .before .before .pre .1 .0)) in omega arith
 
--- src/acceptance.rt:167:8
 grid-accepts-shared-slice-read-if1 : (t : ℕ) → grid-accepts-lts.Need-shared-slice-read-if1 (
   axes-accept-reads.Asked,
   axes-accept-reads.Learnt,
@@ -414,7 +396,6 @@ grid-accepts-shared-slice-read-if1 : (t : ℕ) → grid-accepts-lts.Need-shared-
 ) (grid-accepts-at t) grid-accepts.Post
 grid-accepts-shared-slice-read-if1 t c = let q = (laid-head (c .before .before .before .before .args .level) (c .before .before .before .before .args .table .now) (length (c .before .before .before .before .args .reals .now)) (length (c .before .before .before .before .args .counts .now)) (c .before .before .before .before .args .w) (c .before .before .before .before .pre .1 .0)) in omega arith
 
--- src/acceptance.rt:168:9
 grid-accepts-axes-accept-requires : (t : ℕ) → grid-accepts-lts.Need-axes-accept-requires (
   axes-accept-reads.Asked,
   axes-accept-reads.Learnt,
@@ -423,7 +404,6 @@ grid-accepts-axes-accept-requires : (t : ℕ) → grid-accepts-lts.Need-axes-acc
 ) (grid-accepts-at t) grid-accepts.Post
 grid-accepts-axes-accept-requires t c κs = ((laid-axes (c .before .before .before .before .before .before .args .level) (c .before .before .before .before .before .before .args .table .now) (length (c .before .before .before .before .before .before .args .reals .now)) (length (c .before .before .before .before .before .before .args .counts .now)) (c .before .before .before .before .before .before .args .w) (c .before .before .before .before .before .before .pre .1 .0) (c .before .if1 .taken)), omega (arith, c .before .before .before .before .before .before .pre .1 .1), offered-as (node-axes (c .before .before .before .before .before .before .args .level) (c .before .before .before .before .before .before .args .table .now) (c .before .before .before .before .before .before .args .reals .now) (c .before .before .before .before .before .before .args .counts .now) (c .before .before .before .before .before .before .args .w) (c .before .if1 .taken)) (c .before .before .before .before .before .before .pre .1 .2), c .before .before .before .before .before .before .pre .1 .3)
 
--- src/acceptance.rt:168:9
 grid-accepts-returns : (t : ℕ) → grid-accepts-lts.Need-returns (
   axes-accept-reads.Asked,
   axes-accept-reads.Learnt,
@@ -432,7 +412,6 @@ grid-accepts-returns : (t : ℕ) → grid-accepts-lts.Need-returns (
 ) (grid-accepts-at t) grid-accepts.Post
 grid-accepts-returns t c s = (c .axes-accept .ensures (offered-as (node-axes (c .before .before .before .before .before .before .before .args .level) (c .before .before .before .before .before .before .before .args .table .now) (c .before .before .before .before .before .before .before .args .reals .now) (c .before .before .before .before .before .before .before .args .counts .now) (c .before .before .before .before .before .before .before .args .w) (c .before .before .if1 .taken)) s) .0 ∙ ap (λ (g : Grid). keptGrid (trainGrid g (pathLeft (offered s) (c .before .before .before .before .before .before .before .args .depth)) (weightsLeft (offered s) (c .before .before .before .before .before .before .before .args .depth)) (placesIn (offered s)) (c .before .before .before .before .before .before .before .args .evaluation) (c .before .before .before .before .before .before .before .args .number))) (sym (node-axes (c .before .before .before .before .before .before .before .args .level) (c .before .before .before .before .before .before .before .args .table .now) (c .before .before .before .before .before .before .before .args .reals .now) (c .before .before .before .before .before .before .before .args .counts .now) (c .before .before .before .before .before .before .before .args .w) (c .before .before .if1 .taken))), subst (λ (g : Grid). Found (c .axes-accept .last .1 .1 .1 .1 .1 .1 .1 .1 .1 .1 .0) g (offered s) (c .before .before .before .before .before .before .before .args .depth)) (sym (node-axes (c .before .before .before .before .before .before .before .args .level) (c .before .before .before .before .before .before .before .args .table .now) (c .before .before .before .before .before .before .before .args .reals .now) (c .before .before .before .before .before .before .before .args .counts .now) (c .before .before .before .before .before .before .before .args .w) (c .before .before .if1 .taken))) (c .axes-accept .ensures (offered-as (node-axes (c .before .before .before .before .before .before .before .args .level) (c .before .before .before .before .before .before .before .args .table .now) (c .before .before .before .before .before .before .before .args .reals .now) (c .before .before .before .before .before .before .before .args .counts .now) (c .before .before .before .before .before .before .before .args .w) (c .before .before .if1 .taken)) s) .1))
 
--- src/acceptance.rt:174:9
 grid-accepts-sub-bins-accept : (t : ℕ) → grid-accepts-lts.Need-sub-bins-accept (
   axes-accept-reads.Asked,
   axes-accept-reads.Learnt,
@@ -441,7 +420,6 @@ grid-accepts-sub-bins-accept : (t : ℕ) → grid-accepts-lts.Need-sub-bins-acce
 ) (grid-accepts-at t) grid-accepts.Post
 grid-accepts-sub-bins-accept t c = omega (arith, (laid-bins (c .before .before .before .before .before .args .level) (c .before .before .before .before .before .args .table .now) (length (c .before .before .before .before .before .args .reals .now)) (length (c .before .before .before .before .before .args .counts .now)) (c .before .before .before .before .before .args .w) (c .before .before .before .before .before .pre .1 .0) (c .if1 .left)) .level)
 
--- src/acceptance.rt:170:5
 grid-accepts-bins-accept-requires : (t : ℕ) → grid-accepts-lts.Need-bins-accept-requires (
   axes-accept-reads.Asked,
   axes-accept-reads.Learnt,
@@ -450,7 +428,6 @@ grid-accepts-bins-accept-requires : (t : ℕ) → grid-accepts-lts.Need-bins-acc
 ) (grid-accepts-at t) grid-accepts.Post
 grid-accepts-bins-accept-requires t c κs = (omega (arith, c .before .before .before .before .before .before .pre .0, (laid-bins (c .before .before .before .before .before .before .args .level) (c .before .before .before .before .before .before .args .table .now) (length (c .before .before .before .before .before .before .args .reals .now)) (length (c .before .before .before .before .before .before .args .counts .now)) (c .before .before .before .before .before .before .args .w) (c .before .before .before .before .before .before .pre .1 .0) (c .before .if1 .left)) .level), ((laid-bins (c .before .before .before .before .before .before .args .level) (c .before .before .before .before .before .before .args .table .now) (length (c .before .before .before .before .before .before .args .reals .now)) (length (c .before .before .before .before .before .before .args .counts .now)) (c .before .before .before .before .before .before .args .w) (c .before .before .before .before .before .before .pre .1 .0) (c .before .if1 .left)) .bins, omega (arith, c .before .before .before .before .before .before .pre .1 .1, (laid-bins (c .before .before .before .before .before .before .args .level) (c .before .before .before .before .before .before .args .table .now) (length (c .before .before .before .before .before .before .args .reals .now)) (length (c .before .before .before .before .before .before .args .counts .now)) (c .before .before .before .before .before .before .args .w) (c .before .before .before .before .before .before .pre .1 .0) (c .before .if1 .left)) .level), offered-as (node-bins (c .before .before .before .before .before .before .args .level) (c .before .before .before .before .before .before .args .table .now) (c .before .before .before .before .before .before .args .reals .now) (c .before .before .before .before .before .before .args .counts .now) (c .before .before .before .before .before .before .args .w) (c .before .if1 .left) ((laid-bins (c .before .before .before .before .before .before .args .level) (c .before .before .before .before .before .before .args .table .now) (length (c .before .before .before .before .before .before .args .reals .now)) (length (c .before .before .before .before .before .before .args .counts .now)) (c .before .before .before .before .before .before .args .w) (c .before .before .before .before .before .before .pre .1 .0) (c .before .if1 .left)) .level)) (c .before .before .before .before .before .before .pre .1 .2), c .before .before .before .before .before .before .pre .1 .3))
 
--- src/acceptance.rt:147:1
 grid-accepts-returns-2 : (t : ℕ) → grid-accepts-lts.Need-returns-2 (
   axes-accept-reads.Asked,
   axes-accept-reads.Learnt,

@@ -19,11 +19,11 @@ use Rattle.samples.proofs.training.axes_fit.Reads as axes-fit-reads
 
 -- src/acceptance.rt:38:18
 mul-weight : tie.Need-mul-weight
-mul-weight c = search needs
+mul-weight c = omega arith
 
 -- src/acceptance.rt:38:18
 element-copy-out-weight : tie.Need-element-copy-out-weight
-element-copy-out-weight c = search needs
+element-copy-out-weight c = omega arith
 
 -- src/acceptance.rt:39:9
 axes-place-requires : tie.Need-axes-place-requires
@@ -38,27 +38,27 @@ axes-fit-requires c κs =
 
 -- src/acceptance.rt:42:19
 add-r : tie.Need-add-r
-add-r c = search needs
+add-r c = omega arith
 
 -- src/acceptance.rt:42:13
 mul-r : tie.Need-mul-r
-mul-r c = search needs
+mul-r c = omega arith
 
 -- src/acceptance.rt:42:13
 shared-slice-read-r : tie.Need-shared-slice-read-r
-shared-slice-read-r c = search needs
+shared-slice-read-r c = omega arith
 
 -- src/acceptance.rt:43:19
 add-c : tie.Need-add-c
-add-c c = search needs
+add-c c = omega arith
 
 -- src/acceptance.rt:43:13
 mul-c : tie.Need-mul-c
-mul-c c = search needs
+mul-c c = omega arith
 
 -- src/acceptance.rt:43:13
 shared-slice-read-c : tie.Need-shared-slice-read-c
-shared-slice-read-c c = search needs
+shared-slice-read-c c = omega arith
 
 -- src/acceptance.rt:44:9
 fits-with-requires : tie.Need-fits-with-requires

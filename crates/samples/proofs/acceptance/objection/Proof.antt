@@ -10,7 +10,6 @@ use Rattle.lent.specs.Sampled.{entries, sampleIn}
 use Rattle.lent.specs.Absorbed.{Takes}
 use Rattle.lent.proofs.Objections.{five-weights, number-low, number-high, number-good, object-number, object-form, object-finite, object-kept, object-none}
 use Rattle.lent.proofs.Accepts.{offered-of}
-use borrow.Author.Needs.{needs}
 use Rattle.samples.proofs.acceptance.objection.Statement.{statement}
 use Rattle.samples.proofs.acceptance.objection.Tie as tie
 use Rattle.samples.proofs.acceptance.objection.Reads as reads
@@ -33,7 +32,7 @@ returns-3 c = (object-form (rootOf (c .before .before .before .before .before .b
 
 -- src/acceptance.rt:217:9
 finite-requires : tie.Need-finite-requires
-finite-requires c κs = search needs
+finite-requires c κs = tt
 
 -- src/acceptance.rt:218:9
 returns-4 : tie.Need-returns-4

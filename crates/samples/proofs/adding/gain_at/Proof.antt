@@ -6,7 +6,6 @@ use Rattle.accumulator.proofs.Counts.{within, counts-of}
 use Rattle.lent.specs.Memory.{recordAt}
 use Rattle.lent.specs.Absorbed.{gainOf, gainAt}
 use Rattle.lent.proofs.Trains.{zero-count-small}
-use borrow.Author.Needs.{needs}
 use Rattle.samples.proofs.adding.gain_at.Statement.{statement}
 use Rattle.samples.proofs.adding.gain_at.Tie as tie
 use Rattle.samples.proofs.adding.gain_at.Reads as reads
@@ -14,135 +13,81 @@ use Rattle.samples.proofs.adding.gain_at.Lts as lts
 use Rattle.samples.proofs.adding.either.Reads as either-reads
 use Rattle.samples.proofs.adding.either_number.Reads as either-number-reads
 use Rattle.samples.proofs.adding.is_replaced.Reads as is-replaced-reads
+use Rattle.samples.proofs.reading.count_at.Reads as count-at-reads
+use Rattle.samples.proofs.reading.real_at.Reads as real-at-reads
 use Rattle.samples.proofs.training.zero_count.Reads as zero-count-reads
 
--- src/adding.rt:64:25
-add-highest : tie.Need-add-highest
-add-highest c = search needs
+add-real-at : tie.Need-add-real-at
+add-real-at c = omega arith
 
--- src/adding.rt:64:19
-mul-highest : tie.Need-mul-highest
-mul-highest c = search needs
+real-at-requires : tie.Need-real-at-requires
+real-at-requires c κs = omega arith
 
--- src/adding.rt:64:19
-shared-slice-read-highest : tie.Need-shared-slice-read-highest
-shared-slice-read-highest c = search needs
+add-real-at-2 : tie.Need-add-real-at-2
+add-real-at-2 c = omega arith
 
--- src/adding.rt:65:24
-add-lowest : tie.Need-add-lowest
-add-lowest c = search needs
+real-at-requires-2 : tie.Need-real-at-requires-2
+real-at-requires-2 c κs = omega arith
 
--- src/adding.rt:65:18
-mul-lowest : tie.Need-mul-lowest
-mul-lowest c = search needs
+add-count-at : tie.Need-add-count-at
+add-count-at c = omega arith
 
--- src/adding.rt:65:18
-shared-slice-read-lowest : tie.Need-shared-slice-read-lowest
-shared-slice-read-lowest c = search needs
+count-at-requires : tie.Need-count-at-requires
+count-at-requires c κs = omega arith
 
--- src/adding.rt:66:33
-add-highest-number : tie.Need-add-highest-number
-add-highest-number c = search needs
+add-count-at-2 : tie.Need-add-count-at-2
+add-count-at-2 c = omega arith
 
--- src/adding.rt:66:26
-mul-highest-number : tie.Need-mul-highest-number
-mul-highest-number c = search needs
+count-at-requires-2 : tie.Need-count-at-requires-2
+count-at-requires-2 c κs = omega arith
 
--- src/adding.rt:66:26
-shared-slice-read-highest-number : tie.Need-shared-slice-read-highest-number
-shared-slice-read-highest-number c = search needs
-
--- src/adding.rt:67:32
-add-lowest-number : tie.Need-add-lowest-number
-add-lowest-number c = search needs
-
--- src/adding.rt:67:25
-mul-lowest-number : tie.Need-mul-lowest-number
-mul-lowest-number c = search needs
-
--- src/adding.rt:67:25
-shared-slice-read-lowest-number : tie.Need-shared-slice-read-lowest-number
-shared-slice-read-lowest-number c = search needs
-
--- src/adding.rt:68:9
 is-replaced-requires : tie.Need-is-replaced-requires
-is-replaced-requires c κs = search needs
+is-replaced-requires c κs = tt
 
--- src/adding.rt:69:9
 is-replaced-requires-2 : tie.Need-is-replaced-requires-2
-is-replaced-requires-2 c κs = search needs
+is-replaced-requires-2 c κs = tt
 
--- src/adding.rt:70:15
-mul-sum : tie.Need-mul-sum
-mul-sum c = search needs
+real-at-requires-3 : tie.Need-real-at-requires-3
+real-at-requires-3 c κs = omega arith
 
--- src/adding.rt:70:15
-shared-slice-read-sum : tie.Need-shared-slice-read-sum
-shared-slice-read-sum c = search needs
+add-real-at-3 : tie.Need-add-real-at-3
+add-real-at-3 c = omega arith
 
--- src/adding.rt:71:25
-add-squares : tie.Need-add-squares
-add-squares c = search needs
+real-at-requires-4 : tie.Need-real-at-requires-4
+real-at-requires-4 c κs = omega arith
 
--- src/adding.rt:71:19
-mul-squares : tie.Need-mul-squares
-mul-squares c = search needs
+count-at-requires-3 : tie.Need-count-at-requires-3
+count-at-requires-3 c κs = omega arith
 
--- src/adding.rt:71:19
-shared-slice-read-squares : tie.Need-shared-slice-read-squares
-shared-slice-read-squares c = search needs
-
--- src/adding.rt:72:19
-mul-waiting : tie.Need-mul-waiting
-mul-waiting c = search needs
-
--- src/adding.rt:72:19
-shared-slice-read-waiting : tie.Need-shared-slice-read-waiting
-shared-slice-read-waiting c = search needs
-
--- src/adding.rt:72:19
 add-waiting : tie.Need-add-waiting
 unfolding recordAt
-add-waiting c = omega (arith, within _ (counts-of _ (c .before .before .before .before .before .before .before .before .before .before .before .pre .2)) .waiting)
+add-waiting c = omega (arith, within _ (counts-of _ (c .before .before .before .before .before .before .before .before .before .before .before .pre .2)) .waiting, c .count-at3 .ensures)
 
--- src/adding.rt:73:24
-add-zeros : tie.Need-add-zeros
-add-zeros c = search needs
+add-count-at-3 : tie.Need-add-count-at-3
+add-count-at-3 c = omega arith
 
--- src/adding.rt:73:17
-mul-zeros : tie.Need-mul-zeros
-mul-zeros c = search needs
+count-at-requires-4 : tie.Need-count-at-requires-4
+count-at-requires-4 c κs = omega arith
 
--- src/adding.rt:73:17
-shared-slice-read-zeros : tie.Need-shared-slice-read-zeros
-shared-slice-read-zeros c = search needs
-
--- src/adding.rt:73:33
 zero-count-requires : tie.Need-zero-count-requires
-zero-count-requires c κs = search needs
+zero-count-requires c κs = tt
 
--- src/adding.rt:73:17
-add-zeros-2 : tie.Need-add-zeros-2
+add-zeros : tie.Need-add-zeros
 unfolding recordAt
-add-zeros-2 c = let o = c .before .before .before .before .before .before .before .before .before .before .before .before .before in omega (arith, within _ (counts-of _ (o .pre .2)) .waitingZeros, c .zero-count .ensures, zero-count-small (o .args .v))
+add-zeros c = omega (arith, within _ (counts-of _ (c .before .before .before .before .before .before .before .before .before .before .before .before .before .pre .2)) .waitingZeros, c .before .count-at4 .ensures, c .zero-count .ensures, zero-count-small (c .before .before .before .before .before .before .before .before .before .before .before .before .before .args .v))
 
--- src/adding.rt:79:28
 either-requires : tie.Need-either-requires
-either-requires c κs = search needs
+either-requires c κs = tt
 
--- src/adding.rt:80:35
 either-number-requires : tie.Need-either-number-requires
-either-number-requires c κs = search needs
+either-number-requires c κs = tt
 
--- src/adding.rt:81:28
 either-requires-2 : tie.Need-either-requires-2
-either-requires-2 c κs = search needs
+either-requires-2 c κs = tt
 
--- src/adding.rt:82:35
 either-number-requires-2 : tie.Need-either-number-requires-2
-either-number-requires-2 c κs = search needs
+either-number-requires-2 c κs = tt
 
--- src/adding.rt:60:1
 returns : tie.Need-returns
 unfolding gainAt gainOf recordAt addedOf withExtremes withWaiting
 returns c =
@@ -152,41 +97,41 @@ returns c =
       c .before .before .either-number .ensures,
       c .before .before .before .either .ensures,
       c .before .before .before .before .zero-count .ensures,
+      c .before .before .before .before .before .count-at4 .ensures,
+      c .before .before .before .before .before .before .count-at3 .ensures,
+      c .before .before .before .before .before .before .before .real-at4 .ensures,
+      c .before .before .before .before .before .before .before .before .real-at3 .ensures,
       c .before .before .before .before .before .before .before .before .before .is-replaced2 .ensures,
       c .before .before .before .before .before .before .before .before .before .before .is-replaced .ensures,
+      c .before .before .before .before .before .before .before .before .before .before .before .count-at2 .ensures,
+      c .before .before .before .before .before .before .before .before .before .before .before .before .count-at .ensures,
+      c .before .before .before .before .before .before .before .before .before .before .before .before .before .real-at2 .ensures,
+      c .before .before .before .before .before .before .before .before .before .before .before .before .before .before .real-at .ensures,
     )
 
 pub gain-at-spec : {M : Type 1} → statement M
 gain-at-spec =
     tie.close
     (tie.spec
-    add-highest
-    mul-highest
-    shared-slice-read-highest
-    add-lowest
-    mul-lowest
-    shared-slice-read-lowest
-    add-highest-number
-    mul-highest-number
-    shared-slice-read-highest-number
-    add-lowest-number
-    mul-lowest-number
-    shared-slice-read-lowest-number
+    add-real-at
+    real-at-requires
+    add-real-at-2
+    real-at-requires-2
+    add-count-at
+    count-at-requires
+    add-count-at-2
+    count-at-requires-2
     is-replaced-requires
     is-replaced-requires-2
-    mul-sum
-    shared-slice-read-sum
-    add-squares
-    mul-squares
-    shared-slice-read-squares
-    mul-waiting
-    shared-slice-read-waiting
+    real-at-requires-3
+    add-real-at-3
+    real-at-requires-4
+    count-at-requires-3
     add-waiting
-    add-zeros
-    mul-zeros
-    shared-slice-read-zeros
+    add-count-at-3
+    count-at-requires-4
     zero-count-requires
-    add-zeros-2
+    add-zeros
     either-requires
     either-number-requires
     either-requires-2

@@ -11,19 +11,19 @@ use Rattle.samples.proofs.adding.put.Lts as lts
 
 -- src/adding.rt:91:5
 mul-reals : tie.Need-mul-reals
-mul-reals c = search needs
+mul-reals c = omega arith
 
 -- src/adding.rt:91:5
 slice-write-reals : tie.Need-slice-write-reals
-slice-write-reals c = search needs
+slice-write-reals c = omega arith
 
 -- src/adding.rt:92:11
 add-reals : tie.Need-add-reals
-add-reals c = search needs
+add-reals c = omega arith
 
 -- src/adding.rt:92:5
 mul-reals-2 : tie.Need-mul-reals-2
-mul-reals-2 c = search needs
+mul-reals-2 c = omega arith
 
 -- src/adding.rt:92:5
 slice-write-reals-2 : tie.Need-slice-write-reals-2
@@ -31,11 +31,11 @@ slice-write-reals-2 c = simp length-set (omega (arith, c .pre .0))
 
 -- src/adding.rt:93:11
 add-reals-2 : tie.Need-add-reals-2
-add-reals-2 c = search needs
+add-reals-2 c = omega arith
 
 -- src/adding.rt:93:5
 mul-reals-3 : tie.Need-mul-reals-3
-mul-reals-3 c = search needs
+mul-reals-3 c = omega arith
 
 -- src/adding.rt:93:5
 slice-write-reals-3 : tie.Need-slice-write-reals-3
@@ -43,11 +43,11 @@ slice-write-reals-3 c = simp length-set (omega (arith, c .pre .0))
 
 -- src/adding.rt:94:11
 add-reals-3 : tie.Need-add-reals-3
-add-reals-3 c = search needs
+add-reals-3 c = omega arith
 
 -- src/adding.rt:94:5
 mul-reals-4 : tie.Need-mul-reals-4
-mul-reals-4 c = search needs
+mul-reals-4 c = omega arith
 
 -- src/adding.rt:94:5
 slice-write-reals-4 : tie.Need-slice-write-reals-4
@@ -55,19 +55,19 @@ slice-write-reals-4 c = simp length-set (omega (arith, c .pre .0))
 
 -- src/adding.rt:95:5
 mul-counts : tie.Need-mul-counts
-mul-counts c = search needs
+mul-counts c = omega arith
 
 -- src/adding.rt:95:5
 slice-write-counts : tie.Need-slice-write-counts
-slice-write-counts c = search needs
+slice-write-counts c = omega arith
 
 -- src/adding.rt:96:12
 add-counts : tie.Need-add-counts
-add-counts c = search needs
+add-counts c = omega arith
 
 -- src/adding.rt:96:5
 mul-counts-2 : tie.Need-mul-counts-2
-mul-counts-2 c = search needs
+mul-counts-2 c = omega arith
 
 -- src/adding.rt:96:5
 slice-write-counts-2 : tie.Need-slice-write-counts-2
@@ -75,11 +75,11 @@ slice-write-counts-2 c = simp length-set (omega (arith, c .pre .1))
 
 -- src/adding.rt:97:12
 add-counts-2 : tie.Need-add-counts-2
-add-counts-2 c = search needs
+add-counts-2 c = omega arith
 
 -- src/adding.rt:97:5
 mul-counts-3 : tie.Need-mul-counts-3
-mul-counts-3 c = search needs
+mul-counts-3 c = omega arith
 
 -- src/adding.rt:97:5
 slice-write-counts-3 : tie.Need-slice-write-counts-3
@@ -87,11 +87,11 @@ slice-write-counts-3 c = simp length-set (omega (arith, c .pre .1))
 
 -- src/adding.rt:98:12
 add-counts-3 : tie.Need-add-counts-3
-add-counts-3 c = search needs
+add-counts-3 c = omega arith
 
 -- src/adding.rt:98:5
 mul-counts-4 : tie.Need-mul-counts-4
-mul-counts-4 c = search needs
+mul-counts-4 c = omega arith
 
 -- src/adding.rt:98:5
 slice-write-counts-4 : tie.Need-slice-write-counts-4

@@ -5,7 +5,7 @@ use Rattle.doubles.specs.Numbers.{one64}
 use Rattle.stream.specs.declared.Unit.{Unit}
 use Rattle.stream.specs.Calls.{unitDrawnOf}
 use Rattle.model.specs.Draw.{unitAt, walked, placedFrom}
-use borrow.Author.Needs.{needs}
+use native.Mathlib.Omega.{arith}
 use Rattle.samples.proofs.axes.choose.Statement.{statement}
 use Rattle.samples.proofs.axes.choose.Tie as tie
 use Rattle.samples.proofs.axes.choose.Reads as reads
@@ -24,7 +24,7 @@ returns-2 c axs = rw (c .before .if1 .left, c .if2 .taken)
 
 -- src/axes.rt:112:9
 unit-requires : tie.Need-unit-requires
-unit-requires c κs = search needs
+unit-requires c κs = tt
 
 -- src/axes.rt:97:1
 returns-3 : tie.Need-returns-3

@@ -3,6 +3,7 @@ use lib.Ieee.{Float}
 use Rattle.model.specs.Draw.{Placed, flooredOf}
 use Rattle.lent.specs.declared.Walked.{Walked}
 use Rattle.lent.specs.Drawn.{axesAt, Places, underFloor}
+use native.Mathlib.Omega.{arith}
 use borrow.Author.Needs.{needs}
 use Rattle.samples.proofs.axes.draw_axes.Statement.{statement}
 use Rattle.samples.proofs.axes.draw_axes.Tie as tie
@@ -14,7 +15,7 @@ use Rattle.samples.proofs.axes.walk_axes.Reads as walk-axes-reads
 
 -- src/axes.rt:126:9
 choose-requires : tie.Need-choose-requires
-choose-requires c κs = search needs
+choose-requires c κs = tt
 
 -- src/axes.rt:126:9
 walk-axes-requires : tie.Need-walk-axes-requires
@@ -22,7 +23,7 @@ walk-axes-requires c κs = search needs
 
 -- src/axes.rt:127:5
 floored-requires : tie.Need-floored-requires
-floored-requires c κs = search needs
+floored-requires c κs = tt
 
 -- src/axes.rt:115:1
 returns : tie.Need-returns

@@ -16,7 +16,7 @@ mul-result : tie.Need-mul-result
 mul-result c = search (fits-in, needs)
 
 returns : tie.Need-returns
-returns c = search needs
+returns c = omega arith
 
 pub guess-of-spec : {M : Type 1} → statement M
 guess-of-spec = tie.close (tie.spec mul-result returns)

@@ -3,6 +3,7 @@ use Rattle.axis.specs.declared.Spot.{Spot}
 use Rattle.axis.specs.Calls.{spotOf}
 use Rattle.axis.proofs.Searches.{search-is}
 use Rattle.model.specs.Draw.{placeOn}
+use native.Mathlib.Omega.{arith}
 use borrow.Author.Needs.{needs}
 use Rattle.samples.proofs.axes.place_on.Statement.{statement}
 use Rattle.samples.proofs.axes.place_on.Tie as tie
@@ -14,11 +15,11 @@ use Rattle.axis.proofs.edges.weight_of.Reads as weight-of-reads
 
 -- src/axes.rt:28:51
 bin-of-requires : tie.Need-bin-of-requires
-bin-of-requires c κs = search needs
+bin-of-requires c κs = tt
 
 -- src/axes.rt:28:21
 weight-of-requires : tie.Need-weight-of-requires
-weight-of-requires c κs = search needs
+weight-of-requires c κs = tt
 
 -- src/axes.rt:26:9
 returns : tie.Need-returns
@@ -27,7 +28,7 @@ returns c = rw (c .before .before .if1 .taken, c .weight-of .ensures, c .before 
 
 -- src/axes.rt:31:5
 spot-near-requires : tie.Need-spot-near-requires
-spot-near-requires c κs = search needs
+spot-near-requires c κs = tt
 
 -- src/axes.rt:21:1
 returns-2 : tie.Need-returns-2

@@ -14,7 +14,6 @@ use Rattle.lent.proofs.Samples.{root-made}
 use Rattle.lent.proofs.Drawable.{form-laid}
 use Rattle.lent.proofs.Absorbs.{admitted-all, admitted-none}
 use Rattle.lent.proofs.Batches.{step-objected, step-done}
-use borrow.Author.Needs.{needs}
 use Rattle.samples.proofs.batching.step.Statement.{statement}
 use Rattle.samples.proofs.batching.step.Tie as tie
 use Rattle.samples.proofs.batching.step.Reads as reads
@@ -40,11 +39,11 @@ admit-requires c κs =
 
 -- src/batching.rt:62:9
 same-length : tie.Need-same-length
-same-length c = search needs
+same-length c = omega arith
 
 -- src/batching.rt:62:9
 same-length-2 : tie.Need-same-length-2
-same-length-2 c = search needs
+same-length-2 c = omega arith
 
 -- src/batching.rt:62:9
 returns : tie.Need-returns
@@ -53,11 +52,11 @@ returns c = ap (stepEnd (c .before .before .before .before .before .admit .resul
 
 -- src/batching.rt:18:1
 same-length-3 : tie.Need-same-length-3
-same-length-3 c = search needs
+same-length-3 c = omega arith
 
 -- src/batching.rt:18:1
 same-length-4 : tie.Need-same-length-4
-same-length-4 c = search needs
+same-length-4 c = omega arith
 
 -- src/batching.rt:18:1
 returns-2 : tie.Need-returns-2

@@ -6,7 +6,6 @@ use lib.ListN.{getD}
 use lib.Ieee.{nan}
 use Rattle.lent.specs.Trained.{formFault}
 use Rattle.lent.proofs.Fitting.{none-left, one-left, many-left}
-use borrow.Author.Needs.{needs}
 use Rattle.samples.proofs.forms.axes_fault.Statement.{statement}
 use Rattle.samples.proofs.forms.axes_fault.Tie as tie
 use Rattle.samples.proofs.forms.axes_fault.Reads as reads
@@ -20,7 +19,7 @@ returns c = rw (one-left 0 (c .before .before .args .path .now) (c .before .befo
 
 -- src/forms.rt:31:19
 add-if2 : tie.Need-add-if2
-add-if2 c = search needs
+add-if2 c = omega arith
 
 -- src/forms.rt:32:9
 returns-2 : tie.Need-returns-2
@@ -29,15 +28,15 @@ returns-2 c = rw ((none-left 0 (c .before .before .before .args .path .now) (c .
 
 -- src/forms.rt:34:22
 add-if3 : tie.Need-add-if3
-add-if3 c = search needs
+add-if3 c = omega arith
 
 -- src/forms.rt:34:16
 mul-if3 : tie.Need-mul-if3
-mul-if3 c = search needs
+mul-if3 c = omega arith
 
 -- src/forms.rt:34:16
 shared-slice-read-if3 : tie.Need-shared-slice-read-if3
-shared-slice-read-if3 c = search needs
+shared-slice-read-if3 c = omega arith
 
 -- src/forms.rt:35:9
 returns-3 : tie.Need-returns-3

@@ -3,6 +3,7 @@ use Rattle.lent.proofs.Samples.{sound-stands, axes-made}
 use mathlib.Core.Path.{sym, subst}
 use Rattle.lent.specs.declared.AxesAt.{AxesAt}
 use Rattle.lent.specs.Drawn.{Stands}
+use native.Mathlib.Omega.{arith}
 use borrow.Author.Needs.{needs}
 use Rattle.samples.proofs.sampling.draw_from_axes.Statement.{statement}
 use Rattle.samples.proofs.sampling.draw_from_axes.Tie as tie
@@ -21,15 +22,15 @@ draw-axes-requires c κs = (subst (λ (g : AxesAt). Stands (c .before .before .b
 
 -- src/sampling.rt:80:5
 mul-weights : tie.Need-mul-weights
-mul-weights c = search needs
+mul-weights c = omega arith
 
 -- src/sampling.rt:80:5
 element-write-weights : tie.Need-element-write-weights
-element-write-weights c = search needs
+element-write-weights c = omega arith
 
 -- src/sampling.rt:84:16
 add-t15 : tie.Need-add-t15
-add-t15 c = search needs
+add-t15 c = omega arith
 
 -- src/sampling.rt:63:1
 returns : tie.Need-returns

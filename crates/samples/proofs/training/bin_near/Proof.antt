@@ -16,23 +16,23 @@ sub-last c = omega (arith, formed _ (c .before .pre .0) .few)
 
 -- src/training.rt:51:13
 mul-if2 : tie.Need-mul-if2
-mul-if2 c = search needs
+mul-if2 c = omega arith
 
 -- src/training.rt:51:13
 shared-slice-read-if2 : tie.Need-shared-slice-read-if2
-shared-slice-read-if2 c = search needs
+shared-slice-read-if2 c = omega arith
 
 -- src/training.rt:51:45
 add-if2 : tie.Need-add-if2
-add-if2 c = search needs
+add-if2 c = omega arith
 
 -- src/training.rt:51:39
 mul-if2-2 : tie.Need-mul-if2-2
-mul-if2-2 c = search needs
+mul-if2-2 c = omega arith
 
 -- src/training.rt:51:39
 shared-slice-read-if2-2 : tie.Need-shared-slice-read-if2-2
-shared-slice-read-if2-2 c = search needs
+shared-slice-read-if2-2 c = omega arith
 
 -- src/training.rt:52:13
 returns : tie.Need-returns
@@ -40,7 +40,7 @@ returns c = near-is _ _ _ (c .before .before .before .before .before .pre .0) (c
 
 -- src/training.rt:55:5
 bin-of-requires : tie.Need-bin-of-requires
-bin-of-requires c κs = search needs
+bin-of-requires c κs = tt
 
 -- src/training.rt:45:1
 returns-2 : tie.Need-returns-2

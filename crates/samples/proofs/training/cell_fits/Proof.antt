@@ -1,3 +1,4 @@
+-- A bin's sums and counts are read, and what v makes of them is judged.
 use native.Mathlib.Omega.{arith}
 use Rattle.lent.specs.Trained.{cellFits}
 use Rattle.lent.proofs.Trains.{zero-count-small}
@@ -6,140 +7,101 @@ use Rattle.samples.proofs.training.cell_fits.Statement.{statement}
 use Rattle.samples.proofs.training.cell_fits.Tie as tie
 use Rattle.samples.proofs.training.cell_fits.Reads as reads
 use Rattle.samples.proofs.training.cell_fits.Lts as lts
-use Rattle.samples.proofs.training.zero_count.Reads as zero-count-reads
+use Rattle.samples.proofs.reading.count_at.Reads as count-at-reads
+use Rattle.samples.proofs.reading.real_at.Reads as real-at-reads
 use Rattle.samples.proofs.training.are_sums_finite.Reads as are-sums-finite-reads
+use Rattle.samples.proofs.training.zero_count.Reads as zero-count-reads
 
--- src/training.rt:58:26
-mul-sum : tie.Need-mul-sum
-mul-sum c = search needs
+mul-real-at : tie.Need-mul-real-at
+mul-real-at c = omega arith
 
--- src/training.rt:58:26
-add-sum : tie.Need-add-sum
-add-sum c = search needs
+add-real-at : tie.Need-add-real-at
+add-real-at c = omega arith
 
--- src/training.rt:58:21
-add-sum-2 : tie.Need-add-sum-2
-add-sum-2 c = search needs
+add-real-at-2 : tie.Need-add-real-at-2
+add-real-at-2 c = omega arith
 
--- src/training.rt:58:21
-add-sum-3 : tie.Need-add-sum-3
-add-sum-3 c = search needs
+add-real-at-3 : tie.Need-add-real-at-3
+add-real-at-3 c = omega arith
 
--- src/training.rt:58:15
-mul-sum-2 : tie.Need-mul-sum-2
-mul-sum-2 c = search needs
+real-at-requires : tie.Need-real-at-requires
+real-at-requires c κs = search needs
 
--- src/training.rt:58:15
-shared-slice-read-sum : tie.Need-shared-slice-read-sum
-shared-slice-read-sum c = search needs
+mul-real-at-2 : tie.Need-mul-real-at-2
+mul-real-at-2 c = omega arith
 
--- src/training.rt:59:30
-mul-squares : tie.Need-mul-squares
-mul-squares c = search needs
+add-real-at-4 : tie.Need-add-real-at-4
+add-real-at-4 c = omega arith
 
--- src/training.rt:59:30
-add-squares : tie.Need-add-squares
-add-squares c = search needs
+add-real-at-5 : tie.Need-add-real-at-5
+add-real-at-5 c = omega arith
 
--- src/training.rt:59:25
-add-squares-2 : tie.Need-add-squares-2
-add-squares-2 c = search needs
+add-real-at-6 : tie.Need-add-real-at-6
+add-real-at-6 c = omega arith
 
--- src/training.rt:59:25
-add-squares-3 : tie.Need-add-squares-3
-add-squares-3 c = search needs
+real-at-requires-2 : tie.Need-real-at-requires-2
+real-at-requires-2 c κs = search needs
 
--- src/training.rt:59:19
-mul-squares-2 : tie.Need-mul-squares-2
-mul-squares-2 c = search needs
+add-count-at : tie.Need-add-count-at
+add-count-at c = omega arith
 
--- src/training.rt:59:19
-shared-slice-read-squares : tie.Need-shared-slice-read-squares
-shared-slice-read-squares c = search needs
+add-count-at-2 : tie.Need-add-count-at-2
+add-count-at-2 c = omega arith
 
--- src/training.rt:60:26
+count-at-requires : tie.Need-count-at-requires
+count-at-requires c κs = search needs
+
 add-waiting : tie.Need-add-waiting
-add-waiting c = search needs
+add-waiting c = omega arith
 
--- src/training.rt:60:26
-add-waiting-2 : tie.Need-add-waiting-2
-add-waiting-2 c = search needs
+add-count-at-3 : tie.Need-add-count-at-3
+add-count-at-3 c = omega arith
 
--- src/training.rt:60:19
-mul-waiting : tie.Need-mul-waiting
-mul-waiting c = search needs
+add-count-at-4 : tie.Need-add-count-at-4
+add-count-at-4 c = omega arith
 
--- src/training.rt:60:19
-shared-slice-read-waiting : tie.Need-shared-slice-read-waiting
-shared-slice-read-waiting c = search needs
+add-count-at-5 : tie.Need-add-count-at-5
+add-count-at-5 c = omega arith
 
--- src/training.rt:60:19
-add-waiting-3 : tie.Need-add-waiting-3
-add-waiting-3 c = search needs
+count-at-requires-2 : tie.Need-count-at-requires-2
+count-at-requires-2 c κs = search needs
 
--- src/training.rt:61:29
-add-zeros : tie.Need-add-zeros
-add-zeros c = search needs
-
--- src/training.rt:61:24
-add-zeros-2 : tie.Need-add-zeros-2
-add-zeros-2 c = search needs
-
--- src/training.rt:61:24
-add-zeros-3 : tie.Need-add-zeros-3
-add-zeros-3 c = search needs
-
--- src/training.rt:61:17
-mul-zeros : tie.Need-mul-zeros
-mul-zeros c = search needs
-
--- src/training.rt:61:17
-shared-slice-read-zeros : tie.Need-shared-slice-read-zeros
-shared-slice-read-zeros c = search needs
-
--- src/training.rt:61:48
 zero-count-requires : tie.Need-zero-count-requires
-zero-count-requires c κs = search needs
+zero-count-requires c κs = tt
 
--- src/training.rt:61:17
-add-zeros-4 : tie.Need-add-zeros-4
-add-zeros-4 c = omega (arith, c .before .before .before .before .before .before .before .pre .1 .zeros, c .zero-count .ensures, zero-count-small (c .before .before .before .before .before .before .before .args .v))
+add-zeros : tie.Need-add-zeros
+add-zeros c = omega (arith, c .before .before .before .before .before .before .before .pre .1 .zeros, c .before .count-at2 .ensures, c .zero-count .ensures, zero-count-small (c .before .before .before .before .before .before .before .args .v))
 
 are-sums-finite-requires : tie.Need-are-sums-finite-requires
-are-sums-finite-requires c κs = search needs
+are-sums-finite-requires c κs = tt
 
--- src/training.rt:54:1
 returns : tie.Need-returns
 unfolding cellFits
-returns c = rw (c .are-sums-finite .ensures, c .before .zero-count .ensures)
+returns c = rw (c .are-sums-finite .ensures, c .before .zero-count .ensures, c .before .before .count-at2 .ensures, c .before .before .before .count-at .ensures, c .before .before .before .before .real-at2 .ensures, c .before .before .before .before .before .real-at .ensures)
 
 pub cell-fits-spec : {M : Type 1} → statement M
 cell-fits-spec =
     tie.close
     (tie.spec
-    mul-sum
-    add-sum
-    add-sum-2
-    add-sum-3
-    mul-sum-2
-    shared-slice-read-sum
-    mul-squares
-    add-squares
-    add-squares-2
-    add-squares-3
-    mul-squares-2
-    shared-slice-read-squares
+    mul-real-at
+    add-real-at
+    add-real-at-2
+    add-real-at-3
+    real-at-requires
+    mul-real-at-2
+    add-real-at-4
+    add-real-at-5
+    add-real-at-6
+    real-at-requires-2
+    add-count-at
+    add-count-at-2
+    count-at-requires
     add-waiting
-    add-waiting-2
-    mul-waiting
-    shared-slice-read-waiting
-    add-waiting-3
-    add-zeros
-    add-zeros-2
-    add-zeros-3
-    mul-zeros
-    shared-slice-read-zeros
+    add-count-at-3
+    add-count-at-4
+    add-count-at-5
+    count-at-requires-2
     zero-count-requires
-    add-zeros-4
+    add-zeros
     are-sums-finite-requires
     returns)
