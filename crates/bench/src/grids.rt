@@ -1,4 +1,5 @@
 // Draws and trainings on a grid in lent memory, from new(0, 0).
+use crate::plans;
 use crate::records;
 use accumulator::Estimated;
 use answers::bits;
@@ -10,7 +11,7 @@ pub type Reals = [f64; 16384];
 
 pub type Counts = [u64; 8192];
 
-pub type Room = [f64; 100000];
+type Room = [f64; 100000];
 
 // The evaluations of a batch.
 fn evaluate(evaluations: &mut Room) {
@@ -51,19 +52,14 @@ fn batches(
 }
 
 // So many samples, in whole batches of 100,000.
-pub fn trained(
-    table: &Table,
-    reals: &mut Reals,
-    counts: &mut Counts,
-    room: &mut Room,
-    count: u64,
-) -> u64 {
-    evaluate(room);
-    batches(table, reals, counts, room, count / 100000)
+fn trained(table: &Table, reals: &mut Reals, counts: &mut Counts, count: u64) -> u64 {
+    let mut room = [0.0f64; 100000];
+    evaluate(&mut room);
+    batches(table, reals, counts, &room, count / 100000)
 }
 
 // Draws one by one, each of which judges the grid: the exclusive or of their weights and first coordinates, or a refusal's number.
-pub fn drawn(table: &Table, reals: &Reals, counts: &Counts, count: u64) -> u64 {
+fn drawn(table: &Table, reals: &Reals, counts: &Counts, count: u64) -> u64 {
     let mut stream = MonteCarloRng::seed_from_u64(0);
     let mut xor: u64 = 0;
     let mut i: u64 = 0;
@@ -81,4 +77,18 @@ pub fn drawn(table: &Table, reals: &Reals, counts: &Counts, count: u64) -> u64 {
         i += 1;
     }
     xor
+}
+
+// Draws on the bins grid, or on the axes grid: with training in batches, or alone; 0 where the grid is not laid.
+pub fn run(is_tree: bool, trains: bool, count: u64) -> u64 {
+    let mut table = [0u64; 8192];
+    let mut reals = [0.0f64; 16384];
+    let mut counts = [0u64; 8192];
+    if !plans::lay(is_tree, &mut table, &mut reals, &mut counts) {
+        return 0;
+    }
+    if trains {
+        return trained(&table, &mut reals, &mut counts, count);
+    }
+    drawn(&table, &reals, &counts, count)
 }

@@ -7,10 +7,6 @@ mod plans;
 mod records;
 mod request;
 
-use grids::Counts;
-use grids::Reals;
-use grids::Room;
-use grids::Table;
 use libc::STDIN_FILENO;
 use libc::STDOUT_FILENO;
 use stream::MonteCarloRng;
@@ -30,84 +26,29 @@ fn stream_words(count: u64) -> u64 {
 }
 
 // The kind that begins with this letter; 0 for an unknown one.
-fn run_loop(kind: u8, count: u64) -> u64 {
+fn run(kind: u8, count: u64) -> u64 {
     match kind {
         b'a' => records::added(count),
         b'd' => edges::drawn(count),
         b'e' => kernels::raised(count),
+        b'g' => grids::run(false, true, count),
+        b'j' => grids::run(false, false, count),
         b'l' => kernels::logged(count),
+        b'n' => grids::run(true, false, count),
         b'p' => edges::probed(count),
         b'r' => kernels::rooted(count),
         b's' => stream_words(count),
+        b't' => grids::run(true, true, count),
+        b'u' => records::updated(count),
         _ => 0,
     }
 }
 
-// Whether a kind is of draws on the axes grid, or on the bins grid; and whether it trains too.
-fn is_axes(kind: u8) -> bool {
-    (kind == b'g') | (kind == b'j')
-}
-
-fn is_tree(kind: u8) -> bool {
-    (kind == b't') | (kind == b'n')
-}
-
-fn trains(kind: u8) -> bool {
-    (kind == b'g') | (kind == b't')
-}
-
-// Draws on a grid that is laid: with training in batches, or alone; 0 where it is not laid. The rooms come as references to arrays, so
-// that the proof sees their lengths and not their zeros.
-fn run_on(
-    laid: bool,
-    trains: bool,
-    table: &Table,
-    reals: &mut Reals,
-    counts: &mut Counts,
-    room: &mut Room,
-    count: u64,
-) -> u64 {
-    if !laid {
-        return 0;
-    }
-    if trains {
-        return grids::trained(table, reals, counts, room, count);
-    }
-    grids::drawn(table, reals, counts, count)
-}
-
-fn run(
-    kind: u8,
-    table: &mut Table,
-    reals: &mut Reals,
-    counts: &mut Counts,
-    room: &mut Room,
-    count: u64,
-) -> u64 {
-    if is_axes(kind) {
-        let laid = plans::lay_axes(table, reals, counts);
-        return run_on(laid, trains(kind), table, reals, counts, room, count);
-    }
-    if is_tree(kind) {
-        let laid = plans::lay_tree(table, reals, counts);
-        return run_on(laid, trains(kind), table, reals, counts, room, count);
-    }
-    if kind == b'u' {
-        return records::updated(room, count);
-    }
-    run_loop(kind, count)
-}
-
 fn main() {
     let mut text = [0u8; 64];
-    let mut table = [0u64; 8192];
-    let mut reals = [0.0f64; 16384];
-    let mut counts = [0u64; 8192];
-    let mut room = [0.0f64; 100000];
     let got = io::read_full(STDIN_FILENO, &mut text);
     let kind = request::kind(&text[..got]);
     let count = request::count(&text[..got]);
-    let word = run(kind, &mut table, &mut reals, &mut counts, &mut room, count);
-    io::print_hex(STDOUT_FILENO, word, 16);
+    io::print_hex(STDOUT_FILENO, run(kind, count), 16);
     io::write_all(STDOUT_FILENO, b"\n");
 }

@@ -15,12 +15,6 @@ fn is_laid(answer: Read) -> bool {
     }
 }
 
-// An axes grid of 5 axes of 64 bins.
-pub fn lay_axes(table: &mut Table, reals: &mut Reals, counts: &mut Counts) -> bool {
-    let bytes = [1u8, 16, 0, 5, 64, 0, 0, 0, 0, 0, 0, 0, 0, 0, 0, 0, 0, 0, 0];
-    is_laid(quiet::fresh(&bytes, table, reals, counts))
-}
-
 // The bytes of a bins grid of 16 bins, its ratio 10, and at each bin an axes grid of 2 axes of 32 bins.
 fn byte_of_tree(i: usize) -> u8 {
     let head = [3u8, 11, 0, 16, 0, 0, 0, 0, 0, 0, 0, 36, 64, 0];
@@ -31,6 +25,7 @@ fn byte_of_tree(i: usize) -> u8 {
     child[(i - 14) % 19]
 }
 
+// These bytes written.
 fn write_tree(bytes: &mut [u8]) {
     let mut i = 0;
     while i < bytes.len() {
@@ -39,9 +34,13 @@ fn write_tree(bytes: &mut [u8]) {
     }
 }
 
-// That bins grid.
-pub fn lay_tree(table: &mut Table, reals: &mut Reals, counts: &mut Counts) -> bool {
-    let mut bytes = [0u8; 318];
-    write_tree(&mut bytes);
+// That bins grid laid, or an axes grid of 5 axes of 64 bins.
+pub fn lay(is_tree: bool, table: &mut Table, reals: &mut Reals, counts: &mut Counts) -> bool {
+    if is_tree {
+        let mut bytes = [0u8; 318];
+        write_tree(&mut bytes);
+        return is_laid(quiet::fresh(&bytes, table, reals, counts));
+    }
+    let bytes = [1u8, 16, 0, 5, 64, 0, 0, 0, 0, 0, 0, 0, 0, 0, 0, 0, 0, 0, 0];
     is_laid(quiet::fresh(&bytes, table, reals, counts))
 }

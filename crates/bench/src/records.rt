@@ -1,5 +1,4 @@
 // The accumulator's inner loops, on a record in a local.
-use crate::grids::Room;
 use accumulator::Changed;
 use accumulator::StatisticsAccumulator;
 use accumulator::Updated;
@@ -10,8 +9,8 @@ pub fn evaluation(i: u64) -> f64 {
     ((i % 1024) as u32) as f64 - 512.0
 }
 
-// The exclusive or of a record's words.
-fn word(a: StatisticsAccumulator) -> u64 {
+// The exclusive or of a record's doubles.
+fn doubles_of(a: StatisticsAccumulator) -> u64 {
     bits(a.sum)
         ^ bits(a.sum_sq)
         ^ bits(a.total_sum)
@@ -24,13 +23,18 @@ fn word(a: StatisticsAccumulator) -> u64 {
         ^ bits(a.chi_sq)
         ^ bits(a.chi_sum)
         ^ bits(a.chi_sq_sum)
+        ^ bits(a.max_eval_positive)
+        ^ bits(a.max_eval_negative)
+}
+
+// The exclusive or of a record's words.
+fn word(a: StatisticsAccumulator) -> u64 {
+    doubles_of(a)
         ^ a.new_samples
         ^ a.new_zero_evaluations
         ^ a.cur_iter
         ^ a.processed_samples
-        ^ bits(a.max_eval_positive)
         ^ a.max_eval_positive_number
-        ^ bits(a.max_eval_negative)
         ^ a.max_eval_negative_number
         ^ a.num_zero_evaluations
 }
@@ -50,7 +54,7 @@ pub fn added(count: u64) -> u64 {
 }
 
 // The sum and the sum of the squares of 1,024 pairs of evaluations, in turns.
-fn sum_pairs(room: &mut Room) {
+fn sum_pairs(room: &mut [f64; 2048]) {
     let mut i = 0;
     while i < 1024 {
         let a = evaluation(i as u64);
@@ -62,8 +66,9 @@ fn sum_pairs(room: &mut Room) {
 }
 
 // Ends of iterations on a fresh record, where two or three samples with such sums wait: the record's word, or a refusal's number.
-pub fn updated(room: &mut Room, count: u64) -> u64 {
-    sum_pairs(room);
+pub fn updated(count: u64) -> u64 {
+    let mut room = [0.0f64; 2048];
+    sum_pairs(&mut room);
     let mut record = StatisticsAccumulator::new();
     let mut i: u64 = 0;
     while i < count {

@@ -121,8 +121,6 @@ fn pour(
     table: &mut Table,
     reals: &mut Reals,
     counts: &mut Counts,
-    spare_reals: &mut Reals,
-    spare_counts: &mut Counts,
 ) -> Poured
     ensures { λ r. ⌜ r .taken ≤ length (now (bytes .entry)) ⌝ }
     ensures { λ r. ⌜ (r .written ≡ true → Turns (now (bytes .entry)) last 2816 1344
@@ -130,6 +128,8 @@ fn pour(
         (place (r .run) (r .taken) (now (table .exit)) (memory (now (reals .exit)) (now (counts .exit))))) ⌝ }
     ensures { λ r. ⌜ (r .written ≡ true → isOverOf (r .run) ≡ false → length (now (bytes .entry)) < r .taken + 131072) ⌝ }
 {
+    let mut spare_reals = [0.0f64; 2816];
+    let mut spare_counts = [0u64; 1344];
     let mut now = run;
     let mut taken = 0;
     loop {
@@ -141,8 +141,8 @@ fn pour(
             table,
             reals,
             counts,
-            spare_reals,
-            spare_counts,
+            &mut spare_reals,
+            &mut spare_counts,
         );
         if !poured.goes {
             return poured;
@@ -163,8 +163,6 @@ fn take_in(
     table: &mut Table,
     reals: &mut Reals,
     counts: &mut Counts,
-    spare_reals: &mut Reals,
-    spare_counts: &mut Counts,
 ) -> Fed
     requires { ⌜ full ≤ length (now text) ⌝ }
     ensures { λ r. ⌜ TakenIn (now (text .entry)) full (eqb full held) 2816 1344
@@ -172,16 +170,7 @@ fn take_in(
         (now (text .exit)) (r .held) (r .goes) (r .run) (now (table .exit)) (memory (now (reals .exit)) (now (counts .exit))) ⌝ }
     ensures { λ r. ⌜ (r .goes ≡ true → r .held < 131072) ⌝ }
 {
-    let poured = pour(
-        run,
-        &text[..full],
-        full == held,
-        table,
-        reals,
-        counts,
-        spare_reals,
-        spare_counts,
-    );
+    let poured = pour(run, &text[..full], full == held, table, reals, counts);
     let after = poured.run;
     let rest = keep(text, poured.taken, full);
     Fed {
@@ -200,8 +189,6 @@ fn feed_once(
     table: &mut Table,
     reals: &mut Reals,
     counts: &mut Counts,
-    spare_reals: &mut Reals,
-    spare_counts: &mut Counts,
 ) -> Fed
     requires { ⌜ held < length (now text) ⌝ }
     ensures { λ r. ⌜ (r .goes ≡ true → r .held < 131072) ⌝ }
@@ -215,45 +202,22 @@ fn feed_once(
         };
     }
     let full = held + io::count(got, &text[held..]);
-    take_in(
-        run,
-        text,
-        held,
-        full,
-        table,
-        reals,
-        counts,
-        spare_reals,
-        spare_counts,
-    )
+    take_in(run, text, held, full, table, reals, counts)
 }
 
 // Read by read, to the input's end, a refusal, or a read or a write that fails. The reads are counted down from a number that no run uses
 // up, since a proved loop has to end and nothing says that an input does.
-fn integrate(
-    text: &mut [u8],
-    table: &mut Table,
-    reals: &mut Reals,
-    counts: &mut Counts,
-    spare_reals: &mut Reals,
-    spare_counts: &mut Counts,
-)
+fn integrate(text: &mut [u8])
     requires { ⌜ 131072 ≤ length (now text) ⌝ }
 {
+    let mut table = [0u64; 16832];
+    let mut reals = [0.0f64; 2816];
+    let mut counts = [0u64; 1344];
     let mut run = beginning();
     let mut held = 0;
     let mut left = u64::MAX;
     while 0 < left {
-        let fed = feed_once(
-            run,
-            text,
-            held,
-            table,
-            reals,
-            counts,
-            spare_reals,
-            spare_counts,
-        );
+        let fed = feed_once(run, text, held, &mut table, &mut reals, &mut counts);
         if !fed.goes {
             return;
         }
@@ -264,32 +228,13 @@ fn integrate(
     }
 }
 
-// The rooms come as references to arrays, so that the proof sees their lengths and not their zeros.
-fn run(
-    text: &mut [u8; 131072],
-    table: &mut Table,
-    reals: &mut Reals,
-    counts: &mut Counts,
-    spare_reals: &mut Reals,
-    spare_counts: &mut Counts,
-) {
-    integrate(text, table, reals, counts, spare_reals, spare_counts);
+// The text comes as a reference to an array, so that the proof sees its length and not its zeros.
+fn run(text: &mut [u8; 131072]) {
+    integrate(text);
 }
 
 // 131,072 bytes decide any plan, so that a text full of them is never waited on.
 fn main() {
     let mut text = [0u8; 131072];
-    let mut table = [0u64; 16832];
-    let mut reals = [0.0f64; 2816];
-    let mut counts = [0u64; 1344];
-    let mut spare_reals = [0.0f64; 2816];
-    let mut spare_counts = [0u64; 1344];
-    run(
-        &mut text,
-        &mut table,
-        &mut reals,
-        &mut counts,
-        &mut spare_reals,
-        &mut spare_counts,
-    );
+    run(&mut text);
 }

@@ -2,8 +2,8 @@
 // number, answers. A list here begins with the record at hand.
 ghost use Prim.Native.Nat.{_<_};
 use crate::list::double_at;
-use crate::list::holds;
 use crate::list::holds_record;
+use crate::list::holds_three;
 use crate::list::record_at;
 use accumulator::Changed;
 use accumulator::Estimated;
@@ -11,7 +11,6 @@ use accumulator::Merged;
 use accumulator::Summary;
 use accumulator::Summed;
 use accumulator::Updated;
-use answers::bits;
 use answers::word;
 use answers::words;
 use std::num::wrapping_add_u64;
@@ -52,6 +51,7 @@ fn replay_merge(list: &[u8]) -> bool {
     holds_changed(list, 43, record_at(list, 1).merge_samples_no_reset(other))
 }
 
+// 1 for what holds, 0 for what does not.
 fn one_if(b: bool) -> u64 {
     if b { 1 } else { 0 }
 }
@@ -61,7 +61,9 @@ fn replay_update(list: &[u8], weighted: bool) -> bool {
     match record_at(list, 1).update_iter(weighted) {
         Updated::Refused(number) => word(list, 22) == number,
         Updated::Record(processed, after) => {
-            holds(list, 22, &[0, one_if(processed)]) & holds_record(list, 24, after)
+            (word(list, 22) == 0)
+                & (word(list, 23) == one_if(processed))
+                & holds_record(list, 24, after)
         }
     }
 }
@@ -70,7 +72,9 @@ fn replay_update(list: &[u8], weighted: bool) -> bool {
 fn replay_live(list: &[u8]) -> bool {
     match record_at(list, 1).get_live_estimate() {
         Estimated::Refused(number) => word(list, 22) == number,
-        Estimated::Estimate(e) => holds(list, 22, &[0, bits(e.avg), bits(e.err), bits(e.chi_sq)]),
+        Estimated::Estimate(e) => {
+            (word(list, 22) == 0) & holds_three(list, 23, e.avg, e.err, e.chi_sq)
+        }
     }
 }
 
@@ -95,17 +99,13 @@ fn replay_merge_clearing(list: &[u8]) -> bool {
     }
 }
 
+// Whether a summary is that of the list.
 fn holds_summary(list: &[u8], s: Summary) -> bool {
-    let answer = [
-        0,
-        s.iterations,
-        s.samples,
-        bits(s.average),
-        bits(s.error),
-        bits(s.chi_squared),
-        one_if(s.flat),
-    ];
-    holds(list, 22, &answer)
+    (word(list, 22) == 0)
+        & (word(list, 23) == s.iterations)
+        & (word(list, 24) == s.samples)
+        & holds_three(list, 25, s.average, s.error, s.chi_squared)
+        & (word(list, 28) == one_if(s.flat))
 }
 
 // summary()

@@ -6,7 +6,7 @@ use answers::word;
 use std::num::wrapping_add_usize;
 
 // Whether the words from a place on are these.
-pub fn holds(list: &[u8], at: usize, values: &[u64]) -> bool {
+fn holds(list: &[u8], at: usize, values: &[u64]) -> bool {
     let mut agrees = true;
     let mut i = 0;
     while i < values.len() {
@@ -14,6 +14,13 @@ pub fn holds(list: &[u8], at: usize, values: &[u64]) -> bool {
         i += 1;
     }
     agrees
+}
+
+// Whether the words from a place on are these three doubles.
+pub fn holds_three(list: &[u8], at: usize, x: f64, y: f64, z: f64) -> bool {
+    (word(list, at) == bits(x))
+        & (word(list, wrapping_add_usize(at, 1)) == bits(y))
+        & (word(list, wrapping_add_usize(at, 2)) == bits(z))
 }
 
 // Whether the 21 words from a place on are the record's.

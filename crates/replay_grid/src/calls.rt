@@ -3,10 +3,8 @@
 ghost use mathlib.Core.Path.{_≡_};
 ghost use Prim.Native.Nat.{_*_, _<_, _≤_};
 ghost use lib.ListN.{length};
-use crate::draws;
-use crate::draws::State;
 use crate::list;
-use crate::memory;
+use crate::list::Called;
 use crate::memory::Counts;
 use crate::memory::Reals;
 use crate::memory::Table;
@@ -15,42 +13,30 @@ use crate::tally;
 use crate::tally::Tally;
 use crate::writes;
 use plan::Read;
+use stream::MonteCarloRng;
 
 // One call, at the list's begin.
 fn replay_call(
     list: &[u8],
     kind: usize,
-    state: &mut State,
+    stream: MonteCarloRng,
     table: &Table,
     reals: &mut Reals,
     counts: &mut Counts,
     other_reals: &mut Reals,
     other_counts: &mut Counts,
-    spare_reals: &mut Reals,
-    spare_counts: &mut Counts,
-) -> bool {
-    if kind == 1 {
-        return draws::draw(list, state, table, reals, counts);
+) -> Called {
+    match kind {
+        8 | 9 | 10 => Called {
+            agrees: writes::on_both(list, kind, table, reals, counts, other_reals, other_counts),
+            stream,
+        },
+        6 | 7 | 11 | 12 => writes::on_one(list, kind, stream, table, reals, counts),
+        _ => reads::replay(list, kind, stream, table, reals, counts),
     }
-    if kind == 12 {
-        return draws::sample(list, state, table, reals, counts);
-    }
-    if kind < 6 {
-        return reads::replay(list, kind, table, reals, counts);
-    }
-    writes::replay(
-        list,
-        kind,
-        table,
-        reals,
-        counts,
-        other_reals,
-        other_counts,
-        spare_reals,
-        spare_counts,
-    )
 }
 
+// Whether a plan was not refused.
 fn is_laid(answer: Read) -> bool {
     match answer {
         Read::Plan { end: _, needs: _ } => true,
@@ -76,80 +62,75 @@ fn lay_plan(
     is_laid(grid::fresh(&room[..size], table, reals, counts))
 }
 
-// The plan laid on memory of zeros, its stream kept; where its calls begin.
-fn begin(
+// The calls of the plan at the list's begin, which is laid.
+fn replay_calls(
     list: &[u8],
-    tally: &mut Tally,
-    state: &mut State,
-    room: &mut [u8; 2048],
-    table: &mut Table,
+    tally: Tally,
+    table: &Table,
     reals: &mut Reals,
     counts: &mut Counts,
     other_reals: &mut Reals,
     other_counts: &mut Counts,
-) -> usize
-    ensures { λ r. ⌜ (0 < r) × (r ≤ 300) ⌝ }
-{
-    memory::clear(reals, counts);
-    memory::clear(other_reals, other_counts);
-    tally::count(tally, 0, lay_plan(list, room, table, reals, counts));
-    let from = 2 + (list::below(list, 1, 2048) + 7) / 8;
-    draws::keep(list::stream_at(list, from), state);
-    from + 4
+) -> Tally {
+    let mut counted = tally;
+    let mut stream = list::stream_of(list);
+    let mut at = list::first_call(list);
+    let end = list::words_of(list);
+    while at < end {
+        let start = at * 17;
+        let here = &list[start..];
+        let kind = list::below(here, 1, 13);
+        let called = replay_call(
+            here,
+            kind,
+            stream,
+            table,
+            reals,
+            counts,
+            other_reals,
+            other_counts,
+        );
+        let behind = called.stream;
+        stream = behind;
+        let more = tally::count(counted, kind, called.agrees);
+        counted = more;
+        at = at + 1 + list::below(here, 0, 64);
+    }
+    counted
+}
+
+// The plan at the list's begin laid on a state of zeros, where the table holds other numbers, and its calls.
+fn replay_plan(list: &[u8], tally: Tally) -> Tally {
+    let mut room = [0u8; 2048];
+    let mut table = [1u64; 8192];
+    let mut reals = [0.0f64; 16384];
+    let mut counts = [0u64; 8192];
+    let mut other_reals = [0.0f64; 16384];
+    let mut other_counts = [0u64; 8192];
+    let laid = lay_plan(list, &mut room, &mut table, &mut reals, &mut counts);
+    replay_calls(
+        list,
+        tally::count(tally, 0, laid),
+        &table,
+        &mut reals,
+        &mut counts,
+        &mut other_reals,
+        &mut other_counts,
+    )
 }
 
 // The plans of a list of so many words one after the other, each with its calls.
-pub fn replay(
-    list: &[u8],
-    words: usize,
-    tally: &mut Tally,
-    state: &mut State,
-    room: &mut [u8; 2048],
-    table: &mut Table,
-    reals: &mut Reals,
-    counts: &mut Counts,
-    other_reals: &mut Reals,
-    other_counts: &mut Counts,
-    spare_reals: &mut Reals,
-    spare_counts: &mut Counts,
-)
+pub fn replay(list: &[u8], words: usize) -> Tally
     requires { ⌜ words * 17 ≤ length (now list) ⌝ }
 {
+    let mut tally = [0u64; 26];
     let mut at = 0;
-    let mut end = 0;
     while at < words {
         let start = at * 17;
         let here = &list[start..];
-        if at < end {
-            let kind = list::below(here, 1, 13);
-            let agrees = replay_call(
-                here,
-                kind,
-                state,
-                table,
-                reals,
-                counts,
-                other_reals,
-                other_counts,
-                spare_reals,
-                spare_counts,
-            );
-            tally::count(tally, kind, agrees);
-            at = at + 1 + list::below(here, 0, 64);
-        } else {
-            end = at + 1 + list::below(here, 0, 4096);
-            at = at
-                + begin(
-                    here,
-                    tally,
-                    state,
-                    room,
-                    table,
-                    reals,
-                    counts,
-                    other_reals,
-                    other_counts,
-                );
-        }
+        let more = replay_plan(here, tally);
+        tally = more;
+        at = at + 1 + list::below(here, 0, 4096);
     }
+    tally
 }

@@ -1,4 +1,4 @@
-// Lent memory: zeros before a plan, one cell set, and a mark of all that a plan needs.
+// Lent memory: one cell set, and a mark of all that a plan needs.
 ghost use Prim.Native.Nat.{_≤_};
 use answers::bits;
 use answers::double;
@@ -10,27 +10,6 @@ pub type Table = [u64; 8192];
 pub type Reals = [f64; 16384];
 
 pub type Counts = [u64; 8192];
-
-fn clear_reals(reals: &mut Reals) {
-    let mut i = 0;
-    while i < 16384 {
-        reals[i] = 0.0;
-        i += 1;
-    }
-}
-
-fn clear_counts(counts: &mut Counts) {
-    let mut i = 0;
-    while i < 8192 {
-        counts[i] = 0;
-        i += 1;
-    }
-}
-
-pub fn clear(reals: &mut Reals, counts: &mut Counts) {
-    clear_reals(reals);
-    clear_counts(counts);
-}
 
 // A word joined to the mark; sums and halves shifted then spread it over all bits.
 fn mixed(mark: u64, word: u64) -> u64 {
@@ -54,6 +33,7 @@ fn mark_reals(start: u64, reals: &Reals, end: usize) -> u64
     mark
 }
 
+// The same for counts.
 fn mark_counts(start: u64, counts: &Counts, end: usize) -> u64
     requires { ⌜ end ≤ 8192 ⌝ }
 {
@@ -86,26 +66,15 @@ pub fn mark(table: &Table, reals: &Reals, counts: &Counts) -> u64 {
     }
 }
 
-// A double, where there is such a place.
-fn put_real(reals: &mut Reals, at: usize, x: f64) {
-    if at < 16384 {
-        reals[at] = x;
-    }
-}
-
-fn put_count(counts: &mut Counts, at: usize, x: u64) {
-    if at < 8192 {
-        counts[at] = x;
-    }
-}
-
-// A cell of the reals, or of the counts where the list's third word is not 0.
+// A cell of the reals, or of the counts where the list's third word is not 0; none where there is no such place.
 pub fn put(list: &[u8], reals: &mut Reals, counts: &mut Counts) {
     let place = word(list, 3) as usize;
     let x = word(list, 4);
     if word(list, 2) == 0 {
-        put_real(reals, place, double(x));
-    } else {
-        put_count(counts, place, x);
+        if place < 16384 {
+            reals[place] = double(x);
+        }
+    } else if place < 8192 {
+        counts[place] = x;
     }
 }

@@ -9,16 +9,19 @@ pub type Tally = [u64; 26];
 // Where each kind's name begins among all names.
 const BEGINS: [usize; 14] = [0, 7, 13, 20, 29, 44, 66, 73, 81, 104, 118, 125, 136, 152];
 
+// 1 for a call that agrees, 0 for any other.
 fn one_if(b: bool) -> u64 {
     if b { 1 } else { 0 }
 }
 
-// One more call of a kind.
-pub fn count(tally: &mut Tally, kind: usize, agrees: bool)
+// The tally with one more call of a kind.
+pub fn count(tally: Tally, kind: usize, agrees: bool) -> Tally
     requires { ⌜ kind < 13 ⌝ }
 {
-    tally[2 * kind] = wrapping_add_u64(tally[2 * kind], one_if(agrees));
-    tally[2 * kind + 1] = wrapping_add_u64(tally[2 * kind + 1], 1);
+    let mut counted = tally;
+    counted[2 * kind] = wrapping_add_u64(counted[2 * kind], one_if(agrees));
+    counted[2 * kind + 1] = wrapping_add_u64(counted[2 * kind + 1], 1);
+    counted
 }
 
 // A part of the names.

@@ -4,6 +4,7 @@ ghost use Prim.Native.Nat.{_+_, _*_, _<_, _≤_};
 ghost use lib.ListN.{length};
 use crate::codes;
 
+// How many cases agreed, of how many.
 pub struct Replayed {
     pub agreed: u64,
     pub all: u64,
@@ -33,6 +34,7 @@ fn below(list: &[u8], index: usize, bound: u64) -> usize
     0
 }
 
+// The head of the section at a word of the list.
 fn head(list: &[u8], at: usize) -> Section
     requires { ⌜ at < 65536 ⌝ }
     ensures { λ r. ⌜ (r .size ≤ 2048) × (r .depth ≤ 8) × (r .cases ≤ 65536) × (r .base ≡ at + 5) × (at + 5 ≤ r .codes) × (r .codes ≤ at + 261) ⌝ }
@@ -64,6 +66,7 @@ fn code_of(list: &[u8], index: usize, place: u64) -> u64
     (answers::word(list, index) >> (16 * place)) % 65536
 }
 
+// The base's bytes, from a word of the list on.
 fn load(list: &[u8], at: usize, base: &mut [u8])
     requires { ⌜ (at < 131072) × (length (now base) ≡ 2048) ⌝ }
 {
@@ -74,14 +77,7 @@ fn load(list: &[u8], at: usize, base: &mut [u8])
     }
 }
 
-fn clear(table: &mut [u64]) {
-    let mut i = 0;
-    while i < table.len() {
-        table[i] = codes::UNTOUCHED;
-        i += 1;
-    }
-}
-
+// Some of the bytes, from a place to another.
 fn copy(from: &[u8], start: usize, n: usize, to: &mut [u8], at: usize)
     requires { ⌜ (start + n ≤ length (now from)) × (at + n ≤ length (now to)) ⌝ }
 {
@@ -107,12 +103,14 @@ fn changed(base: &[u8], size: usize, case: usize, out: &mut [u8]) -> usize
     size
 }
 
+// A byte as an index.
 fn wide(x: u8) -> usize
     ensures { λ r. ⌜ (r ≡ x) × (r < 256) ⌝ }
 {
     x as usize
 }
 
+// The remainder by a number that is not 0.
 fn remainder(x: usize, n: usize) -> usize
     requires { ⌜ 0 < n ⌝ }
     ensures { λ r. ⌜ r < n ⌝ }
@@ -188,18 +186,20 @@ fn spoilt(base: &[u8], size: usize, case: usize, table: &mut [u64]) -> u64
     0
 }
 
-// The code of a case.
-fn answer(s: Section, case: usize, base: &[u8], out: &mut [u8], table: &mut [u64]) -> u64
-    requires { ⌜ (s .size ≤ 2048) × (s .depth ≤ 8) × (length (now base) ≡ 2048) × (length (now out) ≡ 2048) × (length (now table) ≡ 512) ⌝ }
+// The code of a case, on a table that nothing was written to.
+fn answer(s: Section, case: usize, base: &[u8]) -> u64
+    requires { ⌜ (s .size ≤ 2048) × (s .depth ≤ 8) × (length (now base) ≡ 2048) ⌝ }
 {
-    clear(table);
+    let mut table = [codes::UNTOUCHED; 512];
     if s.rule == 4 {
-        return spoilt(base, s.size, case, table);
+        return spoilt(base, s.size, case, &mut table);
     }
-    let n = make(s, case, base, out);
-    codes::of_plan(&out[..n], s.whole, table)
+    let mut out = [0u8; 2048];
+    let n = make(s, case, base, &mut out);
+    codes::of_plan(&out[..n], s.whole, &mut table)
 }
 
+// 1 where two codes are the same, else 0.
 fn equal(a: u64, b: u64) -> u64
     ensures { λ r. ⌜ r ≤ 1 ⌝ }
 {
@@ -210,8 +210,8 @@ fn equal(a: u64, b: u64) -> u64
 }
 
 // How many cases of a section agree.
-fn run(list: &[u8], s: Section, base: &[u8], out: &mut [u8], table: &mut [u64]) -> u64
-    requires { ⌜ (s .size ≤ 2048) × (s .depth ≤ 8) × (s .cases ≤ 65536) × (s .codes < 131072) × (length (now base) ≡ 2048) × (length (now out) ≡ 2048) × (length (now table) ≡ 512) ⌝ }
+fn run(list: &[u8], s: Section, base: &[u8]) -> u64
+    requires { ⌜ (s .size ≤ 2048) × (s .depth ≤ 8) × (s .cases ≤ 65536) × (s .codes < 131072) × (length (now base) ≡ 2048) ⌝ }
     ensures { λ r. ⌜ r ≤ 65536 ⌝ }
 {
     let cases = s.cases;
@@ -220,7 +220,7 @@ fn run(list: &[u8], s: Section, base: &[u8], out: &mut [u8], table: &mut [u64]) 
     let mut case = 0;
     while case < cases {
         let told = code_of(list, codes + case / 4, (case % 4) as u64);
-        agreed += equal(answer(s, case, base, out, table), told);
+        agreed += equal(answer(s, case, base), told);
         case += 1;
     }
     agreed
@@ -229,8 +229,6 @@ fn run(list: &[u8], s: Section, base: &[u8], out: &mut [u8], table: &mut [u64]) 
 // Runs every section of a list.
 pub fn replay(list: &[u8]) -> Replayed {
     let mut base = [0u8; 2048];
-    let mut out = [0u8; 2048];
-    let mut table = [0u64; 512];
     let words = answers::words(list);
     let mut agreed: u64 = 0;
     let mut all: u64 = 0;
@@ -241,7 +239,7 @@ pub fn replay(list: &[u8]) -> Replayed {
         }
         let s = head(list, at);
         load(list, s.base, &mut base);
-        agreed += run(list, s, &base, &mut out, &mut table);
+        agreed += run(list, s, &base);
         all += s.cases as u64;
         at = s.codes + (s.cases + 3) / 4;
     }

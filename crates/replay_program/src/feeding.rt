@@ -12,11 +12,11 @@ use std::num::wrapping_add_usize;
 
 pub type Room = [u8; 1024];
 
-pub type Table = [u64; 16832];
+type Table = [u64; 16832];
 
-pub type Reals = [f64; 2816];
+type Reals = [f64; 2816];
 
-pub type Counts = [u64; 1344];
+type Counts = [u64; 1344];
 
 // A run between turns: how many bytes they took, the place among the lines, whether the bytes behind the cut are there too, and whether
 // another turn follows.
@@ -56,7 +56,7 @@ fn behind(list: &[u8], end: usize, fed: Fed, turned: Turned) -> Fed {
     }
 }
 
-// One turn on the bytes that are not taken yet, up to a place.
+// One turn on the bytes that are not taken yet, up to a place. The spare holds other numbers.
 fn step(
     run: Run,
     bytes: &[u8],
@@ -66,9 +66,9 @@ fn step(
     table: &mut Table,
     reals: &mut Reals,
     counts: &mut Counts,
-    spare_reals: &mut Reals,
-    spare_counts: &mut Counts,
 ) -> Turned {
+    let mut spare_reals = [1.0f64; 2816];
+    let mut spare_counts = [1u64; 1344];
     let end = least(until, bytes.len());
     let from = least(taken, end);
     turn(
@@ -78,24 +78,17 @@ fn step(
         table,
         reals,
         counts,
-        spare_reals,
-        spare_counts,
+        &mut spare_reals,
+        &mut spare_counts,
     )
 }
 
-// An input of so many bytes cut in two: first the bytes before the cut, then all that is left. Whether its lines are the list's. The turns
-// are counted down from more than any input takes.
-fn feed_cut(
-    list: &[u8],
-    bytes: &[u8],
-    size: usize,
-    cut: usize,
-    table: &mut Table,
-    reals: &mut Reals,
-    counts: &mut Counts,
-    spare_reals: &mut Reals,
-    spare_counts: &mut Counts,
-) -> bool {
+// An input of so many bytes cut in two: first the bytes before the cut, then all that is left. Whether its lines are the list's. The memory
+// holds other numbers before. The turns are counted down from more than any input takes.
+fn feed_cut(list: &[u8], bytes: &Room, size: usize, cut: usize) -> bool {
+    let mut table = [1u64; 16832];
+    let mut reals = [1.0f64; 2816];
+    let mut counts = [1u64; 1344];
     let lines = lines_of(list);
     let mut fed = begun(lines.from);
     let mut left: u64 = 4096;
@@ -108,11 +101,9 @@ fn feed_cut(
             fed.taken,
             until,
             fed.last,
-            table,
-            reals,
-            counts,
-            spare_reals,
-            spare_counts,
+            &mut table,
+            &mut reals,
+            &mut counts,
         );
         fed = behind(list, lines.end, fed, turned);
         left = fewer(left, fed.goes);
@@ -149,32 +140,12 @@ fn ends(fed: Fed, end: usize) -> bool {
 }
 
 // An input whole, then cut at seven places.
-pub fn feed_cuts(
-    list: &[u8],
-    bytes: &[u8],
-    size: usize,
-    table: &mut Table,
-    reals: &mut Reals,
-    counts: &mut Counts,
-    spare_reals: &mut Reals,
-    spare_counts: &mut Counts,
-) -> bool {
+pub fn feed_cuts(list: &[u8], bytes: &Room, size: usize) -> bool {
     let mut agrees = true;
     let mut cut = 0;
     let mut part: u64 = 0;
     while part < 8 {
-        let same = feed_cut(
-            list,
-            bytes,
-            size,
-            cut,
-            table,
-            reals,
-            counts,
-            spare_reals,
-            spare_counts,
-        );
-        agrees = agrees & same;
+        agrees = agrees & feed_cut(list, bytes, size, cut);
         cut = least(wrapping_add_usize(cut, 1 + size / 8), size);
         part += 1;
     }

@@ -7,59 +7,31 @@ mod tally;
 
 ghost use Prim.Native.Nat.{_*_, _≤_};
 ghost use lib.ListN.{length};
-use feeding::Counts;
-use feeding::Reals;
-use feeding::Room;
-use feeding::Table;
 use libc::STDIN_FILENO;
 use list::below;
 use tally::Tally;
 
 // Whether the input at the list's begin agrees.
-fn agrees_at(
-    list: &[u8],
-    room: &mut Room,
-    table: &mut Table,
-    reals: &mut Reals,
-    counts: &mut Counts,
-    spare_reals: &mut Reals,
-    spare_counts: &mut Counts,
-) -> bool {
-    list::load(list, room);
-    feeding::feed_cuts(
-        list,
-        room,
-        below(list, 1, 1024),
-        table,
-        reals,
-        counts,
-        spare_reals,
-        spare_counts,
-    )
+fn agrees_at(list: &[u8]) -> bool {
+    let mut room = [0u8; 1024];
+    list::load(list, &mut room);
+    feeding::feed_cuts(list, &room, below(list, 1, 1024))
 }
 
 // The inputs of a list of so many words one after the other.
-fn replay(
-    list: &[u8],
-    words: usize,
-    tally: &mut Tally,
-    room: &mut Room,
-    table: &mut Table,
-    reals: &mut Reals,
-    counts: &mut Counts,
-    spare_reals: &mut Reals,
-    spare_counts: &mut Counts,
-)
+fn replay(list: &[u8], words: usize) -> Tally
     requires { ⌜ words * 17 ≤ length (now list) ⌝ }
 {
+    let mut tally = [0u64; 15];
     let mut at = 0;
     while at < words {
         let start = at * 17;
         let here = &list[start..];
-        let agrees = agrees_at(here, room, table, reals, counts, spare_reals, spare_counts);
-        tally::count(tally, list::ends_in(here), agrees);
+        let more = tally::count(tally, list::ends_in(here), agrees_at(here));
+        tally = more;
         at = at + 1 + below(here, 0, 4096);
     }
+    tally
 }
 
 // The list read into `text`; how many words it has.
@@ -69,49 +41,15 @@ fn read(text: &mut [u8]) -> usize
     io::read_full(STDIN_FILENO, text) / 17
 }
 
-// The rooms come as references to arrays, so that the proof sees their lengths and not their zeros.
-fn run(
-    text: &mut [u8; 1048576],
-    tally: &mut Tally,
-    room: &mut Room,
-    table: &mut Table,
-    reals: &mut Reals,
-    counts: &mut Counts,
-    spare_reals: &mut Reals,
-    spare_counts: &mut Counts,
-) {
+// The list read and replayed, and the tally's lines. The text comes as a reference to an array, so that the proof sees its length and not
+// its zeros.
+fn run(text: &mut [u8; 1048576]) {
     let words = read(text);
-    replay(
-        text,
-        words,
-        tally,
-        room,
-        table,
-        reals,
-        counts,
-        spare_reals,
-        spare_counts,
-    );
-    tally::print(tally);
+    let tally = replay(text, words);
+    tally::print(&tally);
 }
 
 fn main() {
     let mut text = [0u8; 1048576];
-    let mut tally = [0u64; 15];
-    let mut room = [0u8; 1024];
-    let mut table = [0u64; 16832];
-    let mut reals = [0.0f64; 2816];
-    let mut counts = [0u64; 1344];
-    let mut spare_reals = [0.0f64; 2816];
-    let mut spare_counts = [0u64; 1344];
-    run(
-        &mut text,
-        &mut tally,
-        &mut room,
-        &mut table,
-        &mut reals,
-        &mut counts,
-        &mut spare_reals,
-        &mut spare_counts,
-    );
+    run(&mut text);
 }

@@ -6,17 +6,20 @@ use std::num::wrapping_add_u64;
 // How many inputs end in each number, 0 for no refusal; then how many agree, and how many there are.
 pub type Tally = [u64; 15];
 
+// 1 for an input that agrees, 0 for any other.
 fn one_if(test: bool) -> u64 {
     if test { 1 } else { 0 }
 }
 
-// One more input, which ends in this number.
-pub fn count(tally: &mut Tally, number: usize, agrees: bool)
+// The tally with one more input, which ends in this number.
+pub fn count(tally: Tally, number: usize, agrees: bool) -> Tally
     requires { ⌜ number < 13 ⌝ }
 {
-    tally[number] = wrapping_add_u64(tally[number], 1);
-    tally[13] = wrapping_add_u64(tally[13], one_if(agrees));
-    tally[14] = wrapping_add_u64(tally[14], 1);
+    let mut counted = tally;
+    counted[number] = wrapping_add_u64(counted[number], 1);
+    counted[13] = wrapping_add_u64(counted[13], one_if(agrees));
+    counted[14] = wrapping_add_u64(counted[14], 1);
+    counted
 }
 
 // How many inputs end in a refusal of this number, where there are any; 0 stands for none.
@@ -30,6 +33,7 @@ fn print_ending(number: u64, many: u64) {
     }
 }
 
+// How many inputs agree, of how many.
 fn print_agreed(agreed: u64, all: u64) {
     io::write_all(STDOUT_FILENO, b"inputs: ");
     io::print_decimal(STDOUT_FILENO, agreed);

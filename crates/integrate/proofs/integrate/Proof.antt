@@ -9,11 +9,11 @@ use Rattle.integrate.proofs.integrate.Statement.{statement}
 use Rattle.integrate.proofs.integrate.Tie as tie
 
 abbrev Inv-loop : tie.InvT-loop
-Inv-loop text₀ table₀ reals₀ counts₀ spare-reals₀ spare-counts₀ run₀ held₀ left₀ text table reals counts spare-reals spare-counts run held left =
+Inv-loop text₀ table₀ reals₀ counts₀ run₀ held₀ left₀ text table reals counts run held left =
     (held < length text) × (length text ≡ length text₀)
 
 abbrev μ-loop : tie.MeasureT-loop
-μ-loop text₀ table₀ reals₀ counts₀ spare-reals₀ spare-counts₀ run₀ held₀ left₀ text table reals counts spare-reals spare-counts run held left =
+μ-loop text₀ table₀ reals₀ counts₀ run₀ held₀ left₀ text table reals counts run held left =
     left
 
 beginning-requires : tie.Need-beginning-requires Inv-loop μ-loop
@@ -38,7 +38,7 @@ loop-less : tie.Need-loop-less Inv-loop μ-loop
 loop-less c = search needs
 
 loop-again : tie.Need-loop-again Inv-loop μ-loop
-loop-again c = (omega (arith, c .before .before .before .before .before .feed-once .ensures (not-false _ (c .before .if1 .left)), c .before .before .before .before .before .before .before .before .before .before .before .before .before .before .before .before .pre), omega arith)
+loop-again c = (omega (arith, c .before .before .before .before .before .feed-once .ensures (not-false _ (c .before .if1 .left)), c .before .before .before .before .before .before .before .before .before .before .before .before .before .before .pre), omega arith)
 
 same-length-2 : tie.Need-same-length-2 Inv-loop μ-loop
 same-length-2 c = search needs

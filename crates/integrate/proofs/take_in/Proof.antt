@@ -21,7 +21,7 @@ pour-requires : tie.Need-pour-requires
 pour-requires c κs = search needs
 
 keep-requires : tie.Need-keep-requires
-keep-requires c κs = (omega (arith, simp length-take at (c .before .before .pour .ensures .0)), c .before .before .before .before .before .before .before .before .before .before .pre)
+keep-requires c κs = (omega (arith, simp length-take at (c .before .before .pour .ensures .0)), c .before .before .before .before .before .before .before .before .pre)
 
 is-over-requires : tie.Need-is-over-requires
 is-over-requires c κs = search needs
@@ -33,7 +33,7 @@ returns : tie.Need-returns
 returns c =
     let k = c .before .before .before .before .keep .ensures in
     let p = c .before .before .before .before .before .before .before .pour in
-    let a = c .before .before .before .before .before .before .before .before .before .before .before .before .before .before .before in (
+    let a = c .before .before .before .before .before .before .before .before .before .before .before .before .before in (
       record { taken = p .result .taken; many = k .0; kept = k .1; turns = λ h. p .ensures .1 .0 (first-holds _ _ _ h) },
       λ h. let d = sym (c .is-over .ensures) ∙ not-true _ (last-holds (p .result .written) (ltb (a .args .held) (a .args .full)) _ h) in left-short (a .args .text .now) (a .args .full) (p .result .taken) _ (a .pre) (k .0) (p .ensures .1 .1 (first-holds _ _ _ h) d),
     )

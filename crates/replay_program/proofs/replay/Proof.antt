@@ -6,12 +6,10 @@ use Rattle.replay_program.proofs.replay.Statement.{statement}
 use Rattle.replay_program.proofs.replay.Tie as tie
 
 abbrev Inv-loop : tie.InvT-loop
-Inv-loop list words tally₀ room₀ table₀ reals₀ counts₀ spare-reals₀ spare-counts₀ at₀ tally room table reals counts spare-reals spare-counts at =
-    Unit {0}
+Inv-loop list words tally₀ at₀ tally at = Unit {0}
 
 abbrev μ-loop : tie.MeasureT-loop
-μ-loop list words tally₀ room₀ table₀ reals₀ counts₀ spare-reals₀ spare-counts₀ at₀ tally room table reals counts spare-reals spare-counts at =
-    words - at
+μ-loop list words tally₀ at₀ tally at = words - at
 
 loop-holds : tie.Need-loop-holds Inv-loop μ-loop
 loop-holds c = tt
@@ -28,11 +26,11 @@ part-here-start c = omega arith
 part-here-end : tie.Need-part-here-end Inv-loop μ-loop
 part-here-end c = omega arith
 
-agrees-at-requires : tie.Need-agrees-at-requires Inv-loop μ-loop
-agrees-at-requires c κs = search needs
-
 ends-in-requires : tie.Need-ends-in-requires Inv-loop μ-loop
 ends-in-requires c κs = search needs
+
+agrees-at-requires : tie.Need-agrees-at-requires Inv-loop μ-loop
+agrees-at-requires c κs = search needs
 
 count-requires : tie.Need-count-requires Inv-loop μ-loop
 count-requires c κs = search needs
@@ -53,7 +51,7 @@ loop-again : tie.Need-loop-again Inv-loop μ-loop
 loop-again c = tt
 
 returns : tie.Need-returns Inv-loop μ-loop
-returns c = tt
+returns c = search needs
 
 pub replay-spec : {M : Type 1} → statement M
 replay-spec =
@@ -66,8 +64,8 @@ replay-spec =
     sub-here
     part-here-start
     part-here-end
-    agrees-at-requires
     ends-in-requires
+    agrees-at-requires
     count-requires
     add-at
     below-requires

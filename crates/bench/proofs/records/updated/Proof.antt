@@ -5,10 +5,10 @@ use Rattle.bench.proofs.records.updated.Statement.{statement}
 use Rattle.bench.proofs.records.updated.Tie as tie
 
 abbrev Inv-loop : tie.InvT-loop
-Inv-loop room count record₀ i₀ «record» i = i ≤ count
+Inv-loop count room record₀ i₀ «record» i = i ≤ count
 
 abbrev μ-loop : tie.MeasureT-loop
-μ-loop room count record₀ i₀ «record» i = count - i
+μ-loop count room record₀ i₀ «record» i = count - i
 
 sum-pairs-requires : tie.Need-sum-pairs-requires Inv-loop μ-loop
 sum-pairs-requires c κs = search needs
@@ -25,8 +25,8 @@ mul-record c = search needs
 mul-record-2 : tie.Need-mul-record-2 Inv-loop μ-loop
 mul-record-2 c = search needs
 
-element-copy-out-record : tie.Need-element-copy-out-record Inv-loop μ-loop
-element-copy-out-record c = search needs
+array-read-record : tie.Need-array-read-record Inv-loop μ-loop
+array-read-record c = search needs
 
 mul-record-3 : tie.Need-mul-record-3 Inv-loop μ-loop
 mul-record-3 c = search needs
@@ -37,8 +37,8 @@ add-record c = search needs
 mul-record-4 : tie.Need-mul-record-4 Inv-loop μ-loop
 mul-record-4 c = search needs
 
-element-copy-out-record-2 : tie.Need-element-copy-out-record-2 Inv-loop μ-loop
-element-copy-out-record-2 c = search needs
+array-read-record-2 : tie.Need-array-read-record-2 Inv-loop μ-loop
+array-read-record-2 c = search needs
 
 add-record-2 : tie.Need-add-record-2 Inv-loop μ-loop
 add-record-2 c = search needs
@@ -81,11 +81,11 @@ updated-spec =
     loop-holds
     mul-record
     mul-record-2
-    element-copy-out-record
+    array-read-record
     mul-record-3
     add-record
     mul-record-4
-    element-copy-out-record-2
+    array-read-record-2
     add-record-2
     update-iter-requires
     enum-known-number

@@ -8,16 +8,16 @@ use Rattle.replay_plan.proofs.cases.replay.Statement.{statement}
 use Rattle.replay_plan.proofs.cases.replay.Tie as tie
 
 abbrev Inv-loop : tie.InvT-loop
-Inv-loop list base₀ out₀ table₀ words agreed₀ all₀ at₀ base out table agreed all at = (length base ≡ 2048) × (length out ≡ 2048) × (length table ≡ 512) × (agreed ≤ 65536 * at) × (all ≤ 65536 * at)
+Inv-loop list base₀ words agreed₀ all₀ at₀ base agreed all at = (length base ≡ 2048) × (agreed ≤ 65536 * at) × (all ≤ 65536 * at)
 
 abbrev μ-loop : tie.MeasureT-loop
-μ-loop list base₀ out₀ table₀ words agreed₀ all₀ at₀ base out table agreed all at = words - at
+μ-loop list base₀ words agreed₀ all₀ at₀ base agreed all at = words - at
 
 words-requires : tie.Need-words-requires Inv-loop μ-loop
 words-requires c κs = search needs
 
 loop-holds : tie.Need-loop-holds Inv-loop μ-loop
-loop-holds c = (refl, refl, refl, omega arith, omega arith)
+loop-holds c = (refl, omega arith, omega arith)
 
 returns : tie.Need-returns Inv-loop μ-loop
 returns c = tt
@@ -33,12 +33,6 @@ load-requires c κs = search needs
 
 slice-aggregate-run : tie.Need-slice-aggregate-run Inv-loop μ-loop
 slice-aggregate-run c = search needs
-
-slice-aggregate-run-2 : tie.Need-slice-aggregate-run-2 Inv-loop μ-loop
-slice-aggregate-run-2 c = search needs
-
-slice-aggregate-run-3 : tie.Need-slice-aggregate-run-3 Inv-loop μ-loop
-slice-aggregate-run-3 c = search needs
 
 run-requires : tie.Need-run-requires Inv-loop μ-loop
 run-requires c κs = search needs
@@ -59,8 +53,8 @@ loop-less : tie.Need-loop-less Inv-loop μ-loop
 loop-less c = search needs
 
 loop-again : tie.Need-loop-again Inv-loop μ-loop
-loop-again c = let r = c .before .before .before .before in let h = r .before .before .before .before .before .before .before in
-    (search needs, search needs, search needs, omega (arith, r .run .ensures, h .head .ensures), omega (arith, h .head .ensures))
+loop-again c = let r = c .before .before in let h = r .before .before .before .before .before in
+    (search needs, omega (arith, r .run .ensures, h .head .ensures), omega (arith, h .head .ensures))
 
 returns-2 : tie.Need-returns-2 Inv-loop μ-loop
 returns-2 c = tt
@@ -78,8 +72,6 @@ replay-spec =
     slice-aggregate-load
     load-requires
     slice-aggregate-run
-    slice-aggregate-run-2
-    slice-aggregate-run-3
     run-requires
     add-agreed
     add-all

@@ -1,20 +1,18 @@
 -- At most as many cases agree as were run.
 use Prim.Native.Nat.{_-_, _≤_}
-use mathlib.Core.Path.{_≡_, refl}
 use native.Mathlib.Omega.{arith}
 use borrow.Author.Needs.{needs}
-use lib.ListN.{length}
 use Rattle.replay_plan.proofs.cases.run.Statement.{statement}
 use Rattle.replay_plan.proofs.cases.run.Tie as tie
 
 abbrev Inv-loop : tie.InvT-loop
-Inv-loop list s base out₀ table₀ cases codes agreed₀ case₀ out table agreed case = (case ≤ cases) × (agreed ≤ case) × (length out ≡ length out₀) × (length table ≡ length table₀)
+Inv-loop list s base cases codes agreed₀ case₀ agreed case = (case ≤ cases) × (agreed ≤ case)
 
 abbrev μ-loop : tie.MeasureT-loop
-μ-loop list s base out₀ table₀ cases codes agreed₀ case₀ out table agreed case = cases - case
+μ-loop list s base cases codes agreed₀ case₀ agreed case = cases - case
 
 loop-holds : tie.Need-loop-holds Inv-loop μ-loop
-loop-holds c = (omega arith, omega arith, refl, refl)
+loop-holds c = (omega arith, omega arith)
 
 add-code-of : tie.Need-add-code-of Inv-loop μ-loop
 add-code-of c = omega arith
@@ -38,13 +36,7 @@ loop-less : tie.Need-loop-less Inv-loop μ-loop
 loop-less c = omega arith
 
 loop-again : tie.Need-loop-again Inv-loop μ-loop
-loop-again c = (omega arith, omega (arith, c .equal .ensures), search needs, search needs)
-
-same-length : tie.Need-same-length Inv-loop μ-loop
-same-length c = c .before .loop .inv .2
-
-same-length-2 : tie.Need-same-length-2 Inv-loop μ-loop
-same-length-2 c = c .before .loop .inv .3
+loop-again c = (omega arith, omega (arith, c .equal .ensures))
 
 returns : tie.Need-returns Inv-loop μ-loop
 returns c = omega arith
@@ -64,6 +56,4 @@ run-spec =
     add-case
     loop-less
     loop-again
-    same-length
-    same-length-2
     returns)

@@ -4,10 +4,10 @@ use Rattle.replay_program.proofs.feeding.feed_cut.Statement.{statement}
 use Rattle.replay_program.proofs.feeding.feed_cut.Tie as tie
 
 abbrev Inv-loop : tie.InvT-loop
-Inv-loop list bytes size cut table₀ reals₀ counts₀ spare-reals₀ spare-counts₀ lines fed₀ left₀ table reals counts spare-reals spare-counts fed left = Unit {0}
+Inv-loop list bytes size cut table₀ reals₀ counts₀ lines fed₀ left₀ table reals counts fed left = Unit {0}
 
 abbrev μ-loop : tie.MeasureT-loop
-μ-loop list bytes size cut table₀ reals₀ counts₀ spare-reals₀ spare-counts₀ lines fed₀ left₀ table reals counts spare-reals spare-counts fed left = left
+μ-loop list bytes size cut table₀ reals₀ counts₀ lines fed₀ left₀ table reals counts fed left = left
 
 lines-of-requires : tie.Need-lines-of-requires Inv-loop μ-loop
 lines-of-requires c κs = search needs

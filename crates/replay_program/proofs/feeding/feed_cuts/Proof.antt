@@ -5,10 +5,10 @@ use Rattle.replay_program.proofs.feeding.feed_cuts.Statement.{statement
 use Rattle.replay_program.proofs.feeding.feed_cuts.Tie as tie
 
 abbrev Inv-loop : tie.InvT-loop
-Inv-loop list bytes size table₀ reals₀ counts₀ spare-reals₀ spare-counts₀ agrees₀ cut₀ part₀ table reals counts spare-reals spare-counts agrees cut part = part ≤ 8
+Inv-loop list bytes size agrees₀ cut₀ part₀ agrees cut part = part ≤ 8
 
 abbrev μ-loop : tie.MeasureT-loop
-μ-loop list bytes size table₀ reals₀ counts₀ spare-reals₀ spare-counts₀ agrees₀ cut₀ part₀ table reals counts spare-reals spare-counts agrees cut part = 8 - part
+μ-loop list bytes size agrees₀ cut₀ part₀ agrees cut part = 8 - part
 
 loop-holds : tie.Need-loop-holds Inv-loop μ-loop
 loop-holds c = search needs
