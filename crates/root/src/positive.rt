@@ -5,6 +5,7 @@ ghost use mathlib.Core.Bool.{true, _&&_};
 ghost use lib.Ieee.{binary64, add, sub, mul, le, ofBits, toBits};
 ghost use lib.Dec.{T};
 ghost use lib.Ieee.Positive.{positive};
+ghost use Rattle.doubles.specs.Bound.{Within};
 ghost use Rattle.careful.specs.Digits.{NearRoot};
 ghost use Rattle.careful.specs.Root.{rootOf};
 ghost use Rattle.root.specs.Digits.{Right, eps, normalOf, unitOf};
@@ -18,22 +19,26 @@ pub fn is_normal(x: f64) -> bool
 
 // About the root of x, for an x from 1/2 to below 2: a polynomial, its leading half h, whose square is a double, and the rest
 // from a fraction that equals the root of x less h up to the fifth power of x / h^2 - 1. Nothing is promised of it: it is
-// judged, and of ten thousand two or three are moved, by one.
-pub fn guess(x: f64) -> f64 {
-    let xx = x * x;
-    let low = 0.2693403912480691 + 1.0933932121302499 * x;
-    let high = (0.1878871331688795 * x - 0.5217953797472239) - 0.02863648528183046 * xx;
-    let h = (low + xx * high + 100663296.0) - 100663296.0;
+// judged, and of ten thousand one or two are moved, by one. The polynomial is of degree 4, as two factors that need not wait
+// for each other: an update waits for two guesses one after the other.
+pub fn guess(x: f64) -> f64
+    requires { ⌜ Within x 2 ⌝ }
+{
+    let first = (x + 0.221088069527559) * (0.12888292546866997 - 0.02863648528183046 * x);
+    let second = x * (x - 2.2815437127222586) + 9.452371751940333;
+    let bits = f64::to_bits(first * second);
+    let h = f64::from_bits(bits - bits % 0x800_0000);
     let hh = h * h;
     let sum = x + hh;
     let above = 0.8 * h * (x - hh) * sum;
-    let below = sum * sum - 0.8 * xx;
+    let below = sum * sum - 0.8 * (x * x);
     h + above / below
 }
 
 // Fifty-three digits as a number from 1 to below 2, or where odd is 1 half of that.
 fn scaled(digits: u64, odd: u64) -> f64
     requires { ⌜ (digits < 2 ^ 53) × (odd ≤ 1) ⌝ }
+    ensures { λ r. ⌜ Within r 2 ⌝ }
 {
     f64::from_bits((1022 - odd) * 0x10_0000_0000_0000 + digits)
 }

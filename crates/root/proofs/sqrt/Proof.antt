@@ -9,6 +9,7 @@ use Rattle.root.specs.Digits.{Right}
 use Rattle.doubles.proofs.Truth.{was}
 use Rattle.doubles.proofs.Bits.{no-nan}
 use Rattle.root.proofs.Settled.{normal, settles, joins, compares}
+use Rattle.root.proofs.Starts.{starts}
 use Rattle.root.proofs.sqrt.Statement.{statement}
 use Rattle.root.proofs.sqrt.Tie as tie
 
@@ -33,7 +34,7 @@ unit-requires : tie.Need-unit-requires
 unit-requires c κs = search needs
 
 guess-requires : tie.Need-guess-requires
-guess-requires c κs = search needs
+guess-requires c κs = starts (c .unit .result) (toBits binary64 (c .before .before .before .args .x)) (c .unit .ensures)
 
 unit-requires-2 : tie.Need-unit-requires-2
 unit-requires-2 c κs = search needs

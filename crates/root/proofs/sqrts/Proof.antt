@@ -12,6 +12,7 @@ use Rattle.root.specs.Pair.{rootsOf}
 use Rattle.doubles.proofs.Truth.{was, both}
 use Rattle.doubles.proofs.Bits.{no-nan}
 use Rattle.root.proofs.Settled.{normal, settles, joins, compares}
+use Rattle.root.proofs.Starts.{starts}
 use Rattle.root.proofs.sqrts.Statement.{statement}
 use Rattle.root.proofs.sqrts.Tie as tie
 
@@ -62,13 +63,13 @@ unit-requires : tie.Need-unit-requires
 unit-requires c κs = search needs
 
 guess-requires : tie.Need-guess-requires
-guess-requires c κs = search needs
+guess-requires c κs = starts (c .unit .result) (toBits binary64 (c .before .before .before .before .args .x)) (c .unit .ensures)
 
 unit-requires-2 : tie.Need-unit-requires-2
 unit-requires-2 c κs = search needs
 
 guess-requires-2 : tie.Need-guess-requires-2
-guess-requires-2 c κs = search needs
+guess-requires-2 c κs = starts (c .unit2 .result) (toBits binary64 (c .before .before .before .before .before .before .args .y)) (c .unit2 .ensures)
 
 unit-requires-3 : tie.Need-unit-requires-3
 unit-requires-3 c κs = search needs

@@ -38,7 +38,7 @@ scaled-requires c κs =
     (splits (s .args .x) (a .split .result) (held s) (above t) (a .split .ensures) .short, omega arith)
 
 guess-requires : tie.Need-guess-requires
-guess-requires c κs = search needs
+guess-requires c κs = c .scaled .ensures
 
 root-from-requires-2 : tie.Need-root-from-requires-2
 root-from-requires-2 c κs = search needs
