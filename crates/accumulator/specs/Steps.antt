@@ -1,6 +1,6 @@
 -- What the Rust's `add_sample`, `merge_samples_no_reset`, `clear_samples` and `shallow_copy` make of a record.
 use Prim.Native.Nat.{ℕ, _+_}
-use mathlib.Core.Bool.{Bool, true, false, _||_, cond}
+use mathlib.Core.Bool.{Bool, _||_, cond}
 use lib.Dec.{eqb}
 use lib.Ieee.{Float, binary64, add, mul, lt, eq}
 use Rattle.doubles.specs.Numbers.{zero64}

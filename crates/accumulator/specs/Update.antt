@@ -1,5 +1,5 @@
 -- `update_iter`, in the Rust's order of operations.
-use Prim.Native.Nat.{ℕ, _+_}
+use Prim.Native.Nat.{_+_}
 use mathlib.Core.Bool.{Bool, cond}
 use lib.Dec.{leb, eqb}
 use lib.Ieee.{Float, binary64, ofBits, add, sub, mul, div, eq}

@@ -5,7 +5,7 @@ use native.Mathlib.Nat.{mul-one, mul-comm, mul-assoc, le-trans, le-of-eq, lt-of-
 use native.Mathlib.Omega.{arith}
 use mathlib.Core.Bool.{Bool, true, false, not, cond, true≢false}
 use lib.Arith.{le→nltb}
-use lib.Dec.{T, eqb, leb, ltb, eqb-refl, leb→le, nleb→lt, lit<, lit≤}
+use lib.Dec.{T, eqb, leb, ltb, eqb-refl, lit<, lit≤}
 use lib.Pow.{pow-add, pow-pos, pow-mono, shl-lt}
 use lib.Count.{leadingZeros, leading-top}
 use lib.Ieee.{Float, nan, inf, fin, binary64, up, down, size, odd, fits, isNan, nanBits, ofFields, ofBits, toBits, le, hid, top}

@@ -15,7 +15,7 @@ use Rattle.plan.specs.Paper as plan
 use Rattle.plan.specs.Calls.{sizesOf}
 use Rattle.plan.proofs.Tables.{Words}
 use Rattle.accumulator.specs.Calls as account
-use Rattle.model.specs.Grid.{Grid, axes, bins}
+use Rattle.model.specs.Grid.{Grid}
 use Rattle.model.specs.Sound.{sound}
 use Rattle.model.specs.Update as model
 use Rattle.lent.specs.Memory.{Memory, memory}

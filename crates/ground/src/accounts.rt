@@ -1,7 +1,5 @@
 // The accumulators of grids and of their bins: each is 14 reals and 7 counts of lent memory, worked on as a record.
 ghost use mathlib.Core.Path.{_≡_};
-ghost use Prim.Native.Nat.{_+_, _≤_};
-ghost use lib.ListN.{length};
 ghost use lib.Ieee.{nan};
 ghost use Rattle.lent.specs.Memory.{memory, fromOn, recordAt, stored};
 ghost use Rattle.lent.specs.Cleared.{clearedAt};

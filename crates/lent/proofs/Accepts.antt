@@ -17,7 +17,7 @@ use Rattle.accumulator.specs.Steps.{zeroCount, addedOf}
 use Rattle.axis.specs.Edges.{inUnit, binOf}
 use Rattle.axis.specs.Edges as Edges
 use Rattle.axis.proofs.Bins.{bin-rule}
-use Rattle.model.specs.Grid.{Grid, Child, Head, axes, bins, grid, withHead, withBin}
+use Rattle.model.specs.Grid.{Grid, Child, Head, axes, bins, withHead, withBin}
 use Rattle.model.specs.Draw.{weightAt}
 use Rattle.model.specs.Sound.{chance, sound, formedGrid, allSound, keptAxis, keptAxisList, keptGrid, keptBins, keptChild}
 use Rattle.model.specs.Train.{faultOf, faultOfChild, trainAxis, trainAll, trainAxes, trainGrid, trainBin, trainChild}

@@ -36,7 +36,7 @@ use Rattle.lent.proofs.Renewals.{within-all}
 use Rattle.lent.proofs.Updates.{standing-ready, readAxes, updates-below, updates-above, updated-axes, updates-holding}
 use Rattle.lent.proofs.FoundedOwn.{Within, within-same, within-on, stored-within}
 use Rattle.lent.proofs.Turns.{Turned, no-either, childAfter, childrenAfter}
-use Rattle.plan.specs.Plan.{axes, bins}
+use Rattle.plan.specs.Plan.{axes}
 use Rattle.plan.specs.Needs.{after}
 
 -- ---- an accumulator

@@ -8,7 +8,7 @@ use lib.Ieee.{nan}
 use Rattle.model.specs.Axes.{Axis, clearedAxis}
 use Rattle.lent.specs.declared.AxesAt.{AxesAt}
 use Rattle.lent.specs.Layout.{axisReals, axisCounts, axisAt, axesFrom}
-use Rattle.lent.specs.Memory.{Memory, memory, overAxes, Asked}
+use Rattle.lent.specs.Memory.{Memory, overAxes, Asked}
 use Rattle.lent.specs.Drawn.{Standing, Stands, axesAt}
 use Rattle.lent.specs.Laid.{waitlessAt}
 use Rattle.lent.specs.Onward.{onward}

@@ -8,7 +8,7 @@ use borrow.Author.Tests.{ne-eqb, lt-ltb, le-ltb}
 use lib.ListN.{length, getD}
 use lib.Ieee.{Float}
 use Rattle.axis.specs.Edges.{inUnit}
-use Rattle.model.specs.Grid.{Grid, Head, axes, bins, nothing, grid, many}
+use Rattle.model.specs.Grid.{Grid, Head, axes, bins, nothing}
 use Rattle.model.specs.Train.{faultOfAll, faultOfAxes, faultOf, faultOfBin, faultOfChild}
 use Rattle.lent.specs.Tree.{axesPlace, axesGridAt, childIn, binsIn}
 use Rattle.lent.specs.Sampled.{entries}

@@ -11,7 +11,7 @@ use Rattle.doubles.specs.Inverse.{invOf}
 use Rattle.accumulator.specs.declared.StatisticsAccumulator.{StatisticsAccumulator}
 use Rattle.accumulator.specs.Record.{fresh}
 use Rattle.model.specs.Axes.{Axis, emptyAxis, freshAxis, freshAxes}
-use Rattle.model.specs.Grid.{Grid, axes, freshBin, freshBins}
+use Rattle.model.specs.Grid.{Grid, freshBin, freshBins}
 use Rattle.lent.specs.Layout.{axisReals, axisCounts, axisAt, axesFrom}
 use Rattle.lent.specs.Memory.{Memory, memory, realsOf, countsOf, recordAt, stored}
 use Rattle.lent.specs.Tree.{axesPlanAt, axesPlace, axesGridAt, binIn, binsIn, AxesLaid}

@@ -21,7 +21,7 @@ use Rattle.plan.proofs.Rereads.{taken-words}
 use Rattle.plan.proofs.Records.{Stands, axes-record, bins-record, Upto, upto-after, child-record, before-next, passed-stands}
 use Rattle.model.specs.Axes.{AxesGrid, freshAxes}
 use Rattle.model.specs.Grid as model
-use Rattle.lent.specs.Memory.{Memory, memory}
+use Rattle.lent.specs.Memory.{Memory}
 use Rattle.lent.specs.Tree.{axesPlanAt, axesGridAt, headAt, childIn, nodeAt, gridAt}
 use Rattle.lent.specs.Founded.{laidAxes, laidOwn, laidChild, laidChildren, laidNode, laidGrid, freshChildren, freshNode, freshAt}
 use Rattle.lent.proofs.Same.{Same, same-refl, same-on, same-sym, same-within}

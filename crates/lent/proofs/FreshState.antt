@@ -10,7 +10,6 @@ use lib.Dec.{ltb}
 use lib.ListN.{length, getD, replicate}
 use Rattle.doubles.proofs.Truth.{both}
 use Rattle.doubles.proofs.Steps.{inv-above, inv-finite}
-use Rattle.accumulator.specs.Record.{fresh}
 use Rattle.accumulator.proofs.Laws.{fresh-sound}
 use Rattle.axis.specs.Edges.{evenEdges}
 use Rattle.axis.proofs.Fresh.{length-even, fresh-formed}
@@ -25,7 +24,7 @@ use Rattle.plan.specs.Needs.{after, untaken, needsOf}
 use Rattle.plan.proofs.Plans.{plan-was-plan, read-passes}
 use Rattle.plan.proofs.Records.{passed-stands}
 use Rattle.model.specs.Axes.{AxesPlan, freshAxis, freshAxes}
-use Rattle.model.specs.Grid.{Grid, axes, bins, nothing, grid, freshBin, freshBins, freshHead, freshGrid}
+use Rattle.model.specs.Grid.{Grid, axes, bins, grid, freshBin, freshBins, freshHead, freshGrid}
 use Rattle.model.specs.Sound.{sound, formedAxisList, keptAxisList, formedGrid, formedBins, formedChild, keptGrid, keptBins, keptChild}
 use Rattle.lent.specs.Memory.{Memory}
 use Rattle.lent.specs.Tree.{axesPlanAt, childIn, AxesLaid, Laid}

@@ -16,7 +16,7 @@ use Rattle.axis.specs.declared.Probed.{Probed}
 use Rattle.axis.specs.declared.Probed.the-variants as probed
 use Rattle.axis.specs.Calls.{paperProbed}
 use Rattle.model.specs.Axes.{AxesGrid}
-use Rattle.model.specs.Grid.{Grid, Bins, Child, Head, axes, bins, more, nothing, grid, many}
+use Rattle.model.specs.Grid.{Grid, Bins, Child, Head, axes, bins, nothing, grid, many}
 use Rattle.model.specs.Probe.{Coordinate, through, probeAxes, probeGrid, probeBin, probeChild}
 use Rattle.lent.specs.declared.Coordinates.{Coordinates}
 use Rattle.lent.specs.declared.Region.{Region}

@@ -9,7 +9,7 @@ use lib.Ieee.{Float, nan}
 use Rattle.accumulator.specs.declared.StatisticsAccumulator.{StatisticsAccumulator}
 use Rattle.model.specs.Axes.{Axis}
 use Rattle.lent.specs.Layout.{axisReals, axisCounts, binAt, binsFrom, axisAt, axesFrom}
-use Rattle.lent.specs.Memory.{memory, realsOf, countsOf, recordAt}
+use Rattle.lent.specs.Memory.{realsOf, countsOf, recordAt}
 use Rattle.lent.proofs.Same.{Same, Alike, same-alike, alike-within, getD-sets}
 
 -- ---- accumulators

@@ -31,7 +31,7 @@ use Rattle.recut.proofs.Laws.{renew-sound}
 use Rattle.model.specs.Axes.{Axis, AxesPlan, emptyAxis}
 use Rattle.model.specs.Grid.{Head, Grid, Bins, Child, axes, bins, none, more, nothing, grid, withHead, withBin}
 use Rattle.model.specs.Sound.{allSound, keptAxis, keptAxisList, keptGrid, keptBins, keptChild, listed, formedAxis, formedAxisList, formedGrid, formedBins, formedChild, sound}
-use Rattle.model.specs.Update.{Outcome, trained, gatheredAxis, lastOr, binsAfter, recutTo, adaptedAxis, updateAxis, outcomeOf, updateAll, updateAxes, allIdle, raws, withProbabilities, adaptedBins, updateGrid, updateBins, updateChild}
+use Rattle.model.specs.Update.{Outcome, gatheredAxis, lastOr, binsAfter, recutTo, adaptedAxis, updateAxis, outcomeOf, updateAll, updateAxes, allIdle, raws, withProbabilities, adaptedBins, updateGrid, updateBins, updateChild}
 use Rattle.accumulator.proofs.Laws.{fresh-sound}
 use Rattle.lent.proofs.Judges.{zero-finite}
 use Rattle.lent.proofs.Turns.{no-either}

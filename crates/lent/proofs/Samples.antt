@@ -18,7 +18,7 @@ use Rattle.stream.specs.Xoshiro.{wordOf, stepOf}
 use Rattle.stream.specs.Calls.{unitOf, unitDrawnOf}
 use Rattle.accumulator.specs.Record as account
 use Rattle.plan.specs.Numbers.{wordsAt}
-use Rattle.model.specs.Grid.{Grid, Child, Head, Bin, axes, bins, grid, probabilities}
+use Rattle.model.specs.Grid.{Grid, Child, Head, Bin, axes, bins, probabilities}
 use Rattle.model.specs.Sound.{chance, sound, formedChild, keptChild}
 use Rattle.model.specs.Draw.{Sample, Drawing, unitAt, Placed, placedFrom, placedOf, drawAxes, weightAt, reached, over, drawBin, drawChild, drawNothing, drawGrid}
 use Rattle.lent.specs.declared.Traced.{Traced}

@@ -13,7 +13,7 @@ use Rattle.plan.specs.Numbers.{runOf, wordsAt}
 use Rattle.plan.specs.Ranges.{floorFits, ratioFits}
 use Rattle.plan.proofs.Ranges.{nan-floor, nan-ratio}
 use Rattle.plan.proofs.Records.{words-at}
-use Rattle.model.specs.Grid.{Grid, Bins, Child, Head, Bin, axes, bins, none, more, grid}
+use Rattle.model.specs.Grid.{Grid, Bins, Child, Head, Bin, axes, bins, none, more}
 use Rattle.model.specs.Sound.{chance, sound, formedGrid, formedBins, formedChild, formedAxisList, keptGrid, keptBins, keptChild, keptAxisList}
 use Rattle.lent.specs.Layout.{stretch, axesFrom}
 use Rattle.lent.specs.Memory.{recordAt}

@@ -4,10 +4,9 @@ use mathlib.Core.Bool.{Bool, true, false, not, _&&_}
 use mathlib.Core.List.{List, _++_}
 use Prim.Native.Nat.{ℕ, _-_}
 use native.Mathlib.Omega.{arith}
-use borrow.Author.Tests.{ne-eqb}
 use lib.ListN.{length, take, drop}
 use lib.Ieee.{Float}
-use Rattle.doubles.proofs.Truth.{failed, passed}
+use Rattle.doubles.proofs.Truth.{passed}
 use Rattle.plan.specs.declared.Needs.{Needs}
 use Rattle.plan.specs.declared.Sized.{Sized}
 use Rattle.plan.specs.declared.Sized.the-variants as sized

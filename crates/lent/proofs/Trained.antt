@@ -16,7 +16,7 @@ use Rattle.accumulator.specs.Steps.{zeroCount, replaced, addedOf}
 use Rattle.model.specs.Axes.{Axis}
 use Rattle.model.specs.Train.{trainAxis, trainAll}
 use Rattle.lent.specs.Layout.{binRecord, binAt, binsFrom, axisAt, axesFrom}
-use Rattle.lent.specs.Memory.{Memory, memory, overAxes, Asked}
+use Rattle.lent.specs.Memory.{Memory, overAxes, Asked}
 use Rattle.lent.specs.Trained.{binsOn, trainedAt, Cell}
 use Rattle.lent.proofs.Same.{Same, stretch-same}
 use Rattle.lent.proofs.Reading.{Holding, length-axes, length-bins, getD-all}

@@ -1,7 +1,7 @@
 // Whether two trees may be merged: what stands against it, 4, 11 or 8, each over both trees before the next.
 ghost use mathlib.Core.Path.{_≡_};
 ghost use mathlib.Core.Bool.{true};
-ghost use Prim.Native.Nat.{_+_, _-_, _*_, _≤_, _<_};
+ghost use Prim.Native.Nat.{_+_, _-_, _≤_, _<_};
 ghost use lib.ListN.{length, getD};
 ghost use lib.Ieee.{eq};
 ghost use Rattle.accumulator.specs.Record.{wellFormed};

@@ -1,6 +1,6 @@
 // Merging a tree into another in lent memory, once nothing stands against it: what a grid keeps of its own, then what hangs below it.
 ghost use mathlib.Core.Path.{_≡_};
-ghost use Prim.Native.Nat.{_+_, _-_, _*_, _≤_, _<_};
+ghost use Prim.Native.Nat.{_+_, _-_, _≤_, _<_};
 ghost use lib.ListN.{length, getD};
 ghost use Rattle.lent.specs.Memory.{memory};
 ghost use Rattle.lent.specs.Tree.{AxesLaid, BinsLaid, Laid};

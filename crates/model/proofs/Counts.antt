@@ -1,9 +1,8 @@
 -- An axis's bin counts, each a bin's counter and its waiting samples: what each call does to their sum.
-use mathlib.Core.Path.{_≡_, refl, sym, ap, _∙_, subst}
-use mathlib.Core.Bool.{Bool, true, false, cond, _&&_}
+use mathlib.Core.Path.{_≡_, refl, subst}
+use mathlib.Core.Bool.{Bool, true}
 use mathlib.Core.List.{List, [], _∷_, map}
-use Prim.Native.Nat.{ℕ, zero, suc, _+_, _^_, _≤_, _<_}
-use native.Mathlib.Nat.{add-assoc, add-zero}
+use Prim.Native.Nat.{ℕ, zero, suc, _+_, _^_, _<_}
 use native.Mathlib.Omega.{arith}
 use lib.ListN.{length, getD, set, replicate}
 use lib.Ieee.{Float}
@@ -11,16 +10,16 @@ use borrow.Author.Tests.{leb-true}
 use Rattle.doubles.specs.Paper.{gives}
 use Rattle.doubles.proofs.Truth.{both}
 use Rattle.accumulator.specs.declared.StatisticsAccumulator.{StatisticsAccumulator}
-use Rattle.accumulator.specs.Record.{fresh, wellFormed, withWaiting}
-use Rattle.accumulator.specs.Steps.{addedOf, mergedOf, clearedOf}
+use Rattle.accumulator.specs.Record.{fresh, withWaiting}
+use Rattle.accumulator.specs.Steps.{addedOf, clearedOf}
 use Rattle.accumulator.proofs.Laws.{added-waits, merged-waits}
 use Rattle.accumulator.proofs.Counts.{within, counts-of}
 use Rattle.axis.specs.Edges.{binOf}
 use Rattle.axis.specs.Scans.{allBounded}
 use Rattle.recut.specs.Pairs.{pairwise}
-use Rattle.recut.specs.Gather.{joinedCount, joinedCounts, sumOf}
+use Rattle.recut.specs.Gather.{joinedCounts, sumOf}
 use Rattle.recut.proofs.Laws.{joined-sum}
-use Rattle.model.specs.Axes.{Axis, AxesPlan, emptyAxis, freshAxis, clearedAxis}
+use Rattle.model.specs.Axes.{Axis, AxesPlan, emptyAxis, clearedAxis}
 use Rattle.model.specs.Sound.{allSound}
 use Rattle.model.specs.Train.{trainAxis}
 use Rattle.model.specs.Merge.{mergeBinRecords, mergeAxis}

@@ -1,6 +1,6 @@
 -- Edges: every call but an update leaves them alone, and an accepted update leaves edges that rise strictly from 0 to 1.
 use mathlib.Core.Path.{_≡_, refl, sym, subst}
-use mathlib.Core.Bool.{Bool, true, false, not, _&&_}
+use mathlib.Core.Bool.{true, false, not, _&&_}
 use Prim.Native.Nat.{ℕ, _+_, _≤_}
 use native.Mathlib.Omega.{arith}
 use mathlib.Core.Logic.{inl, inr}

@@ -2,9 +2,7 @@
 ghost use mathlib.Core.Path.{_≡_};
 ghost use Prim.Native.Nat.{_+_, _-_, _*_, _/_, _%_, _^_, _≤_, _<_};
 ghost use mathlib.Core.Bool.{true, _&&_};
-ghost use lib.Ieee.{binary64, add, sub, mul, le, ofBits, toBits};
-ghost use lib.Dec.{T};
-ghost use lib.Ieee.Positive.{positive};
+ghost use lib.Ieee.{binary64, add, sub, mul, le, ofBits};
 ghost use Rattle.doubles.specs.Bound.{Within};
 ghost use Rattle.careful.specs.Digits.{NearRoot};
 ghost use Rattle.careful.specs.Root.{rootOf};

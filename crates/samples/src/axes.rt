@@ -5,7 +5,7 @@ ghost use Prim.Native.Nat.{_≤_};
 ghost use lib.ListN.{length};
 ghost use Rattle.doubles.specs.Numbers.{one64};
 ghost use Rattle.axis.specs.Edges.{wellFormed, inUnit};
-ghost use Rattle.model.specs.Draw.{placeOn, walked, placedFrom, flooredOf};
+ghost use Rattle.model.specs.Draw.{placeOn, walked, placedFrom};
 ghost use Rattle.lent.specs.Drawn.{axesAt, Places, underFloor, Stands};
 ghost use Rattle.lent.specs.Selected.{Selects};
 use axis::Point;

@@ -5,8 +5,8 @@ use lib.ListN.{length, getD, take, drop}
 use lib.Ieee.{Float, binary64, ofBits, toBits}
 use Rattle.doubles.specs.Numbers.{zero64}
 use Rattle.accumulator.specs.declared.StatisticsAccumulator.{StatisticsAccumulator}
-use Rattle.model.specs.Axes.{Axis, AxesGrid}
-use Rattle.model.specs.Grid.{Bin, Head, Grid, Bins, Child, axes, bins, none, more, nothing, grid, many, probabilities, withHead}
+use Rattle.model.specs.Axes.{Axis}
+use Rattle.model.specs.Grid.{Grid, Bins, Child, axes, bins, none, more, nothing, grid, many, probabilities, withHead}
 
 unfoldable pub bitsOf : List Float → List ℕ
 bitsOf = map (toBits binary64)

@@ -29,7 +29,7 @@ use Rattle.axis.specs.declared.Point.{Point}
 use Rattle.axis.specs.Edges as Edges
 use Rattle.axis.specs.Calls.{probeOf, pointOf, drawOf}
 use Rattle.model.specs.Grid.{Grid, axes, bins, nothing, many, probabilities, freshBin, freshBins, freshHead, freshGrid, withHead, withBin}
-use Rattle.model.specs.Sound.{allSound, keptGrid, keptBins, keptChild, chance}
+use Rattle.model.specs.Sound.{keptGrid, keptBins, keptChild, chance}
 use Rattle.model.specs.Draw.{reached}
 use Rattle.model.specs.Train as Train
 use Rattle.model.specs.Train.{trainOf}

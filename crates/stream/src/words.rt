@@ -1,6 +1,6 @@
 // Words modulo 2^64, and their bytes.
 ghost use mathlib.Core.Path.{_≡_};
-ghost use Prim.Native.Nat.{_+_, _*_, _%_, _^_, _<_};
+ghost use Prim.Native.Nat.{_*_, _%_, _<_};
 ghost use Rattle.stream.specs.Words.{times, rotated};
 
 // a * b, modulo 2^64, from halves: the product of the upper halves is a multiple of 2^64 and falls away.

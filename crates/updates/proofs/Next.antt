@@ -4,7 +4,7 @@ use mathlib.Core.List.{List, []}
 use Prim.Native.Nat.{ℕ, _+_}
 use lib.ListN.{getD}
 use lib.Ieee.{Float}
-use Rattle.model.specs.Update.{Outcome, lastOr}
+use Rattle.model.specs.Update.{lastOr}
 use Rattle.lent.specs.declared.Rule.{Rule}
 use Rattle.lent.specs.Memory.{Memory}
 use Rattle.lent.specs.Renewed.{binsTo, recutAt, adaptedAt, updateAt}

@@ -9,7 +9,7 @@ ghost use Rattle.axis.specs.Scans.{allBounded};
 ghost use Rattle.recut.specs.Gather.{gatheredOf, joinedCounts};
 ghost use Rattle.recut.specs.Renew.{renewOf};
 ghost use Rattle.lent.specs.Layout.{stretch};
-ghost use Rattle.lent.specs.Memory.{memory, put};
+ghost use Rattle.lent.specs.Memory.{memory};
 ghost use Rattle.lent.specs.Drawn.{Stands};
 ghost use Rattle.lent.specs.Laid.{Roomy};
 ghost use Rattle.lent.specs.Renewed.{binsTo, Within, trainedFrom, keptAt, found, recutInto, recutAt, adaptedAt, updateAt, updateAllAt};

@@ -1,6 +1,5 @@
 -- Both tests are the definition's.
 use Rattle.accumulator.specs.Calls.{numbered}
-use native.Mathlib.Omega.{arith}
 use Rattle.accumulator.proofs.is_accepted.Statement.{statement}
 use Rattle.accumulator.proofs.is_accepted.Tie as tie
 

@@ -2,7 +2,6 @@
 use borrow.Author.Tests.{lt-leb, le-leb}
 use Rattle.doubles.proofs.Truth.{failed, passed}
 use Rattle.accumulator.specs.Calls.{keptOf, numbered, addSampleOf}
-use native.Mathlib.Omega.{arith}
 use Rattle.accumulator.proofs.sample_refusal.Statement.{statement}
 use Rattle.accumulator.proofs.sample_refusal.Tie as tie
 

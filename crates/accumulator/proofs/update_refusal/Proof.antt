@@ -1,6 +1,5 @@
 -- A record that is not well formed comes first.
 use Rattle.doubles.proofs.Truth.{failed, passed}
-use native.Mathlib.Omega.{arith}
 use Rattle.accumulator.proofs.update_refusal.Statement.{statement}
 use Rattle.accumulator.proofs.update_refusal.Tie as tie
 

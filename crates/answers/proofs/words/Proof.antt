@@ -2,10 +2,7 @@ use mathlib.Core.Path.{refl}
 use Rattle.answers.specs.List.{wordsOf}
 use Rattle.answers.proofs.words.Statement.{statement}
 use Rattle.answers.proofs.words.Tie as tie
-use Rattle.answers.proofs.words.Reads as reads
-use Rattle.answers.proofs.words.Lts as lts
 
--- src/lib.rt:28:1
 returns : tie.Need-returns
 unfolding wordsOf
 returns c = refl

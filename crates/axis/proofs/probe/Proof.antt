@@ -1,44 +1,29 @@
 use Rattle.doubles.proofs.Truth.{failed, passed}
 use Rattle.axis.specs.Calls.{paperProbed, probeOf}
 use Rattle.axis.proofs.Searches.{search-is}
-use native.Mathlib.Omega.{arith}
-use borrow.Author.Needs.{needs}
 use Rattle.axis.proofs.probe.Statement.{statement}
 use Rattle.axis.proofs.probe.Tie as tie
-use Rattle.axis.proofs.probe.Reads as reads
-use Rattle.axis.proofs.probe.Lts as lts
-use Rattle.axis.proofs.edges.bin_of.Reads as bin-of-reads
-use Rattle.axis.proofs.edges.weight_of.Reads as weight-of-reads
-use Rattle.axis.proofs.scans.in_unit.Reads as in-unit-reads
-use Rattle.axis.proofs.scans.is_well_formed.Reads as is-well-formed-reads
 
--- src/lib.rt:33:9
 is-well-formed-requires : tie.Need-is-well-formed-requires
 is-well-formed-requires c κs = tt
 
--- src/lib.rt:34:9
 returns : tie.Need-returns
 unfolding paperProbed probeOf
 returns c = rw (failed (c .before .is-well-formed .ensures) (c .if1 .taken))
 
--- src/lib.rt:36:9
 in-unit-requires : tie.Need-in-unit-requires
 in-unit-requires c κs = tt
 
--- src/lib.rt:37:9
 returns-2 : tie.Need-returns-2
 unfolding paperProbed probeOf
 returns-2 c = rw (passed (c .before .before .before .is-well-formed .ensures) (c .before .before .if1 .left), failed (c .before .in-unit .ensures) (c .if2 .taken))
 
--- src/lib.rt:39:44
 bin-of-requires : tie.Need-bin-of-requires
 bin-of-requires c κs = tt
 
--- src/lib.rt:39:20
 weight-of-requires : tie.Need-weight-of-requires
 weight-of-requires c κs = tt
 
--- src/lib.rt:30:1
 returns-3 : tie.Need-returns-3
 unfolding paperProbed probeOf
 returns-3 c = rw (passed (c .before .before .before .before .before .is-well-formed .ensures) (c .before .before .before .before .if1 .left), passed (c .before .before .before .in-unit .ensures) (c .before .before .if2 .left), c .weight-of .ensures, c .before .bin-of .ensures, search-is _ _ (passed (c .before .before .before .before .before .is-well-formed .ensures) (c .before .before .before .before .if1 .left)) (passed (c .before .before .before .in-unit .ensures) (c .before .before .if2 .left)))

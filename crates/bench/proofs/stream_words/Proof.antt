@@ -1,14 +1,7 @@
 use borrow.Author.Needs.{needs}
-use native.Mathlib.Omega.{arith}
-use Prim.Native.Nat.{ℕ, _+_, _-_, _*_, _^_, _≤_, _<_}
-use lib.ListN.{length}
-use mathlib.Core.Path.{_≡_, refl}
+use Prim.Native.Nat.{_-_, _≤_}
 use Rattle.bench.proofs.stream_words.Statement.{statement}
 use Rattle.bench.proofs.stream_words.Tie as tie
-use Rattle.bench.proofs.stream_words.Reads as reads
-use Rattle.bench.proofs.stream_words.Lts as lts
-use Rattle.stream.proofs.MonteCarloRng.next_u64.Reads as next-u64-reads
-use Rattle.stream.proofs.MonteCarloRng.seed_from_u64.Reads as seed-from-u64-reads
 
 abbrev Inv-loop : tie.InvT-loop
 Inv-loop count stream₀ xor₀ i₀ stream xor i = i ≤ count
@@ -16,31 +9,24 @@ Inv-loop count stream₀ xor₀ i₀ stream xor i = i ≤ count
 abbrev μ-loop : tie.MeasureT-loop
 μ-loop count stream₀ xor₀ i₀ stream xor i = count - i
 
--- src/main.rt:11:9
 seed-from-u64-requires : tie.Need-seed-from-u64-requires Inv-loop μ-loop
 seed-from-u64-requires c κs = search needs
 
--- src/main.rt:14:5
 loop-holds : tie.Need-loop-holds Inv-loop μ-loop
 loop-holds c = search needs
 
--- src/main.rt:15:13
 next-u64-requires : tie.Need-next-u64-requires Inv-loop μ-loop
 next-u64-requires c κs = search needs
 
--- src/main.rt:18:9
 add-i : tie.Need-add-i Inv-loop μ-loop
 add-i c = search needs
 
--- src/main.rt:14:5
 loop-less : tie.Need-loop-less Inv-loop μ-loop
 loop-less c = search needs
 
--- src/main.rt:14:5
 loop-again : tie.Need-loop-again Inv-loop μ-loop
 loop-again c = search needs
 
--- src/main.rt:10:1
 returns : tie.Need-returns Inv-loop μ-loop
 returns c = search needs
 

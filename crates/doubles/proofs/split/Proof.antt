@@ -1,5 +1,4 @@
 -- `split` is its definition, branch by branch. Assumes nothing.
-use mathlib.Core.Path.{_∙_}
 use borrow.Author.Needs.{needs}
 use borrow.Author.Tests.{lt-ltb, le-ltb}
 use Rattle.doubles.specs.Split.{splitOf}

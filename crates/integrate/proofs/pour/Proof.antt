@@ -1,7 +1,6 @@
 -- `pour`: each turn that goes on takes a byte at least, so that the bytes left fall.
 use Prim.Native.Nat.{_-_, _≤_}
 use native.Mathlib.Omega.{arith}
-use borrow.Author.Needs.{needs}
 use borrow.Author.Tests.{not-true, not-false}
 use lib.ListN.{length}
 use Rattle.lent.specs.Memory.{memory}

@@ -9,30 +9,21 @@ use Rattle.lent.proofs.Matches.{mergeable-kept, mergeable-else}
 use borrow.Author.Needs.{needs}
 use Rattle.merges.proofs.is_mergeable.Statement.{statement}
 use Rattle.merges.proofs.is_mergeable.Tie as tie
-use Rattle.merges.proofs.is_mergeable.Reads as reads
-use Rattle.merges.proofs.is_mergeable.Lts as lts
-use Rattle.merges.proofs.matching.grid_obstacle.Reads as grid-obstacle-reads
-use Rattle.judges.proofs.state.pair_fault.Reads as pair-fault-reads
 
--- src/lib.rt:174:9
 pair-fault-requires : tie.Need-pair-fault-requires
 pair-fault-requires c κs = search needs
 
--- src/lib.rt:176:9
 returns : tie.Need-returns
 unfolding mergeableOf
 returns c = c .before .pair-fault .ensures ∙ sym (stopped (pairFault (c .before .before .before .before .before .before .before .before .args .table .now) (c .before .before .before .before .before .before .before .before .args .reals .now) (c .before .before .before .before .before .before .before .before .args .counts .now) (c .before .before .before .before .before .before .before .before .args .other .now) (c .before .before .before .before .before .before .before .before .args .theirs .now) (c .before .before .before .before .before .before .before .before .args .tallies .now)) (pairFault (c .before .before .before .before .before .before .before .before .args .table .now) (c .before .before .before .before .before .before .before .before .args .reals .now) (c .before .before .before .before .before .before .before .before .args .counts .now) (c .before .before .before .before .before .before .before .before .args .other .now) (c .before .before .before .before .before .before .before .before .args .theirs .now) (c .before .before .before .before .before .before .before .before .args .tallies .now)) (mergeFault (rootOf (c .before .before .before .before .before .before .before .before .args .table .now) (c .before .before .before .before .before .before .before .before .args .reals .now) (c .before .before .before .before .before .before .before .before .args .counts .now)) (rootOf (c .before .before .before .before .before .before .before .before .args .other .now) (c .before .before .before .before .before .before .before .before .args .theirs .now) (c .before .before .before .before .before .before .before .before .args .tallies .now))) (λ z. c .if1 .taken (c .before .pair-fault .ensures ∙ z)))
 
--- src/lib.rt:178:9
 grid-obstacle-requires : tie.Need-grid-obstacle-requires
 grid-obstacle-requires c κs = let k = pair-clear (c .before .before .before .before .before .before .before .before .args .table .now) (c .before .before .before .before .before .before .before .before .args .reals .now) (c .before .before .before .before .before .before .before .before .args .counts .now) (c .before .before .before .before .before .before .before .before .args .other .now) (c .before .before .before .before .before .before .before .before .args .theirs .now) (c .before .before .before .before .before .before .before .before .args .tallies .now) (λ i. omega (arith, c .before .before .before .before .before .before .before .shared-slice-known .given i)) (λ i. omega (arith, c .before .before .before .before .shared-slice-known4 .given i)) (sym (c .before .pair-fault .ensures) ∙ c .if1 .left) in (k .0 .laid, k .1 .laid, k .0 .well, k .1 .well)
 
--- src/lib.rt:180:9
 returns-2 : tie.Need-returns-2
 unfolding mergeableOf
 returns-2 c = mergeable-kept (rootOf (c .before .before .before .before .before .before .before .before .before .before .args .table .now) (c .before .before .before .before .before .before .before .before .before .before .args .reals .now) (c .before .before .before .before .before .before .before .before .before .before .args .counts .now)) (rootOf (c .before .before .before .before .before .before .before .before .before .before .args .other .now) (c .before .before .before .before .before .before .before .before .before .before .args .theirs .now) (c .before .before .before .before .before .before .before .before .before .before .args .tallies .now)) (c .before .grid-obstacle .result) (c .before .grid-obstacle .ensures) (c .if2 .taken) ∙ sym (went-on (pairFault (c .before .before .before .before .before .before .before .before .before .before .args .table .now) (c .before .before .before .before .before .before .before .before .before .before .args .reals .now) (c .before .before .before .before .before .before .before .before .before .before .args .counts .now) (c .before .before .before .before .before .before .before .before .before .before .args .other .now) (c .before .before .before .before .before .before .before .before .before .before .args .theirs .now) (c .before .before .before .before .before .before .before .before .before .before .args .tallies .now)) (pairFault (c .before .before .before .before .before .before .before .before .before .before .args .table .now) (c .before .before .before .before .before .before .before .before .before .before .args .reals .now) (c .before .before .before .before .before .before .before .before .before .before .args .counts .now) (c .before .before .before .before .before .before .before .before .before .before .args .other .now) (c .before .before .before .before .before .before .before .before .before .before .args .theirs .now) (c .before .before .before .before .before .before .before .before .before .before .args .tallies .now)) (mergeFault (rootOf (c .before .before .before .before .before .before .before .before .before .before .args .table .now) (c .before .before .before .before .before .before .before .before .before .before .args .reals .now) (c .before .before .before .before .before .before .before .before .before .before .args .counts .now)) (rootOf (c .before .before .before .before .before .before .before .before .before .before .args .other .now) (c .before .before .before .before .before .before .before .before .before .before .args .theirs .now) (c .before .before .before .before .before .before .before .before .before .before .args .tallies .now))) (sym (c .before .before .before .pair-fault .ensures) ∙ c .before .before .if1 .left))
 
--- src/lib.rt:164:1
 returns-3 : tie.Need-returns-3
 unfolding mergeableOf
 returns-3 c = mergeable-else (rootOf (c .before .before .before .before .before .before .before .before .before .before .args .table .now) (c .before .before .before .before .before .before .before .before .before .before .args .reals .now) (c .before .before .before .before .before .before .before .before .before .before .args .counts .now)) (rootOf (c .before .before .before .before .before .before .before .before .before .before .args .other .now) (c .before .before .before .before .before .before .before .before .before .before .args .theirs .now) (c .before .before .before .before .before .before .before .before .before .before .args .tallies .now)) (c .before .grid-obstacle .result) (c .before .grid-obstacle .ensures) (c .if2 .left) ∙ sym (went-on (pairFault (c .before .before .before .before .before .before .before .before .before .before .args .table .now) (c .before .before .before .before .before .before .before .before .before .before .args .reals .now) (c .before .before .before .before .before .before .before .before .before .before .args .counts .now) (c .before .before .before .before .before .before .before .before .before .before .args .other .now) (c .before .before .before .before .before .before .before .before .before .before .args .theirs .now) (c .before .before .before .before .before .before .before .before .before .before .args .tallies .now)) (pairFault (c .before .before .before .before .before .before .before .before .before .before .args .table .now) (c .before .before .before .before .before .before .before .before .before .before .args .reals .now) (c .before .before .before .before .before .before .before .before .before .before .args .counts .now) (c .before .before .before .before .before .before .before .before .before .before .args .other .now) (c .before .before .before .before .before .before .before .before .before .before .args .theirs .now) (c .before .before .before .before .before .before .before .before .before .before .args .tallies .now)) (mergeFault (rootOf (c .before .before .before .before .before .before .before .before .before .before .args .table .now) (c .before .before .before .before .before .before .before .before .before .before .args .reals .now) (c .before .before .before .before .before .before .before .before .before .before .args .counts .now)) (rootOf (c .before .before .before .before .before .before .before .before .before .before .args .other .now) (c .before .before .before .before .before .before .before .before .before .before .args .theirs .now) (c .before .before .before .before .before .before .before .before .before .before .args .tallies .now))) (sym (c .before .before .before .pair-fault .ensures) ∙ c .before .before .if1 .left))

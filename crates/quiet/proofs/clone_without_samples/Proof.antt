@@ -6,40 +6,28 @@ use Rattle.lent.proofs.Clones.{clone-planned, clone-strayed}
 use native.Mathlib.Omega.{arith}
 use Rattle.quiet.proofs.clone_without_samples.Statement.{statement}
 use Rattle.quiet.proofs.clone_without_samples.Tie as tie
-use Rattle.quiet.proofs.clone_without_samples.Reads as reads
-use Rattle.quiet.proofs.clone_without_samples.Lts as lts
-use Rattle.quiet.proofs.copying.copy_grid.Reads as copy-grid-reads
-use Rattle.plan.proofs.sizes.Reads as sizes-reads
 
--- src/lib.rt:180:11
 sizes-requires : tie.Need-sizes-requires
 sizes-requires c κs = tt
 
--- src/lib.rt:181:21
 enum-known-needs : tie.Need-enum-known-needs
 enum-known-needs c = omega arith
 
--- src/lib.rt:181:31
 copy-grid-requires : tie.Need-copy-grid-requires
 copy-grid-requires c κs = sizes-planned (c .before .before .before .before .before .before .before .before .before .before .before .args .table .now) (c .before .before .before .before .before .sizes .result) (c .before .before .before .needs .given .0 .0) (c .before .before .before .before .before .sizes .ensures) (sym (c .before .before .before .needs .given .1))
 
--- src/lib.rt:182:30
 enum-told : tie.Need-enum-told
 enum-told c = omega arith
 
--- src/lib.rt:170:1
 same-length : tie.Need-same-length
 same-length c = omega arith
 
--- src/lib.rt:170:1
 same-length-2 : tie.Need-same-length-2
 same-length-2 c = omega arith
 
--- src/lib.rt:170:1
 returns : tie.Need-returns
 returns c = clone-planned (c .before .before .before .before .before .before .before .before .before .before .before .before .before .before .before .before .args .table .now) (memory (c .before .before .before .before .before .before .before .before .before .before .before .before .before .before .before .before .args .reals .now) (c .before .before .before .before .before .before .before .before .before .before .before .before .before .before .before .before .args .counts .now)) (memory (c .before .before .before .before .before .before .before .before .before .before .before .before .before .before .before .before .args .to-reals .now) (c .before .before .before .before .before .before .before .before .before .before .before .before .before .before .before .before .args .to-counts .now)) (c .before .before .before .before .before .before .before .before .before .before .sizes .result) (c .before .before .before .before .before .before .before .before .needs .given .0 .0) (cloneEnd (c .before .before .before .before .copy-grid .result) (memory (c .before .before .before .before .copy-grid .last .1 .1 .1 .0) (c .before .before .before .before .copy-grid .last .1 .1 .1 .1 .0))) (c .before .before .before .before .before .before .before .before .before .before .sizes .ensures) (sym (c .before .before .before .before .before .before .before .before .needs .given .1)) (c .before .before .before .before .copy-grid .ensures)
 
--- src/lib.rt:170:1
 returns-2 : tie.Need-returns-2
 returns-2 c = clone-strayed (c .before .before .before .before .before .before .before .before .args .table .now) (memory (c .before .before .before .before .before .before .before .before .args .reals .now) (c .before .before .before .before .before .before .before .before .args .counts .now)) (memory (c .before .before .before .before .before .before .before .before .args .to-reals .now) (c .before .before .before .before .before .before .before .before .args .to-counts .now)) (c .before .before .sizes .result) (c .enum-told .given .0 .0) (c .before .before .sizes .ensures) (sym (c .enum-told .given .1))
 

@@ -5,44 +5,31 @@ use Rattle.lent.proofs.Plans.{fresh-refused, fresh-measured, measured-by}
 use native.Mathlib.Omega.{arith}
 use Rattle.quiet.proofs.fresh.Statement.{statement}
 use Rattle.quiet.proofs.fresh.Tie as tie
-use Rattle.quiet.proofs.fresh.Reads as reads
-use Rattle.quiet.proofs.fresh.Lts as lts
-use Rattle.quiet.proofs.found.Reads as found-reads
-use Rattle.plan.proofs.measure_plan.Reads as measure-plan-reads
 
--- src/lib.rt:96:11
 measure-plan-requires : tie.Need-measure-plan-requires
 measure-plan-requires c κs = tt
 
--- src/lib.rt:97:25
 enum-known-number : tie.Need-enum-known-number
 enum-known-number c = omega arith
 
--- src/lib.rt:98:22
 enum-known-end : tie.Need-enum-known-end
 enum-known-end c = omega arith
 
--- src/lib.rt:98:38
 found-requires : tie.Need-found-requires
 found-requires c κs = measured-by (c .before .before .before .before .before .before .before .before .before .before .before .args .bytes .now) (c .before .before .before .before .before .before .measure-plan .result) (c .before .before .before .before .end .given .0 .0) (c .before .before .before .before .end .given .0 .1 .0) (c .before .before .before .before .before .before .measure-plan .ensures) (c .before .before .before .before .end .given .1)
 
--- src/lib.rt:92:1
 returns : tie.Need-returns
 returns c = fresh-refused (c .before .before .before .before .before .before .before .before .args .bytes .now) (c .before .before .before .before .before .before .before .before .args .table .now) (memory (c .before .before .before .before .before .before .before .before .args .reals .now) (c .before .before .before .before .before .before .before .before .args .counts .now)) (c .before .before .before .measure-plan .result) (c .before .number .given .0 .0) (c .before .number .given .0 .1 .0) (c .before .before .before .measure-plan .ensures) (c .before .number .given .1)
 
--- src/lib.rt:92:1
 same-length : tie.Need-same-length
 same-length c = omega arith
 
--- src/lib.rt:92:1
 same-length-2 : tie.Need-same-length-2
 same-length-2 c = omega arith
 
--- src/lib.rt:92:1
 same-length-3 : tie.Need-same-length-3
 same-length-3 c = omega arith
 
--- src/lib.rt:92:1
 returns-2 : tie.Need-returns-2
 returns-2 c = fresh-measured (c .before .before .before .before .before .before .before .before .before .before .before .before .before .before .before .before .before .before .args .bytes .now) (c .before .before .before .before .before .before .before .before .before .before .before .before .before .before .before .before .before .before .args .table .now) (memory (c .before .before .before .before .before .before .before .before .before .before .before .before .before .before .before .before .before .before .args .reals .now) (c .before .before .before .before .before .before .before .before .before .before .before .before .before .before .before .before .before .before .args .counts .now)) (c .before .before .before .before .before .before .before .before .before .before .before .before .before .measure-plan .result) (c .before .before .before .before .before .before .before .before .before .before .before .end .given .0 .0) (c .before .before .before .before .before .before .before .before .before .before .before .end .given .0 .1 .0) (freshEnd (paperRead (c .before .before .before .before .before .before .found .result)) (c .before .before .before .before .before .before .found .last .1 .0) (memory (c .before .before .before .before .before .before .found .last .1 .1 .0) (c .before .before .before .before .before .before .found .last .1 .1 .1 .0))) (c .before .before .before .before .before .before .before .before .before .before .before .before .before .measure-plan .ensures) (c .before .before .before .before .before .before .before .before .before .before .before .end .given .1) (c .before .before .before .before .before .before .found .ensures)
 

@@ -8,30 +8,20 @@ use Rattle.lent.specs.Calls.{liveOf}
 use Rattle.lent.proofs.States.{clear, refused-first, answered-last}
 use Rattle.quiet.proofs.live_estimate.Statement.{statement}
 use Rattle.quiet.proofs.live_estimate.Tie as tie
-use Rattle.quiet.proofs.live_estimate.Reads as reads
-use Rattle.quiet.proofs.live_estimate.Lts as lts
-use Rattle.accumulator.proofs.StatisticsAccumulator.get_live_estimate.Reads as get-live-estimate-reads
-use Rattle.judges.proofs.state.fault.Reads as fault-reads
-use Rattle.quiet.proofs.along.own.Reads as own-reads
 
--- src/lib.rt:76:9
 fault-requires : tie.Need-fault-requires
 fault-requires c κs = tt
 
--- src/lib.rt:78:9
 returns : tie.Need-returns
 unfolding liveOf paperEstimated
 returns c = ap (λ (n : ℕ). refuses n) (c .before .fault .ensures) ∙ sym (refused-first (stateFault (c .before .before .before .before .before .args .table .now) (c .before .before .before .before .before .args .reals .now) (c .before .before .before .before .before .args .counts .now)) (liveEstimateOf (ownOf (rootOf (c .before .before .before .before .before .args .table .now) (c .before .before .before .before .before .args .reals .now) (c .before .before .before .before .before .args .counts .now)))) (λ z. c .if1 .taken (c .before .fault .ensures ∙ z)))
 
--- src/lib.rt:80:5
 own-requires : tie.Need-own-requires
 own-requires c κs = clear (c .before .before .before .before .before .args .table .now) (c .before .before .before .before .before .args .reals .now) (c .before .before .before .before .before .args .counts .now) (λ i. omega (arith, c .before .before .before .before .shared-slice-known .given i)) (sym (c .before .fault .ensures) ∙ c .if1 .left) .laid
 
--- src/lib.rt:80:5
 get-live-estimate-requires : tie.Need-get-live-estimate-requires
 get-live-estimate-requires c κs = tt
 
--- src/lib.rt:73:1
 returns-2 : tie.Need-returns-2
 unfolding liveOf
 returns-2 c = c .get-live-estimate .ensures ∙ ap liveEstimateOf (c .before .own .ensures) ∙ sym (answered-last (stateFault (c .before .before .before .before .before .before .before .args .table .now) (c .before .before .before .before .before .before .before .args .reals .now) (c .before .before .before .before .before .before .before .args .counts .now)) (liveEstimateOf (ownOf (rootOf (c .before .before .before .before .before .before .before .args .table .now) (c .before .before .before .before .before .before .before .args .reals .now) (c .before .before .before .before .before .before .before .args .counts .now)))) (sym (c .before .before .before .fault .ensures) ∙ c .before .before .if1 .left))

@@ -11,25 +11,17 @@ use Rattle.lent.specs.Calls.{liveOfBin}
 use Rattle.lent.proofs.States.{clear, refused-first, answered-last}
 use Rattle.quiet.proofs.live_estimate_of_bin.Statement.{statement}
 use Rattle.quiet.proofs.live_estimate_of_bin.Tie as tie
-use Rattle.quiet.proofs.live_estimate_of_bin.Reads as reads
-use Rattle.quiet.proofs.live_estimate_of_bin.Lts as lts
-use Rattle.quiet.proofs.along.estimate_along.Reads as estimate-along-reads
-use Rattle.judges.proofs.state.fault.Reads as fault-reads
 
--- src/lib.rt:117:9
 fault-requires : tie.Need-fault-requires
 fault-requires c κs = tt
 
--- src/lib.rt:119:9
 returns : tie.Need-returns
 unfolding liveOfBin paperEstimated
 returns c = ap (λ (n : ℕ). refuses n) (c .before .fault .ensures) ∙ sym (refused-first (stateFault (c .before .before .before .before .before .args .table .now) (c .before .before .before .before .before .args .reals .now) (c .before .before .before .before .before .args .counts .now)) (estimateAlong (rootOf (c .before .before .before .before .before .args .table .now) (c .before .before .before .before .before .args .reals .now) (c .before .before .before .before .before .args .counts .now)) (entries 0 (c .before .before .before .before .before .args .path) 0 (c .before .before .before .before .before .args .levels))) (λ z. c .if1 .taken (c .before .fault .ensures ∙ z)))
 
--- src/lib.rt:121:5
 estimate-along-requires : tie.Need-estimate-along-requires
 estimate-along-requires c κs = (clear (c .before .before .before .before .before .args .table .now) (c .before .before .before .before .before .args .reals .now) (c .before .before .before .before .before .args .counts .now) (λ i. omega (arith, c .before .before .before .before .shared-slice-known .given i)) (sym (c .before .fault .ensures) ∙ c .if1 .left) .laid, omega arith)
 
--- src/lib.rt:108:1
 returns-2 : tie.Need-returns-2
 unfolding liveOfBin
 returns-2 c = let e : (c .before .before .before .before .before .before .args .levels) - 0 ≡ c .before .before .before .before .before .before .args .levels = omega arith in c .estimate-along .ensures ∙ ap (λ (n : ℕ). estimateAlong (rootOf (c .before .before .before .before .before .before .args .table .now) (c .before .before .before .before .before .before .args .reals .now) (c .before .before .before .before .before .before .args .counts .now)) (entries 0 (c .before .before .before .before .before .before .args .path) 0 n)) e ∙ sym (answered-last (stateFault (c .before .before .before .before .before .before .args .table .now) (c .before .before .before .before .before .before .args .reals .now) (c .before .before .before .before .before .before .args .counts .now)) (estimateAlong (rootOf (c .before .before .before .before .before .before .args .table .now) (c .before .before .before .before .before .before .args .reals .now) (c .before .before .before .before .before .before .args .counts .now)) (entries 0 (c .before .before .before .before .before .before .args .path) 0 (c .before .before .before .before .before .before .args .levels))) (sym (c .before .before .fault .ensures) ∙ c .before .if1 .left))

@@ -10,25 +10,17 @@ use Rattle.lent.specs.Calls.{probeOf}
 use Rattle.lent.proofs.States.{clear, refused-first, answered-last}
 use Rattle.quiet.proofs.probe.Statement.{statement}
 use Rattle.quiet.proofs.probe.Tie as tie
-use Rattle.quiet.proofs.probe.Reads as reads
-use Rattle.quiet.proofs.probe.Lts as lts
-use Rattle.quiet.proofs.descent.probe_grid.Reads as probe-grid-reads
-use Rattle.judges.proofs.state.fault.Reads as fault-reads
 
--- src/lib.rt:154:9
 fault-requires : tie.Need-fault-requires
 fault-requires c κs = tt
 
--- src/lib.rt:156:9
 returns : tie.Need-returns
 unfolding probeOf paperProbed
 returns c = ap refuses (c .before .fault .ensures) ∙ sym (refused-first (stateFault (c .before .before .before .before .before .args .table .now) (c .before .before .before .before .before .args .reals .now) (c .before .before .before .before .before .args .counts .now)) (probeGrid (rootOf (c .before .before .before .before .before .args .table .now) (c .before .before .before .before .before .args .reals .now) (c .before .before .before .before .before .args .counts .now)) (pathFrom (c .before .before .before .before .before .args .p) 0) (coordinatesOf (c .before .before .before .before .before .args .p .coordinates))) (λ z. c .if1 .taken (c .before .fault .ensures ∙ z)))
 
--- src/lib.rt:158:5
 probe-grid-requires : tie.Need-probe-grid-requires
 probe-grid-requires c κs = ((clear (c .before .before .before .before .before .args .table .now) (c .before .before .before .before .before .args .reals .now) (c .before .before .before .before .before .args .counts .now) (λ i. omega (arith, c .before .before .before .before .shared-slice-known .given i)) (sym (c .before .fault .ensures) ∙ c .if1 .left)) .laid, omega arith, (clear (c .before .before .before .before .before .args .table .now) (c .before .before .before .before .before .args .reals .now) (c .before .before .before .before .before .args .counts .now) (λ i. omega (arith, c .before .before .before .before .shared-slice-known .given i)) (sym (c .before .fault .ensures) ∙ c .if1 .left)) .well)
 
--- src/lib.rt:151:1
 returns-2 : tie.Need-returns-2
 unfolding probeOf
 returns-2 c = c .probe-grid .ensures ∙ sym (answered-last (stateFault (c .before .before .before .before .before .before .args .table .now) (c .before .before .before .before .before .before .args .reals .now) (c .before .before .before .before .before .before .args .counts .now)) (probeGrid (rootOf (c .before .before .before .before .before .before .args .table .now) (c .before .before .before .before .before .before .args .reals .now) (c .before .before .before .before .before .before .args .counts .now)) (pathFrom (c .before .before .before .before .before .before .args .p) 0) (coordinatesOf (c .before .before .before .before .before .before .args .p .coordinates))) (sym (c .before .before .fault .ensures) ∙ c .before .if1 .left))

@@ -10,7 +10,7 @@ use Rattle.doubles.specs.Numbers.{zero64}
 use Rattle.doubles.specs.Split.{Split}
 use Rattle.doubles.proofs.Truth.{was, failed, passed}
 use Rattle.doubles.proofs.Bits.{no-nan, splits}
-use Rattle.real.specs.Ln.{mantissaOf, exponentOf, turnedOf, lnOf}
+use Rattle.real.specs.Ln.{turnedOf, lnOf}
 use Rattle.real.proofs.Mantissa.{mantissa-is, exponent-is}
 use Rattle.real.proofs.ln.Statement.{statement}
 use Rattle.real.proofs.ln.Tie as tie

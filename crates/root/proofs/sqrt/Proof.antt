@@ -1,5 +1,5 @@
 -- `sqrt`: the tests that a guess passes make its bits those of the root; else the judge answers. Assumes nothing.
-use mathlib.Core.Path.{_≡_, refl, sym, _∙_}
+use mathlib.Core.Path.{refl, sym, _∙_}
 use Prim.Native.Nat.{_^_, _≤_}
 use lib.Dec.{T}
 use lib.Ieee.{binary64, fits, toBits}

@@ -9,30 +9,20 @@ use Rattle.lent.specs.Calls.{drawnAs, drawOf}
 use Rattle.lent.proofs.States.{clear, refused-first, answered-last}
 use Rattle.samples.proofs.draw.Statement.{statement}
 use Rattle.samples.proofs.draw.Tie as tie
-use Rattle.samples.proofs.draw.Reads as reads
-use Rattle.samples.proofs.draw.Lts as lts
-use Rattle.samples.proofs.sampling.draw_root.Reads as draw-root-reads
-use Rattle.samples.proofs.sampling.draw_nothing.Reads as draw-nothing-reads
-use Rattle.judges.proofs.state.fault.Reads as fault-reads
 
--- src/lib.rt:49:9
 fault-requires : tie.Need-fault-requires
 fault-requires c κs = tt
 
--- src/lib.rt:51:13
 draw-nothing-requires : tie.Need-draw-nothing-requires
 draw-nothing-requires c κs = tt
 
--- src/lib.rt:52:9
 returns : tie.Need-returns
 unfolding drawOf drawnAs
 returns c = ap₂ (λ (n : ℕ) (d : laid.Drawing). record { refused = n; drawing = d }) (c .before .before .fault .ensures) (c .draw-nothing .ensures) ∙ sym (ap (drawnAs (c .before .before .before .before .before .before .args .start)) (refused-first (stateFault (c .before .before .before .before .before .before .args .table .now) (c .before .before .before .before .before .before .args .reals .now) (c .before .before .before .before .before .before .args .counts .now)) (gives (drawGrid (rootOf (c .before .before .before .before .before .before .args .table .now) (c .before .before .before .before .before .before .args .reals .now) (c .before .before .before .before .before .before .args .counts .now)) (c .before .before .before .before .before .before .args .start))) (λ z. c .before .if1 .taken (c .before .before .fault .ensures ∙ z))))
 
--- src/lib.rt:57:9
 draw-root-requires : tie.Need-draw-root-requires
 draw-root-requires c κs = let state = clear (c .before .before .before .before .before .before .args .table .now) (c .before .before .before .before .before .before .args .reals .now) (c .before .before .before .before .before .before .args .counts .now) (λ i. omega (arith, c .before .before .before .before .before .shared-slice-known .given i)) (sym (c .before .before .fault .ensures) ∙ c .before .if1 .left) in (state .laid, state .well)
 
--- src/lib.rt:46:1
 returns-2 : tie.Need-returns-2
 unfolding drawOf drawnAs
 returns-2 c = ap₂ (λ (n : ℕ) (d : laid.Drawing). record { refused = n; drawing = d }) (c .before .before .if1 .left) (c .draw-root .ensures) ∙ sym (ap (drawnAs (c .before .before .before .before .before .before .before .args .start)) (answered-last (stateFault (c .before .before .before .before .before .before .before .args .table .now) (c .before .before .before .before .before .before .before .args .reals .now) (c .before .before .before .before .before .before .before .args .counts .now)) (gives (drawGrid (rootOf (c .before .before .before .before .before .before .before .args .table .now) (c .before .before .before .before .before .before .before .args .reals .now) (c .before .before .before .before .before .before .before .args .counts .now)) (c .before .before .before .before .before .before .before .args .start))) (sym (c .before .before .before .fault .ensures) ∙ c .before .before .if1 .left)))

@@ -6,40 +6,28 @@ use native.Mathlib.Omega.{arith}
 use borrow.Author.Needs.{needs}
 use Rattle.samples.proofs.draw_and_train.Statement.{statement}
 use Rattle.samples.proofs.draw_and_train.Tie as tie
-use Rattle.samples.proofs.draw_and_train.Reads as reads
-use Rattle.samples.proofs.draw_and_train.Lts as lts
-use Rattle.samples.proofs.batching.steps.Reads as steps-reads
-use Rattle.judges.proofs.state.fault.Reads as fault-reads
 
--- src/lib.rt:251:9
 fault-requires : tie.Need-fault-requires
 fault-requires c κs = tt
 
--- src/lib.rt:253:9
 same-length : tie.Need-same-length
 same-length c = omega arith
 
--- src/lib.rt:253:9
 same-length-2 : tie.Need-same-length-2
 same-length-2 c = omega arith
 
--- src/lib.rt:253:9
 returns : tie.Need-returns
 returns c = batch-refused (c .before .before .before .before .before .before .before .before .args .table .now) (memory (c .before .before .before .before .before .before .before .before .args .reals .now) (c .before .before .before .before .before .before .before .before .args .counts .now)) (c .before .before .before .before .before .before .before .before .args .start) (c .before .before .before .before .before .before .before .before .args .evaluations .now) (c .before .before .before .before .before .before .before .before .args .first) (c .before .fault .result) (c .before .fault .ensures) (c .if1 .taken)
 
--- src/lib.rt:259:5
 steps-requires : tie.Need-steps-requires
 steps-requires c κs = search needs
 
--- src/lib.rt:240:1
 same-length-3 : tie.Need-same-length-3
 same-length-3 c = omega arith
 
--- src/lib.rt:240:1
 same-length-4 : tie.Need-same-length-4
 same-length-4 c = omega arith
 
--- src/lib.rt:240:1
 returns-2 : tie.Need-returns-2
 returns-2 c = batch-runs (c .before .before .before .before .before .before .before .before .before .before .before .before .before .before .before .args .table .now) (memory (c .before .before .before .before .before .before .before .before .before .before .before .before .before .before .before .args .reals .now) (c .before .before .before .before .before .before .before .before .before .before .before .before .before .before .before .args .counts .now)) (c .before .before .before .before .before .before .before .before .before .before .before .before .before .before .before .args .start) (c .before .before .before .before .before .before .before .before .before .before .before .before .before .before .before .args .evaluations .now) (c .before .before .before .before .before .before .before .before .before .before .before .before .before .before .before .args .first) _ (sym (c .before .before .before .before .before .before .before .before .fault .ensures) ∙ c .before .before .before .before .before .before .before .if1 .left) (c .before .before .before .before .steps .ensures)
 

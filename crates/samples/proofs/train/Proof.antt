@@ -6,44 +6,31 @@ use Rattle.lent.proofs.States.{clear}
 use Rattle.lent.proofs.Objections.{train-state, train-admits}
 use Rattle.samples.proofs.train.Statement.{statement}
 use Rattle.samples.proofs.train.Tie as tie
-use Rattle.samples.proofs.train.Reads as reads
-use Rattle.samples.proofs.train.Lts as lts
-use Rattle.samples.proofs.absorbing.admit.Reads as admit-reads
-use Rattle.judges.proofs.state.fault.Reads as fault-reads
-use Rattle.samples.proofs.forms.fault_of.Reads as fault-of-reads
 
--- src/lib.rt:229:9
 fault-requires : tie.Need-fault-requires
 fault-requires c κs = tt
 
--- src/lib.rt:231:9
 same-length : tie.Need-same-length
 same-length c = omega arith
 
--- src/lib.rt:231:9
 same-length-2 : tie.Need-same-length-2
 same-length-2 c = omega arith
 
--- src/lib.rt:231:9
 returns : tie.Need-returns
 returns c = train-state (c .before .before .before .before .before .before .before .args .table .now) (memory (c .before .before .before .before .before .before .before .args .reals .now) (c .before .before .before .before .before .before .before .args .counts .now)) (c .before .before .before .before .before .before .before .args .s) (c .before .before .before .before .before .before .before .args .evaluation) (c .before .before .before .before .before .before .before .args .number) (c .before .fault .result) (c .before .fault .ensures) (c .if1 .taken)
 
 fault-of-requires : tie.Need-fault-of-requires
 fault-of-requires c κs = let state = clear (c .before .before .before .before .before .before .before .before .before .args .table .now) (c .before .before .before .before .before .before .before .before .before .args .reals .now) (c .before .before .before .before .before .before .before .before .before .args .counts .now) (λ i. omega (arith, c .before .before .before .before .before .before .before .before .shared-slice-known .given i)) (sym (c .before .before .before .fault .ensures) ∙ c .before .before .if1 .left) in state .laid
 
--- src/lib.rt:237:5
 admit-requires : tie.Need-admit-requires
 admit-requires c κs = let state = clear (c .before .before .before .before .before .before .before .before .before .before .before .before .before .before .before .before .before .before .before .args .table .now) (c .before .before .before .before .before .before .before .before .before .before .before .before .before .before .before .before .before .before .before .args .reals .now) (c .before .before .before .before .before .before .before .before .before .before .before .before .before .before .before .before .before .before .before .args .counts .now) (λ i. omega (arith, c .before .before .before .before .before .before .before .before .before .before .before .before .before .before .before .before .before .before .shared-slice-known .given i)) (sym (c .before .before .before .before .before .before .before .before .before .before .before .before .before .fault .ensures) ∙ c .before .before .before .before .before .before .before .before .before .before .before .before .if1 .left) in (state .laid, state .well, c .before .before .before .before .before .before .before .before .before .fault-of .ensures, refl)
 
--- src/lib.rt:218:1
 same-length-3 : tie.Need-same-length-3
 same-length-3 c = omega arith
 
--- src/lib.rt:218:1
 same-length-4 : tie.Need-same-length-4
 same-length-4 c = omega arith
 
--- src/lib.rt:218:1
 returns-2 : tie.Need-returns-2
 returns-2 c = train-admits (c .before .before .before .before .before .before .before .before .before .before .before .before .before .before .before .before .before .before .before .before .before .before .before .before .args .table .now) (memory (c .before .before .before .before .before .before .before .before .before .before .before .before .before .before .before .before .before .before .before .before .before .before .before .before .args .reals .now) (c .before .before .before .before .before .before .before .before .before .before .before .before .before .before .before .before .before .before .before .before .before .before .before .before .args .counts .now)) (c .before .before .before .before .before .before .before .before .before .before .before .before .before .before .before .before .before .before .before .before .before .before .before .before .args .s) (c .before .before .before .before .before .before .before .before .before .before .before .before .before .before .before .before .before .before .before .before .before .before .before .before .args .evaluation) (c .before .before .before .before .before .before .before .before .before .before .before .before .before .before .before .before .before .before .before .before .before .before .before .before .args .number) (c .before .before .before .before .admit .result) (memory (c .before .before .before .before .admit .last .1 .0) (c .before .before .before .before .admit .last .1 .1 .0)) (sym (c .before .before .before .before .before .before .before .before .before .before .before .before .before .before .before .before .before .before .fault .ensures) ∙ c .before .before .before .before .before .before .before .before .before .before .before .before .before .before .before .before .before .if1 .left) (c .before .before .before .before .admit .ensures .0) (c .before .before .before .before .admit .ensures .1)
 

@@ -10,8 +10,6 @@ use Rattle.lent.specs.Sampled.{entries, sampleOf}
 use native.Mathlib.Omega.{arith}
 use Rattle.samples.proofs.weight_of.Statement.{statement}
 use Rattle.samples.proofs.weight_of.Tie as tie
-use Rattle.samples.proofs.weight_of.Reads as reads
-use Rattle.samples.proofs.weight_of.Lts as lts
 
 no-weight : (ws : List Float) (n : ℕ) → n ≡ 0 → one64 ≡ weightAt (entries nan ws 0 n)
 unfolding weightAt entries

@@ -6,15 +6,11 @@ use Rattle.stream.specs.Calls.{unitOf}
 use Rattle.stream.proofs.Units.{scaled}
 use Rattle.stream.proofs.unit_of.Statement.{statement}
 use Rattle.stream.proofs.unit_of.Tie as tie
-use Rattle.stream.proofs.unit_of.Reads as reads
-use Rattle.stream.proofs.unit_of.Lts as lts
 
--- src/lib.rt:57:6
 int-to-float-result : tie.Need-int-to-float-result
 unfolding inFloat
 int-to-float-result c = le→leb _ _ (le-of-lt (shr-lt 53 11 (c .before .fits .word .fits)))
 
--- src/lib.rt:54:1
 returns : tie.Need-returns
 unfolding unitOf
 returns c = scaled _ (shr-lt 53 11 (c .before .fits .word .fits))

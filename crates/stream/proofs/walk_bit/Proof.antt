@@ -1,34 +1,23 @@
-use mathlib.Core.Path.{_≡_, refl, ap}
-use lib.Dec.{eqb}
 use borrow.Author.Tests.{eq-eqb, ne-eqb}
 use Rattle.stream.specs.Jumps.{walkBit}
 use Rattle.stream.specs.Calls.{drawnOf}
 use native.Mathlib.Omega.{arith}
 use Rattle.stream.proofs.walk_bit.Statement.{statement}
 use Rattle.stream.proofs.walk_bit.Tie as tie
-use Rattle.stream.proofs.walk_bit.Reads as reads
-use Rattle.stream.proofs.walk_bit.Lts as lts
-use Rattle.stream.proofs.MonteCarloRng.next_u64.Reads as next-u64-reads
-use Rattle.stream.proofs.join.Reads as join-reads
 
--- src/lib.rt:90:9
 next-u64-requires : tie.Need-next-u64-requires
 next-u64-requires c κs = tt
 
--- src/lib.rt:92:9
 shr-if1 : tie.Need-shr-if1
 shr-if1 c = omega arith
 
--- src/lib.rt:94:18
 join-requires : tie.Need-join-requires
 join-requires c κs = tt
 
--- src/lib.rt:93:9
 returns : tie.Need-returns
 unfolding walkBit drawnOf
 returns c = rw (c .join .ensures, c .before .before .before .next-u64 .ensures, eq-eqb _ _ (c .before .if1 .taken))
 
--- src/lib.rt:84:1
 returns-2 : tie.Need-returns-2
 unfolding walkBit drawnOf
 returns-2 c = rw (c .before .before .next-u64 .ensures, ne-eqb _ _ (c .if1 .left))

@@ -2,13 +2,10 @@ use Rattle.stream.proofs.Walks.{walk-on}
 use borrow.Author.Needs.{needs}
 use native.Mathlib.Omega.{arith}
 use mathlib.Core.Path.{_≡_, refl, sym, ap, _∙_}
-use Prim.Native.Nat.{ℕ, suc, _+_, _-_, _≤_, _<_}
-use Rattle.stream.specs.Jumps.{walkBit, walkBits}
+use Prim.Native.Nat.{_+_, _-_, _≤_}
+use Rattle.stream.specs.Jumps.{walkBits}
 use Rattle.stream.proofs.walk_word.Statement.{statement}
 use Rattle.stream.proofs.walk_word.Tie as tie
-use Rattle.stream.proofs.walk_word.Reads as reads
-use Rattle.stream.proofs.walk_word.Lts as lts
-use Rattle.stream.proofs.walk_bit.Reads as walk-bit-reads
 
 abbrev Inv-loop : tie.InvT-loop
 Inv-loop word at₀ bit₀ at bit = (bit ≤ 64) × (walkBits word (64 - bit) bit at ≡ walkBits word 64 0 at₀)
@@ -16,27 +13,21 @@ Inv-loop word at₀ bit₀ at bit = (bit ≤ 64) × (walkBits word (64 - bit) bi
 abbrev μ-loop : tie.MeasureT-loop
 μ-loop word at₀ bit₀ at bit = 64 - bit
 
--- src/lib.rt:107:5
 loop-holds : tie.Need-loop-holds Inv-loop μ-loop
 loop-holds c = (omega arith, refl)
 
--- src/lib.rt:108:9
 walk-bit-requires : tie.Need-walk-bit-requires Inv-loop μ-loop
 walk-bit-requires c κs = search needs
 
--- src/lib.rt:109:9
 add-bit : tie.Need-add-bit Inv-loop μ-loop
 add-bit c = omega arith
 
--- src/lib.rt:107:5
 loop-less : tie.Need-loop-less Inv-loop μ-loop
 loop-less c = omega arith
 
--- src/lib.rt:107:5
 loop-again : tie.Need-loop-again Inv-loop μ-loop
 loop-again c = (omega arith, ap (walkBits (c .before .before .before .args .word) (64 - (c .before .before .loop .bit + 1)) (c .before .before .loop .bit + 1)) (c .walk-bit .ensures) ∙ sym (walk-on _ _ _ (c .before .loop-test .taken)) ∙ c .before .before .loop .inv .1)
 
--- src/lib.rt:102:1
 returns : tie.Need-returns Inv-loop μ-loop
 unfolding walkBits
 returns c = let e : 64 - c .before .loop .bit ≡ 0 = omega arith in rw e at (c .before .loop .inv .1)

@@ -3,7 +3,6 @@ use mathlib.Core.Path.{sym}
 use Rattle.doubles.proofs.Truth.{failed, passed}
 use Rattle.accumulator.specs.Calls.{paperChanged, addSampleOf}
 use Rattle.accumulator.proofs.Accepted.{accepted, miscounted}
-use native.Mathlib.Omega.{arith}
 use Rattle.accumulator.proofs.StatisticsAccumulator.add_sample.Statement.{statement}
 use Rattle.accumulator.proofs.StatisticsAccumulator.add_sample.Tie as tie
 

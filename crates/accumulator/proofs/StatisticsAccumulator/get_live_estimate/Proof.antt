@@ -3,7 +3,6 @@ use mathlib.Core.Path.{_∙_}
 use Rattle.doubles.proofs.Truth.{failed, passed}
 use Rattle.accumulator.specs.Calls.{paperEstimated, liveEstimateOf}
 use Rattle.accumulator.proofs.Counts.{counts-of}
-use native.Mathlib.Omega.{arith}
 use Rattle.accumulator.proofs.StatisticsAccumulator.get_live_estimate.Statement.{statement}
 use Rattle.accumulator.proofs.StatisticsAccumulator.get_live_estimate.Tie as tie
 

@@ -2,51 +2,36 @@ use Rattle.doubles.proofs.Truth.{failed, passed}
 use Rattle.accumulator.proofs.Counts.{counts-of}
 use Rattle.accumulator.specs.Calls.{paperMerged, mergeClearingOf}
 use mathlib.Core.Path.{sym}
-use native.Mathlib.Omega.{arith}
 use Rattle.accumulator.proofs.StatisticsAccumulator.merge_samples.Statement.{statement}
 use Rattle.accumulator.proofs.StatisticsAccumulator.merge_samples.Tie as tie
-use Rattle.accumulator.proofs.StatisticsAccumulator.merge_samples.Reads as reads
-use Rattle.accumulator.proofs.StatisticsAccumulator.merge_samples.Lts as lts
-use Rattle.accumulator.proofs.judge.is_well_formed.Reads as is-well-formed-reads
-use Rattle.accumulator.proofs.steps.cleared.Reads as cleared-reads
-use Rattle.accumulator.proofs.steps.merged.Reads as merged-reads
 
--- src/lib.rt:157:13
 is-well-formed-requires : tie.Need-is-well-formed-requires
 is-well-formed-requires c κs = tt
 
--- src/lib.rt:158:13
 returns : tie.Need-returns
 unfolding paperMerged mergeClearingOf
 returns c = rw (failed (c .before .is-well-formed .ensures) (c .if1 .taken))
 
--- src/lib.rt:160:13
 is-well-formed-requires-2 : tie.Need-is-well-formed-requires-2
 is-well-formed-requires-2 c κs = tt
 
--- src/lib.rt:161:13
 returns-2 : tie.Need-returns-2
 unfolding paperMerged mergeClearingOf
 returns-2 c = rw (passed (c .before .before .before .is-well-formed .ensures) (c .before .before .if1 .left), failed (c .before .is-well-formed2 .ensures) (c .if2 .taken))
 
--- src/lib.rt:163:13
 merged-requires : tie.Need-merged-requires
 merged-requires c κs = (counts-of _ (passed (c .before .before .before .is-well-formed .ensures) (c .before .before .if1 .left)), counts-of _ (passed (c .before .is-well-formed2 .ensures) (c .if2 .left)))
 
--- src/lib.rt:164:13
 is-well-formed-requires-3 : tie.Need-is-well-formed-requires-3
 is-well-formed-requires-3 c κs = tt
 
--- src/lib.rt:165:13
 returns-3 : tie.Need-returns-3
 unfolding paperMerged mergeClearingOf
 returns-3 c = rw (passed (c .before .before .before .before .before .before .is-well-formed .ensures) (c .before .before .before .before .before .if1 .left), passed (c .before .before .before .before .is-well-formed2 .ensures) (c .before .before .before .if2 .left), sym (c .before .before .merged .ensures), failed (c .before .is-well-formed3 .ensures) (c .if3 .taken))
 
--- src/lib.rt:167:32
 cleared-requires : tie.Need-cleared-requires
 cleared-requires c κs = tt
 
--- src/lib.rt:154:5
 returns-4 : tie.Need-returns-4
 unfolding paperMerged mergeClearingOf
 returns-4 c = rw (passed (c .before .before .before .before .before .before .before .is-well-formed .ensures) (c .before .before .before .before .before .before .if1 .left), passed (c .before .before .before .before .before .is-well-formed2 .ensures) (c .before .before .before .before .if2 .left), sym (c .before .before .before .merged .ensures), passed (c .before .before .is-well-formed3 .ensures) (c .before .if3 .left), c .cleared .ensures)

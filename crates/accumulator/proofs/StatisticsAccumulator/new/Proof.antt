@@ -2,10 +2,7 @@ use mathlib.Core.Path.{refl}
 use Rattle.accumulator.specs.Record.{fresh}
 use Rattle.accumulator.proofs.StatisticsAccumulator.new.Statement.{statement}
 use Rattle.accumulator.proofs.StatisticsAccumulator.new.Tie as tie
-use Rattle.accumulator.proofs.StatisticsAccumulator.new.Reads as reads
-use Rattle.accumulator.proofs.StatisticsAccumulator.new.Lts as lts
 
--- src/lib.rt:85:5
 returns : tie.Need-returns
 unfolding fresh
 returns c = refl

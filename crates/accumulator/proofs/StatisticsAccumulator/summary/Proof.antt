@@ -1,22 +1,15 @@
 use Rattle.doubles.proofs.Truth.{failed, passed}
 use Rattle.accumulator.specs.Calls.{paperSummed, summaryOf, summarizeOf}
-use native.Mathlib.Omega.{arith}
 use Rattle.accumulator.proofs.StatisticsAccumulator.summary.Statement.{statement}
 use Rattle.accumulator.proofs.StatisticsAccumulator.summary.Tie as tie
-use Rattle.accumulator.proofs.StatisticsAccumulator.summary.Reads as reads
-use Rattle.accumulator.proofs.StatisticsAccumulator.summary.Lts as lts
-use Rattle.accumulator.proofs.judge.is_well_formed.Reads as is-well-formed-reads
 
--- src/lib.rt:205:13
 is-well-formed-requires : tie.Need-is-well-formed-requires
 is-well-formed-requires c κs = tt
 
--- src/lib.rt:206:13
 returns : tie.Need-returns
 unfolding paperSummed summarizeOf
 returns c = rw (failed (c .before .is-well-formed .ensures) (c .if1 .taken))
 
--- src/lib.rt:202:5
 returns-2 : tie.Need-returns-2
 unfolding paperSummed summarizeOf summaryOf
 returns-2 c = rw (passed (c .before .before .is-well-formed .ensures) (c .before .if1 .left))

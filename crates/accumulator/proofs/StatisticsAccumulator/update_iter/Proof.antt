@@ -5,7 +5,6 @@ use Rattle.accumulator.specs.Update.{enough}
 use Rattle.accumulator.specs.Calls.{paperUpdated, updateOf}
 use Rattle.accumulator.proofs.Accepted.{miscounted}
 use Rattle.accumulator.proofs.Iterated.{accepted, refused}
-use native.Mathlib.Omega.{arith}
 use Rattle.accumulator.proofs.StatisticsAccumulator.update_iter.Statement.{statement}
 use Rattle.accumulator.proofs.StatisticsAccumulator.update_iter.Tie as tie
 

@@ -2,10 +2,7 @@ use mathlib.Core.Path.{refl}
 use Rattle.accumulator.specs.Record.{bounded, boundedCounts}
 use Rattle.accumulator.proofs.judge.has_bounded_counts.Statement.{statement}
 use Rattle.accumulator.proofs.judge.has_bounded_counts.Tie as tie
-use Rattle.accumulator.proofs.judge.has_bounded_counts.Reads as reads
-use Rattle.accumulator.proofs.judge.has_bounded_counts.Lts as lts
 
--- src/judge.rt:14:1
 returns : tie.Need-returns
 unfolding boundedCounts bounded
 returns c = refl

@@ -3,10 +3,7 @@ use Rattle.accumulator.specs.Record.{withExtremes}
 use Rattle.accumulator.specs.Steps.{copiedOf}
 use Rattle.accumulator.proofs.steps.copied.Statement.{statement}
 use Rattle.accumulator.proofs.steps.copied.Tie as tie
-use Rattle.accumulator.proofs.steps.copied.Reads as reads
-use Rattle.accumulator.proofs.steps.copied.Lts as lts
 
--- src/steps.rt:88:1
 returns : tie.Need-returns
 unfolding copiedOf withExtremes
 returns c = refl

@@ -1,7 +1,6 @@
 -- The calls, put together, are the definition.
 use Rattle.root.specs.Pair.{rootsOf}
 use Rattle.accumulator.specs.Update.{varianceOf, figuresOf}
-use native.Mathlib.Omega.{arith}
 use Rattle.accumulator.proofs.steps.figures_of.Statement.{statement}
 use Rattle.accumulator.proofs.steps.figures_of.Tie as tie
 

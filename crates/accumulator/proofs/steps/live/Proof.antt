@@ -7,7 +7,6 @@ use Rattle.accumulator.proofs.Processed.{estimates-are}
 use Rattle.accumulator.specs.Record.{raised}
 use Rattle.accumulator.specs.Update.{enough, updatedOf}
 use Rattle.accumulator.specs.Calls.{estimatesOf}
-use native.Mathlib.Omega.{arith}
 use Rattle.accumulator.proofs.steps.live.Statement.{statement}
 use Rattle.accumulator.proofs.steps.live.Tie as tie
 

@@ -4,36 +4,25 @@ use Rattle.accumulator.specs.Record.{withWaiting, withExtremes}
 use Rattle.accumulator.specs.Steps.{mergedOf}
 use Rattle.accumulator.proofs.steps.merged.Statement.{statement}
 use Rattle.accumulator.proofs.steps.merged.Tie as tie
-use Rattle.accumulator.proofs.steps.merged.Reads as reads
-use Rattle.accumulator.proofs.steps.merged.Lts as lts
-use Rattle.accumulator.proofs.steps.either.Reads as either-reads
-use Rattle.accumulator.proofs.steps.either_number.Reads as either-number-reads
 
--- src/steps.rt:66:21
 add-r : tie.Need-add-r
 add-r c = let v = within _ (c .before .before .before .before .before .before .before .before .before .before .pre .0) in let w = within _ (c .before .before .before .before .before .before .before .before .before .before .pre .1) in omega arith
 
--- src/steps.rt:67:30
 add-r-2 : tie.Need-add-r-2
 add-r-2 c = let v = within _ (c .before .before .before .before .before .before .before .before .before .before .before .before .pre .0) in let w = within _ (c .before .before .before .before .before .before .before .before .before .before .before .before .pre .1) in omega arith
 
--- src/steps.rt:68:5
 either-requires : tie.Need-either-requires
 either-requires c κs = tt
 
--- src/steps.rt:69:5
 either-number-requires : tie.Need-either-number-requires
 either-number-requires c κs = tt
 
--- src/steps.rt:70:5
 either-requires-2 : tie.Need-either-requires-2
 either-requires-2 c κs = tt
 
--- src/steps.rt:71:5
 either-number-requires-2 : tie.Need-either-number-requires-2
 either-number-requires-2 c κs = tt
 
--- src/steps.rt:57:1
 returns : tie.Need-returns
 unfolding mergedOf withExtremes withWaiting
 returns c = rw (c .either-number2 .ensures, c .before .either2 .ensures, c .before .before .either-number .ensures, c .before .before .before .either .ensures)

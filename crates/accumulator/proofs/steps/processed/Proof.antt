@@ -3,7 +3,6 @@ use mathlib.Core.Path.{refl}
 use Rattle.doubles.specs.Count.{countOf}
 use Rattle.accumulator.proofs.Counts.{within, exact, all-count}
 use Rattle.accumulator.proofs.Processed.{steps-are}
-use native.Mathlib.Omega.{arith}
 use borrow.Author.Needs.{needs}
 use Rattle.accumulator.proofs.steps.processed.Statement.{statement}
 use Rattle.accumulator.proofs.steps.processed.Tie as tie

@@ -1,6 +1,5 @@
 -- The fields one by one, with the guess that was chosen.
 use Rattle.accumulator.specs.Update.{settledOf}
-use native.Mathlib.Omega.{arith}
 use Rattle.accumulator.proofs.steps.settled.Statement.{statement}
 use Rattle.accumulator.proofs.steps.settled.Tie as tie
 

@@ -6,24 +6,17 @@ use Rattle.accumulator.specs.Update.{enough, updatedOf}
 use borrow.Author.Needs.{needs}
 use Rattle.accumulator.proofs.steps.updated.Statement.{statement}
 use Rattle.accumulator.proofs.steps.updated.Tie as tie
-use Rattle.accumulator.proofs.steps.updated.Reads as reads
-use Rattle.accumulator.proofs.steps.updated.Lts as lts
-use Rattle.accumulator.proofs.steps.processed.Reads as processed-reads
 
--- src/steps.rt:153:22
 add-r : tie.Need-add-r
 add-r c = let w = within _ (c .before .before .before .pre) in omega arith
 
--- src/steps.rt:154:9
 returns : tie.Need-returns
 unfolding updatedOf enough raised
 returns c = rw (lt-leb _ _ (c .before .if1 .taken))
 
--- src/steps.rt:156:5
 processed-requires : tie.Need-processed-requires
 processed-requires c κs = search needs
 
--- src/steps.rt:147:1
 returns-2 : tie.Need-returns-2
 unfolding updatedOf enough
 returns-2 c = rw (le-leb _ _ (c .before .if1 .left)) (c .processed .ensures)

@@ -1,15 +1,11 @@
 use Rattle.accumulator.specs.Steps.{zeroCount}
 use Rattle.accumulator.proofs.steps.zero_count.Statement.{statement}
 use Rattle.accumulator.proofs.steps.zero_count.Tie as tie
-use Rattle.accumulator.proofs.steps.zero_count.Reads as reads
-use Rattle.accumulator.proofs.steps.zero_count.Lts as lts
 
--- src/steps.rt:24:1
 returns : tie.Need-returns
 unfolding zeroCount
 returns c = rw (c .if1 .taken)
 
--- src/steps.rt:24:1
 returns-2 : tie.Need-returns-2
 unfolding zeroCount
 returns-2 c = rw (c .if1 .left)

@@ -3,19 +3,14 @@ use mathlib.Core.Path.{refl}
 use Rattle.axis.specs.Edges.{binsOf}
 use Rattle.axis.proofs.edges.bins.Statement.{statement}
 use Rattle.axis.proofs.edges.bins.Tie as tie
-use Rattle.axis.proofs.edges.bins.Reads as reads
-use Rattle.axis.proofs.edges.bins.Lts as lts
 
--- src/edges.rt:40:9
 returns : tie.Need-returns
 unfolding binsOf
 returns c = omega arith
 
--- src/edges.rt:42:5
 sub-result : tie.Need-sub-result
 sub-result c = omega arith
 
--- src/edges.rt:36:1
 returns-2 : tie.Need-returns-2
 unfolding binsOf
 returns-2 c = refl

@@ -6,22 +6,16 @@ use native.Mathlib.Omega.{arith}
 use borrow.Author.Needs.{needs}
 use Rattle.axis.proofs.edges.edge.Statement.{statement}
 use Rattle.axis.proofs.edges.edge.Tie as tie
-use Rattle.axis.proofs.edges.edge.Reads as reads
-use Rattle.axis.proofs.edges.edge.Lts as lts
 
--- src/edges.rt:50:16
 mul-result : tie.Need-mul-result
 mul-result c = omega arith
 
--- src/edges.rt:50:16
 shared-slice-read-result : tie.Need-shared-slice-read-result
 shared-slice-read-result c = omega arith
 
--- src/edges.rt:50:9
 returns : tie.Need-returns
 returns c = search needs
 
--- src/edges.rt:46:1
 returns-2 : tie.Need-returns-2
 unfolding div ofBits
 returns-2 c = sym (List·getD-eq-default (c .before .args .edges .now) nan (c .if1 .left))

@@ -2,7 +2,7 @@ use native.Mathlib.Omega.{arith}
 use mathlib.Core.Path.{_≡_, refl, sym, ap, ap₂, _∙_}
 use mathlib.Core.List.{_++_, append-nil}
 use native.Mathlib.Numerals.{unary-clauses}
-use Prim.Native.Nat.{ℕ, _+_, _-_, _≤_}
+use Prim.Native.Nat.{_+_, _-_, _≤_}
 use lib.ListN.{length, take, set, length-set}
 use lib.Seq.{take-all}
 use lib.Ieee.{Float, nan, binary64, div}
@@ -12,10 +12,6 @@ use Rattle.axis.proofs.Lists.{write-next}
 use Rattle.axis.proofs.Fresh.{even-next}
 use Rattle.axis.proofs.edges.lay_even.Statement.{statement}
 use Rattle.axis.proofs.edges.lay_even.Tie as tie
-use Rattle.axis.proofs.edges.lay_even.Reads as reads
-use Rattle.axis.proofs.edges.lay_even.Lts as lts
-use Rattle.axis.proofs.edges.bins.Reads as bins-reads
-use Rattle.plain.proofs.count.Reads as count-reads
 
 abbrev Inv-loop : tie.InvT-loop
 Inv-loop room₀ n i₀ room i =
@@ -24,39 +20,30 @@ Inv-loop room₀ n i₀ room i =
 abbrev μ-loop : tie.MeasureT-loop
 μ-loop room₀ n i₀ room i = length room₀ - i
 
--- src/edges.rt:91:25
 bins-requires : tie.Need-bins-requires Inv-loop μ-loop
 bins-requires c κs = tt
 
--- src/edges.rt:91:9
 count-requires : tie.Need-count-requires Inv-loop μ-loop
 count-requires c κs = tt
 
--- src/edges.rt:93:5
 loop-holds : tie.Need-loop-holds Inv-loop μ-loop
 loop-holds c = (omega arith, refl, c .count .ensures ∙ ap countOf (c .before .bins .ensures), simp unary-clauses)
 
--- src/edges.rt:94:19
 count-requires-2 : tie.Need-count-requires-2 Inv-loop μ-loop
 count-requires-2 c κs = tt
 
--- src/edges.rt:94:9
 mul-room : tie.Need-mul-room Inv-loop μ-loop
 mul-room c = omega arith
 
--- src/edges.rt:94:9
 slice-write-room : tie.Need-slice-write-room Inv-loop μ-loop
 slice-write-room c = omega arith
 
--- src/edges.rt:95:9
 add-i : tie.Need-add-i Inv-loop μ-loop
 add-i c = omega arith
 
--- src/edges.rt:93:5
 loop-less : tie.Need-loop-less Inv-loop μ-loop
 loop-less c = omega arith
 
--- src/edges.rt:93:5
 loop-again : tie.Need-loop-again Inv-loop μ-loop
 loop-again c = let i = c .before .before .loop .i in let room = c .before .before .loop .room in let n = binsOf (c .before .before .before .before .before .before .before .args .room .now) in (
   simp length-set (omega arith),
@@ -67,11 +54,9 @@ loop-again c = let i = c .before .before .loop .i in let room = c .before .befor
       ∙ c .before .before .loop .inv .3,
 )
 
--- src/edges.rt:88:1
 same-length : tie.Need-same-length Inv-loop μ-loop
 same-length c = c .before .loop .inv .1
 
--- src/edges.rt:88:1
 returns : tie.Need-returns Inv-loop μ-loop
 unfolding evenFrom
 returns c = let e : length (c .before .before .before .before .before .before .args .room .now) - c .before .loop .i ≡ 0 = omega arith in

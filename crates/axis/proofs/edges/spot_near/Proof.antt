@@ -12,12 +12,7 @@ use Rattle.axis.proofs.Points.{guessed}
 use borrow.Author.Needs.{needs}
 use Rattle.axis.proofs.edges.spot_near.Statement.{statement}
 use Rattle.axis.proofs.edges.spot_near.Tie as tie
-use Rattle.axis.proofs.edges.spot_near.Reads as reads
-use Rattle.axis.proofs.edges.spot_near.Lts as lts
-use Rattle.axis.proofs.edges.bins.Reads as bins-reads
-use Rattle.axis.proofs.edges.spot_of.Reads as spot-of-reads
 
--- src/edges.rt:93:9
 bins-requires : tie.Need-bins-requires
 bins-requires c κs = tt
 
@@ -31,51 +26,40 @@ known c =
     let e = c .before .bins .ensures in
     (a, b, omega arith)
 
--- src/edges.rt:95:20
 add-next : tie.Need-add-next
 add-next c = let k = known c in omega arith
 
--- src/edges.rt:96:17
 int-to-float-n : tie.Need-int-to-float-n
 unfolding inFloat
 int-to-float-n c = let k = known (c .before) in omega (arith, le→leb)
 
--- src/edges.rt:97:19
 int-to-float-low : tie.Need-int-to-float-low
 unfolding inFloat
 int-to-float-low c = let k = known (c .before .before) in omega (arith, le→leb)
 
--- src/edges.rt:98:20
 int-to-float-high : tie.Need-int-to-float-high
 unfolding inFloat
 int-to-float-high c = let k = known (c .before .before .before) in omega (arith, le→leb)
 
--- src/edges.rt:101:24
 mul-edge : tie.Need-mul-edge
 mul-edge c = let k = known (c .before .before .before .before) in omega arith
 
--- src/edges.rt:101:24
 shared-slice-read-edge : tie.Need-shared-slice-read-edge
 shared-slice-read-edge c = let k = known (c .before .before .before .before .before) in omega arith
 
--- src/edges.rt:102:24
 mul-step : tie.Need-mul-step
 mul-step c = let k = known (c .before .before .before .before .before) in omega arith
 
--- src/edges.rt:102:24
 shared-slice-read-step : tie.Need-shared-slice-read-step
 shared-slice-read-step c = let k = known (c .before .before .before .before .before .before) in omega arith
 
--- src/edges.rt:107:13
 returns : tie.Need-returns
 unfolding countOf widthOf
 returns c = let k = known (c .before .before .before .before .before .before) in guessed (c .before .before .before .before .before .before .before .before .before .args .edges .now) (c .before .before .before .before .before .before .before .bins .result) (c .before .before .before .before .before .before .before .before .before .args .r) (c .before .before .before .before .before .before .before .before .before .args .guess) (c .before .before .before .before .before .before .before .bins .ensures) (omega arith) (c .before .before .if2 .taken)
 
--- src/edges.rt:110:5
 spot-of-requires : tie.Need-spot-of-requires
 spot-of-requires c κs = tt
 
--- src/edges.rt:90:1
 returns-2 : tie.Need-returns-2
 returns-2 c = search needs
 

@@ -7,8 +7,6 @@ use Rattle.axis.specs.Scans.{allBounded}
 use Rattle.axis.proofs.Lists.{bounded-on, bounded-out}
 use Rattle.axis.proofs.scans.are_bounded.Statement.{statement}
 use Rattle.axis.proofs.scans.are_bounded.Tie as tie
-use Rattle.axis.proofs.scans.are_bounded.Reads as reads
-use Rattle.axis.proofs.scans.are_bounded.Lts as lts
 
 abbrev Inv-loop : tie.InvT-loop
 Inv-loop ns ok₀ k₀ ok k = (ok && allBounded (drop k ns)) ≡ allBounded ns
@@ -16,31 +14,24 @@ Inv-loop ns ok₀ k₀ ok k = (ok && allBounded (drop k ns)) ≡ allBounded ns
 abbrev μ-loop : tie.MeasureT-loop
 μ-loop ns ok₀ k₀ ok k = length ns - k
 
--- src/scans.rt:66:5
 loop-holds : tie.Need-loop-holds Inv-loop μ-loop
 loop-holds c = refl
 
--- src/scans.rt:67:20
 mul-ok : tie.Need-mul-ok Inv-loop μ-loop
 mul-ok c = omega arith
 
--- src/scans.rt:67:20
 shared-slice-read-ok : tie.Need-shared-slice-read-ok Inv-loop μ-loop
 shared-slice-read-ok c = omega arith
 
--- src/scans.rt:68:9
 add-k : tie.Need-add-k Inv-loop μ-loop
 add-k c = omega arith
 
--- src/scans.rt:66:5
 loop-less : tie.Need-loop-less Inv-loop μ-loop
 loop-less c = omega arith
 
--- src/scans.rt:66:5
 loop-again : tie.Need-loop-again Inv-loop μ-loop
 loop-again c = bounded-on (c .before .before .before .args .ns .now) (c .before .before .loop .k) (c .before .before .loop .ok) (c .before .loop-test .taken) ∙ c .before .before .loop .inv
 
--- src/scans.rt:61:1
 returns : tie.Need-returns Inv-loop μ-loop
 returns c = sym (bounded-out (c .before .before .args .ns .now) (c .before .loop .k) (c .before .loop .ok) (c .loop-test .left)) ∙ c .before .loop .inv
 

@@ -7,9 +7,6 @@ use Rattle.doubles.specs.Total.{allFinite}
 use Rattle.axis.proofs.Lists.{finite-on, finite-out}
 use Rattle.axis.proofs.scans.are_finite.Statement.{statement}
 use Rattle.axis.proofs.scans.are_finite.Tie as tie
-use Rattle.axis.proofs.scans.are_finite.Reads as reads
-use Rattle.axis.proofs.scans.are_finite.Lts as lts
-use Rattle.plain.proofs.finite.Reads as finite-reads
 
 abbrev Inv-loop : tie.InvT-loop
 Inv-loop xs ok₀ k₀ ok k = (ok && allFinite (drop k xs)) ≡ allFinite xs
@@ -17,35 +14,27 @@ Inv-loop xs ok₀ k₀ ok k = (ok && allFinite (drop k xs)) ≡ allFinite xs
 abbrev μ-loop : tie.MeasureT-loop
 μ-loop xs ok₀ k₀ ok k = length xs - k
 
--- src/scans.rt:53:5
 loop-holds : tie.Need-loop-holds Inv-loop μ-loop
 loop-holds c = refl
 
--- src/scans.rt:54:32
 mul-finite : tie.Need-mul-finite Inv-loop μ-loop
 mul-finite c = omega arith
 
--- src/scans.rt:54:32
 shared-slice-read-finite : tie.Need-shared-slice-read-finite Inv-loop μ-loop
 shared-slice-read-finite c = omega arith
 
--- src/scans.rt:54:19
 finite-requires : tie.Need-finite-requires Inv-loop μ-loop
 finite-requires c κs = tt
 
--- src/scans.rt:55:9
 add-k : tie.Need-add-k Inv-loop μ-loop
 add-k c = omega arith
 
--- src/scans.rt:53:5
 loop-less : tie.Need-loop-less Inv-loop μ-loop
 loop-less c = omega arith
 
--- src/scans.rt:53:5
 loop-again : tie.Need-loop-again Inv-loop μ-loop
 loop-again c = ap (λ (t : Bool). (c .before .before .before .loop .ok && t) && allFinite (drop (c .before .before .before .loop .k + 1) (c .before .before .before .before .before .args .xs .now))) (c .finite .ensures) ∙ finite-on (c .before .before .before .before .before .args .xs .now) (c .before .before .before .loop .k) (c .before .before .before .loop .ok) (c .before .before .loop-test .taken) ∙ c .before .before .before .loop .inv
 
--- src/scans.rt:48:1
 returns : tie.Need-returns Inv-loop μ-loop
 returns c = sym (finite-out (c .before .before .before .args .xs .now) (c .before .loop .k) (c .before .loop .ok) (c .loop-test .left)) ∙ c .before .loop .inv
 

@@ -1,15 +1,11 @@
 use Rattle.axis.specs.Edges.{inUnit}
 use Rattle.axis.proofs.scans.in_unit.Statement.{statement}
 use Rattle.axis.proofs.scans.in_unit.Tie as tie
-use Rattle.axis.proofs.scans.in_unit.Reads as reads
-use Rattle.axis.proofs.scans.in_unit.Lts as lts
 
--- src/scans.rt:42:9
 returns : tie.Need-returns
 unfolding inUnit
 returns c = rw (c .if1 .taken)
 
--- src/scans.rt:38:1
 returns-2 : tie.Need-returns-2
 unfolding inUnit
 returns-2 c = rw (c .if1 .left)

@@ -7,8 +7,6 @@ use Rattle.axis.specs.Edges.{rising}
 use Rattle.axis.proofs.Lists.{rising-on, rising-out}
 use Rattle.axis.proofs.scans.is_rising.Statement.{statement}
 use Rattle.axis.proofs.scans.is_rising.Tie as tie
-use Rattle.axis.proofs.scans.is_rising.Reads as reads
-use Rattle.axis.proofs.scans.is_rising.Lts as lts
 
 abbrev Inv-loop : tie.InvT-loop
 Inv-loop edges ok₀ k₀ ok k = (1 ≤ k) × ((ok && rising (drop (k - 1) edges)) ≡ rising edges)
@@ -16,43 +14,33 @@ Inv-loop edges ok₀ k₀ ok k = (1 ≤ k) × ((ok && rising (drop (k - 1) edges
 abbrev μ-loop : tie.MeasureT-loop
 μ-loop edges ok₀ k₀ ok k = length edges - k
 
--- src/scans.rt:13:5
 loop-holds : tie.Need-loop-holds Inv-loop μ-loop
 loop-holds c = (omega arith, refl)
 
--- src/scans.rt:14:26
 sub-ok : tie.Need-sub-ok Inv-loop μ-loop
 sub-ok c = omega arith
 
--- src/scans.rt:14:20
 mul-ok : tie.Need-mul-ok Inv-loop μ-loop
 mul-ok c = omega arith
 
--- src/scans.rt:14:20
 shared-slice-read-ok : tie.Need-shared-slice-read-ok Inv-loop μ-loop
 shared-slice-read-ok c = omega arith
 
--- src/scans.rt:14:35
 mul-ok-2 : tie.Need-mul-ok-2 Inv-loop μ-loop
 mul-ok-2 c = omega arith
 
--- src/scans.rt:14:35
 shared-slice-read-ok-2 : tie.Need-shared-slice-read-ok-2 Inv-loop μ-loop
 shared-slice-read-ok-2 c = omega arith
 
--- src/scans.rt:15:9
 add-k : tie.Need-add-k Inv-loop μ-loop
 add-k c = omega arith
 
--- src/scans.rt:13:5
 loop-less : tie.Need-loop-less Inv-loop μ-loop
 loop-less c = omega arith
 
--- src/scans.rt:13:5
 loop-again : tie.Need-loop-again Inv-loop μ-loop
 loop-again c = (omega arith, rising-on (c .before .before .before .before .args .edges .now) (c .before .before .before .loop .k) (c .before .before .before .loop .ok) (c .before .before .before .loop .inv .0) (c .before .before .loop-test .taken) ∙ c .before .before .before .loop .inv .1)
 
--- src/scans.rt:8:1
 returns : tie.Need-returns Inv-loop μ-loop
 returns c = sym (rising-out (c .before .before .args .edges .now) (c .before .loop .k) (c .before .loop .ok) (c .before .loop .inv .0) (c .loop-test .left)) ∙ c .before .loop .inv .1
 

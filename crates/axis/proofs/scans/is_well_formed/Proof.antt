@@ -8,46 +8,34 @@ use Rattle.axis.specs.Edges.{binsOf, wellFormed}
 use native.Mathlib.Omega.{arith}
 use Rattle.axis.proofs.scans.is_well_formed.Statement.{statement}
 use Rattle.axis.proofs.scans.is_well_formed.Tie as tie
-use Rattle.axis.proofs.scans.is_well_formed.Reads as reads
-use Rattle.axis.proofs.scans.is_well_formed.Lts as lts
-use Rattle.axis.proofs.scans.is_rising.Reads as is-rising-reads
 
--- src/scans.rt:26:9
 returns : tie.Need-returns
 unfolding wellFormed
 returns c = rw (lt-leb _ _ (c .if1 .taken))
 
--- src/scans.rt:28:8
 shared-slice-read-if2 : tie.Need-shared-slice-read-if2
 shared-slice-read-if2 c = omega arith
 
--- src/scans.rt:29:9
 returns-2 : tie.Need-returns-2
 unfolding wellFormed ne
 returns-2 c = rw (le-leb _ _ (c .before .before .if1 .left), not-true (eq (getD (c .before .before .before .before .args .edges .now) 0 nan) zero64) (c .if2 .taken))
 
--- src/scans.rt:31:14
 sub-if3 : tie.Need-sub-if3
 sub-if3 c = omega arith
 
--- src/scans.rt:31:8
 mul-if3 : tie.Need-mul-if3
 mul-if3 c = omega arith
 
--- src/scans.rt:31:8
 shared-slice-read-if3 : tie.Need-shared-slice-read-if3
 shared-slice-read-if3 c = omega arith
 
--- src/scans.rt:32:9
 returns-3 : tie.Need-returns-3
 unfolding wellFormed binsOf ne
 returns-3 c = rw (le-leb _ _ (c .before .before .before .before .if1 .left), not-false (eq (getD (c .before .before .before .before .before .before .args .edges .now) 0 nan) zero64) (c .before .before .if2 .left), not-true (eq (getD (c .before .before .before .before .before .before .args .edges .now) (length (c .before .before .before .before .before .before .args .edges .now) - 1) nan) one64) (c .if3 .taken))
 
--- src/scans.rt:34:5
 is-rising-requires : tie.Need-is-rising-requires
 is-rising-requires c κs = tt
 
--- src/scans.rt:21:1
 returns-4 : tie.Need-returns-4
 unfolding wellFormed binsOf ne
 returns-4 c = rw (le-leb _ _ (c .before .before .before .before .before .if1 .left), not-false (eq (getD (c .before .before .before .before .before .before .before .args .edges .now) 0 nan) zero64) (c .before .before .before .if2 .left), not-false (eq (getD (c .before .before .before .before .before .before .before .args .edges .now) (length (c .before .before .before .before .before .before .before .args .edges .now) - 1) nan) one64) (c .before .if3 .left)) (c .is-rising .ensures)

@@ -10,43 +10,33 @@ Inv-loop table reals₀ counts₀ evaluations count stream₀ i₀ reals counts 
 abbrev μ-loop : tie.MeasureT-loop
 μ-loop table reals₀ counts₀ evaluations count stream₀ i₀ reals counts stream i = count - i
 
--- src/grids.rt:32:9
 seed-from-u64-requires : tie.Need-seed-from-u64-requires Inv-loop μ-loop
 seed-from-u64-requires c κs = search needs
 
--- src/grids.rt:34:5
 loop-holds : tie.Need-loop-holds Inv-loop μ-loop
 loop-holds c = search needs
 
--- src/grids.rt:35:13
 draw-and-train-requires : tie.Need-draw-and-train-requires Inv-loop μ-loop
 draw-and-train-requires c κs = search needs
 
--- src/grids.rt:37:13
 returns : tie.Need-returns Inv-loop μ-loop
 returns c = search needs
 
--- src/grids.rt:40:9
 add-i : tie.Need-add-i Inv-loop μ-loop
 add-i c = search needs
 
--- src/grids.rt:34:5
 loop-less : tie.Need-loop-less Inv-loop μ-loop
 loop-less c = search needs
 
--- src/grids.rt:34:5
 loop-again : tie.Need-loop-again Inv-loop μ-loop
 loop-again c = search needs
 
--- src/grids.rt:42:10
 live-estimate-requires : tie.Need-live-estimate-requires Inv-loop μ-loop
 live-estimate-requires c κs = search needs
 
--- src/grids.rt:42:5
 word-requires : tie.Need-word-requires Inv-loop μ-loop
 word-requires c κs = search needs
 
--- src/grids.rt:25:1
 returns-2 : tie.Need-returns-2 Inv-loop μ-loop
 returns-2 c = search needs
 

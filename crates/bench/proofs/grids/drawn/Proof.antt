@@ -10,51 +10,39 @@ Inv-loop table reals counts count stream₀ xor₀ i₀ stream xor i = i ≤ cou
 abbrev μ-loop : tie.MeasureT-loop
 μ-loop table reals counts count stream₀ xor₀ i₀ stream xor i = count - i
 
--- src/grids.rt:59:9
 seed-from-u64-requires : tie.Need-seed-from-u64-requires Inv-loop μ-loop
 seed-from-u64-requires c κs = search needs
 
--- src/grids.rt:62:5
 loop-holds : tie.Need-loop-holds Inv-loop μ-loop
 loop-holds c = search needs
 
--- src/grids.rt:63:13
 draw-requires : tie.Need-draw-requires Inv-loop μ-loop
 draw-requires c κs = search needs
 
--- src/grids.rt:65:13
 returns : tie.Need-returns Inv-loop μ-loop
 returns c = search needs
 
--- src/grids.rt:71:26
 array-read-bits : tie.Need-array-read-bits Inv-loop μ-loop
 array-read-bits c = search needs
 
--- src/grids.rt:71:21
 bits-requires : tie.Need-bits-requires Inv-loop μ-loop
 bits-requires c κs = search needs
 
--- src/grids.rt:71:45
 array-read-bits-2 : tie.Need-array-read-bits-2 Inv-loop μ-loop
 array-read-bits-2 c = search needs
 
--- src/grids.rt:71:40
 bits-requires-2 : tie.Need-bits-requires-2 Inv-loop μ-loop
 bits-requires-2 c κs = search needs
 
--- src/grids.rt:73:9
 add-i : tie.Need-add-i Inv-loop μ-loop
 add-i c = search needs
 
--- src/grids.rt:62:5
 loop-less : tie.Need-loop-less Inv-loop μ-loop
 loop-less c = search needs
 
--- src/grids.rt:62:5
 loop-again : tie.Need-loop-again Inv-loop μ-loop
 loop-again c = search needs
 
--- src/grids.rt:58:1
 returns-2 : tie.Need-returns-2 Inv-loop μ-loop
 returns-2 c = search needs
 

@@ -13,35 +13,27 @@ Inv-loop bytes₀ i₀ bytes i = (i ≤ length bytes) × (length bytes ≡ lengt
 abbrev μ-loop : tie.MeasureT-loop
 μ-loop bytes₀ i₀ bytes i = length bytes₀ - i
 
--- src/plans.rt:33:5
 loop-holds : tie.Need-loop-holds Inv-loop μ-loop
 loop-holds c = (omega arith, refl)
 
--- src/plans.rt:34:20
 byte-of-tree-requires : tie.Need-byte-of-tree-requires Inv-loop μ-loop
 byte-of-tree-requires c κs = search needs
 
--- src/plans.rt:34:9
 slice-write-bytes : tie.Need-slice-write-bytes Inv-loop μ-loop
 slice-write-bytes c = omega arith
 
--- src/plans.rt:35:9
 add-i : tie.Need-add-i Inv-loop μ-loop
 add-i c = search needs
 
--- src/plans.rt:33:5
 loop-less : tie.Need-loop-less Inv-loop μ-loop
 loop-less c = search needs
 
--- src/plans.rt:33:5
 loop-again : tie.Need-loop-again Inv-loop μ-loop
 loop-again c = (rw length-set (omega arith), rw length-set (omega arith))
 
--- src/plans.rt:31:1
 same-length : tie.Need-same-length Inv-loop μ-loop
 same-length c = omega arith
 
--- src/plans.rt:31:1
 returns : tie.Need-returns Inv-loop μ-loop
 returns c = tt
 

@@ -8,40 +8,29 @@ use Rattle.lent.proofs.Runs.{from-out, rest-whole}
 use native.Mathlib.Omega.{arith}
 use Rattle.ground.proofs.accounts.counts_from.Statement.{statement}
 use Rattle.ground.proofs.accounts.counts_from.Tie as tie
-use Rattle.ground.proofs.accounts.counts_from.Reads as reads
-use Rattle.ground.proofs.accounts.counts_from.Lts as lts
-use Rattle.ground.proofs.parts.set_counts.Reads as set-counts-reads
 
--- src/accounts.rt:29:27
 slice-aggregate-set-counts : tie.Need-slice-aggregate-set-counts
 slice-aggregate-set-counts c = omega arith
 
--- src/accounts.rt:29:38
 mul-set-counts : tie.Need-mul-set-counts
 mul-set-counts c = omega arith
 
--- src/accounts.rt:29:38
 sub-set-counts : tie.Need-sub-set-counts
 sub-set-counts c = omega arith
 
--- src/accounts.rt:29:38
 part-set-counts-start : tie.Need-part-set-counts-start
 part-set-counts-start c = omega arith
 
--- src/accounts.rt:29:38
 part-set-counts-end : tie.Need-part-set-counts-end
 part-set-counts-end c = omega arith
 
--- src/accounts.rt:29:9
 set-counts-requires : tie.Need-set-counts-requires
 set-counts-requires c κs = tt
 
--- src/accounts.rt:24:1
 returns : tie.Need-returns
 unfolding fromOn
 returns c = c .before .set-counts .ensures ∙ ap (λ (ys : List ℕ). sets (replicate 7 0) 0 ys) (rest-whole (c .before .before .before .before .before .before .args .c) (c .before .before .before .before .before .before .args .counts .now))
 
--- src/accounts.rt:24:1
 returns-2 : tie.Need-returns-2
 returns-2 c = from-out 7 0 (c .before .before .args .c) (c .before .before .args .counts .now) (c .if1 .left)
 

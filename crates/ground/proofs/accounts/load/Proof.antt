@@ -5,104 +5,76 @@ use Rattle.lent.proofs.Runs.{record-from}
 use native.Mathlib.Omega.{arith}
 use Rattle.ground.proofs.accounts.load.Statement.{statement}
 use Rattle.ground.proofs.accounts.load.Tie as tie
-use Rattle.ground.proofs.accounts.load.Reads as reads
-use Rattle.ground.proofs.accounts.load.Lts as lts
-use Rattle.ground.proofs.accounts.counts_from.Reads as counts-from-reads
-use Rattle.ground.proofs.accounts.reals_from.Reads as reals-from-reads
 
--- src/accounts.rt:38:13
 reals-from-requires : tie.Need-reals-from-requires
 reals-from-requires c κs = tt
 
--- src/accounts.rt:39:13
 counts-from-requires : tie.Need-counts-from-requires
 counts-from-requires c κs = tt
 
--- src/accounts.rt:41:14
 array-read-t11 : tie.Need-array-read-t11
 array-read-t11 c = omega arith
 
--- src/accounts.rt:42:17
 array-read-t14 : tie.Need-array-read-t14
 array-read-t14 c = omega arith
 
--- src/accounts.rt:43:20
 array-read-t17 : tie.Need-array-read-t17
 array-read-t17 c = omega arith
 
--- src/accounts.rt:44:23
 array-read-t20 : tie.Need-array-read-t20
 array-read-t20 c = omega arith
 
--- src/accounts.rt:45:21
 array-read-t23 : tie.Need-array-read-t23
 array-read-t23 c = omega arith
 
--- src/accounts.rt:46:18
 array-read-t26 : tie.Need-array-read-t26
 array-read-t26 c = omega arith
 
--- src/accounts.rt:47:14
 array-read-t29 : tie.Need-array-read-t29
 array-read-t29 c = omega arith
 
--- src/accounts.rt:48:14
 array-read-t32 : tie.Need-array-read-t32
 array-read-t32 c = omega arith
 
--- src/accounts.rt:49:16
 array-read-t35 : tie.Need-array-read-t35
 array-read-t35 c = omega arith
 
--- src/accounts.rt:50:17
 array-read-t38 : tie.Need-array-read-t38
 array-read-t38 c = omega arith
 
--- src/accounts.rt:51:18
 array-read-t41 : tie.Need-array-read-t41
 array-read-t41 c = omega arith
 
--- src/accounts.rt:52:21
 array-read-t44 : tie.Need-array-read-t44
 array-read-t44 c = omega arith
 
--- src/accounts.rt:53:22
 array-read-t47 : tie.Need-array-read-t47
 array-read-t47 c = omega arith
 
--- src/accounts.rt:54:31
 array-read-t50 : tie.Need-array-read-t50
 array-read-t50 c = omega arith
 
--- src/accounts.rt:55:19
 array-read-t53 : tie.Need-array-read-t53
 array-read-t53 c = omega arith
 
--- src/accounts.rt:56:28
 array-read-t56 : tie.Need-array-read-t56
 array-read-t56 c = omega arith
 
--- src/accounts.rt:57:28
 array-read-t59 : tie.Need-array-read-t59
 array-read-t59 c = omega arith
 
--- src/accounts.rt:58:35
 array-read-t62 : tie.Need-array-read-t62
 array-read-t62 c = omega arith
 
--- src/accounts.rt:59:28
 array-read-t65 : tie.Need-array-read-t65
 array-read-t65 c = omega arith
 
--- src/accounts.rt:60:35
 array-read-t68 : tie.Need-array-read-t68
 array-read-t68 c = omega arith
 
--- src/accounts.rt:61:31
 array-read-t71 : tie.Need-array-read-t71
 array-read-t71 c = omega arith
 
--- src/accounts.rt:35:1
 returns : tie.Need-returns
 unfolding recordFrom
 returns c = ap₂ recordFrom (c .before .reals-from .ensures) (c .counts-from .ensures) ∙ record-from (c .before .before .before .before .args .reals .now) (c .before .before .before .before .args .counts .now) (c .before .before .before .before .args .r) (c .before .before .before .before .args .c)

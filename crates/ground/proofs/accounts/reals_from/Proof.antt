@@ -8,40 +8,29 @@ use lib.Ieee.{Float, nan, div, ofBits}
 use native.Mathlib.Omega.{arith}
 use Rattle.ground.proofs.accounts.reals_from.Statement.{statement}
 use Rattle.ground.proofs.accounts.reals_from.Tie as tie
-use Rattle.ground.proofs.accounts.reals_from.Reads as reads
-use Rattle.ground.proofs.accounts.reals_from.Lts as lts
-use Rattle.ground.proofs.parts.set_reals.Reads as set-reals-reads
 
--- src/accounts.rt:18:26
 slice-aggregate-set-reals : tie.Need-slice-aggregate-set-reals
 slice-aggregate-set-reals c = omega arith
 
--- src/accounts.rt:18:37
 mul-set-reals : tie.Need-mul-set-reals
 mul-set-reals c = omega arith
 
--- src/accounts.rt:18:37
 sub-set-reals : tie.Need-sub-set-reals
 sub-set-reals c = omega arith
 
--- src/accounts.rt:18:37
 part-set-reals-start : tie.Need-part-set-reals-start
 part-set-reals-start c = omega arith
 
--- src/accounts.rt:18:37
 part-set-reals-end : tie.Need-part-set-reals-end
 part-set-reals-end c = omega arith
 
--- src/accounts.rt:18:9
 set-reals-requires : tie.Need-set-reals-requires
 set-reals-requires c κs = tt
 
--- src/accounts.rt:13:1
 returns : tie.Need-returns
 unfolding fromOn div ofBits
 returns c = c .before .set-reals .ensures ∙ ap (λ (ys : List Float). sets (replicate 14 nan) 0 ys) (rest-whole (c .before .before .before .before .before .before .args .r) (c .before .before .before .before .before .before .args .reals .now))
 
--- src/accounts.rt:13:1
 returns-2 : tie.Need-returns-2
 unfolding div ofBits
 returns-2 c = from-out 14 nan (c .before .before .args .r) (c .before .before .args .reals .now) (c .if1 .left)

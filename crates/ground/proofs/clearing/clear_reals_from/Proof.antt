@@ -3,39 +3,28 @@ use Rattle.lent.proofs.Lays.{cleared-reals}
 use native.Mathlib.Omega.{arith}
 use Rattle.ground.proofs.clearing.clear_reals_from.Statement.{statement}
 use Rattle.ground.proofs.clearing.clear_reals_from.Tie as tie
-use Rattle.ground.proofs.clearing.clear_reals_from.Reads as reads
-use Rattle.ground.proofs.clearing.clear_reals_from.Lts as lts
-use Rattle.ground.proofs.clearing.clear_reals.Reads as clear-reals-reads
 
--- src/clearing.rt:35:15
 add-end : tie.Need-add-end
 add-end c = omega arith
 
--- src/clearing.rt:36:17
 mul-clear-reals : tie.Need-mul-clear-reals
 mul-clear-reals c = omega arith
 
--- src/clearing.rt:36:17
 sub-clear-reals : tie.Need-sub-clear-reals
 sub-clear-reals c = omega arith
 
--- src/clearing.rt:36:17
 part-clear-reals-start : tie.Need-part-clear-reals-start
 part-clear-reals-start c = omega arith
 
--- src/clearing.rt:36:17
 part-clear-reals-end : tie.Need-part-clear-reals-end
 part-clear-reals-end c = omega arith
 
--- src/clearing.rt:36:5
 clear-reals-requires : tie.Need-clear-reals-requires
 clear-reals-requires c κs = tt
 
--- src/clearing.rt:31:1
 same-length : tie.Need-same-length
 same-length c = omega arith
 
--- src/clearing.rt:31:1
 returns : tie.Need-returns
 returns c = let start = c .before .before .before .before .before in cleared-reals (start .args .start) (start .args .n) _ (start .args .reals .now) (start .pre) (c .before .before .clear-reals .ensures)
 

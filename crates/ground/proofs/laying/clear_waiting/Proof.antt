@@ -5,10 +5,6 @@ use Rattle.lent.proofs.Rooms.{roomy-had}
 use native.Mathlib.Omega.{arith}
 use Rattle.ground.proofs.laying.clear_waiting.Statement.{statement}
 use Rattle.ground.proofs.laying.clear_waiting.Tie as tie
-use Rattle.ground.proofs.laying.clear_waiting.Reads as reads
-use Rattle.ground.proofs.laying.clear_waiting.Lts as lts
-use Rattle.ground.proofs.laying.clear_waiting_there.Reads as clear-waiting-there-reads
-use Rattle.lent.proofs.room.is_roomy.Reads as is-roomy-reads
 
 is-roomy-requires : tie.Need-is-roomy-requires
 is-roomy-requires c κs = tt

@@ -5,10 +5,6 @@ use Rattle.lent.proofs.Rooms.{roomy-had}
 use native.Mathlib.Omega.{arith}
 use Rattle.ground.proofs.laying.empty_axis.Statement.{statement}
 use Rattle.ground.proofs.laying.empty_axis.Tie as tie
-use Rattle.ground.proofs.laying.empty_axis.Reads as reads
-use Rattle.ground.proofs.laying.empty_axis.Lts as lts
-use Rattle.ground.proofs.laying.empty_axis_there.Reads as empty-axis-there-reads
-use Rattle.lent.proofs.room.is_roomy.Reads as is-roomy-reads
 
 is-roomy-requires : tie.Need-is-roomy-requires
 is-roomy-requires c κs = tt

@@ -7,9 +7,6 @@ use lib.Seq.{sets}
 use Rattle.doubles.proofs.Runs.{sets-out, sets-next, sets-done, ended}
 use Rattle.ground.proofs.parts.set_counts.Statement.{statement}
 use Rattle.ground.proofs.parts.set_counts.Tie as tie
-use Rattle.ground.proofs.parts.set_counts.Reads as reads
-use Rattle.ground.proofs.parts.set_counts.Lts as lts
-use Rattle.ground.proofs.parts.smaller.Reads as smaller-reads
 
 abbrev Inv-loop : tie.InvT-loop
 Inv-loop counts₀ at part n i₀ counts i =
@@ -18,51 +15,39 @@ Inv-loop counts₀ at part n i₀ counts i =
 abbrev μ-loop : tie.MeasureT-loop
 μ-loop counts₀ at part n i₀ counts i = n - i
 
--- src/parts.rt:30:9
 returns : tie.Need-returns Inv-loop μ-loop
 returns c = sym (sets-out (c .before .before .before .args .part .now) (c .before .before .before .args .counts .now) (c .before .before .before .args .at) (c .if1 .taken))
 
--- src/parts.rt:32:33
 sub-smaller : tie.Need-sub-smaller Inv-loop μ-loop
 sub-smaller c = omega arith
 
--- src/parts.rt:32:9
 smaller-requires : tie.Need-smaller-requires Inv-loop μ-loop
 smaller-requires c κs = tt
 
--- src/parts.rt:34:5
 loop-holds : tie.Need-loop-holds Inv-loop μ-loop
 loop-holds c = let e : c .before .before .before .before .args .at + 0 ≡ c .before .before .before .before .args .at = omega arith in (omega arith, refl, rw e)
 
--- src/parts.rt:35:26
 mul-counts : tie.Need-mul-counts Inv-loop μ-loop
 mul-counts c = omega arith
 
--- src/parts.rt:35:26
 shared-slice-read-counts : tie.Need-shared-slice-read-counts Inv-loop μ-loop
 shared-slice-read-counts c = omega (arith, c .before .before .before .smaller .ensures .0)
 
--- src/parts.rt:35:16
 add-counts : tie.Need-add-counts Inv-loop μ-loop
 add-counts c = omega (arith, c .before .before .before .smaller .ensures .1)
 
--- src/parts.rt:35:9
 mul-counts-2 : tie.Need-mul-counts-2 Inv-loop μ-loop
 mul-counts-2 c = omega (arith, c .before .before .before .smaller .ensures .1)
 
--- src/parts.rt:35:9
 slice-write-counts : tie.Need-slice-write-counts Inv-loop μ-loop
 slice-write-counts c = omega (arith, c .before .before .loop .inv .1, c .before .before .before .smaller .ensures .1)
 
--- src/parts.rt:36:9
 add-i : tie.Need-add-i Inv-loop μ-loop
 add-i c = omega arith
 
--- src/parts.rt:34:5
 loop-less : tie.Need-loop-less Inv-loop μ-loop
 loop-less c = omega arith
 
--- src/parts.rt:34:5
 loop-again : tie.Need-loop-again Inv-loop μ-loop
 loop-again c =
     let l = c .before .before .loop in
@@ -72,11 +57,9 @@ loop-again c =
       sets-next 0 (o .part .now) (l .counts) (o .at) (l .i) (omega (arith, c .before .before .before .smaller .ensures .0)) ∙ l .inv .2,
     )
 
--- src/parts.rt:26:1
 same-length : tie.Need-same-length Inv-loop μ-loop
 same-length c = c .before .loop .inv .1
 
--- src/parts.rt:26:1
 returns-2 : tie.Need-returns-2 Inv-loop μ-loop
 returns-2 c =
     let l = c .before .loop in

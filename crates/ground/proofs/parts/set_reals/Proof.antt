@@ -8,9 +8,6 @@ use lib.Ieee.{nan}
 use Rattle.doubles.proofs.Runs.{sets-out, sets-next, sets-done, ended}
 use Rattle.ground.proofs.parts.set_reals.Statement.{statement}
 use Rattle.ground.proofs.parts.set_reals.Tie as tie
-use Rattle.ground.proofs.parts.set_reals.Reads as reads
-use Rattle.ground.proofs.parts.set_reals.Lts as lts
-use Rattle.ground.proofs.parts.smaller.Reads as smaller-reads
 
 abbrev Inv-loop : tie.InvT-loop
 Inv-loop reals₀ at part n i₀ reals i =
@@ -19,51 +16,39 @@ Inv-loop reals₀ at part n i₀ reals i =
 abbrev μ-loop : tie.MeasureT-loop
 μ-loop reals₀ at part n i₀ reals i = n - i
 
--- src/parts.rt:15:9
 returns : tie.Need-returns Inv-loop μ-loop
 returns c = sym (sets-out (c .before .before .before .args .part .now) (c .before .before .before .args .reals .now) (c .before .before .before .args .at) (c .if1 .taken))
 
--- src/parts.rt:17:33
 sub-smaller : tie.Need-sub-smaller Inv-loop μ-loop
 sub-smaller c = omega arith
 
--- src/parts.rt:17:9
 smaller-requires : tie.Need-smaller-requires Inv-loop μ-loop
 smaller-requires c κs = tt
 
--- src/parts.rt:19:5
 loop-holds : tie.Need-loop-holds Inv-loop μ-loop
 loop-holds c = let e : c .before .before .before .before .args .at + 0 ≡ c .before .before .before .before .args .at = omega arith in (omega arith, refl, rw e)
 
--- src/parts.rt:20:25
 mul-reals : tie.Need-mul-reals Inv-loop μ-loop
 mul-reals c = omega arith
 
--- src/parts.rt:20:25
 shared-slice-read-reals : tie.Need-shared-slice-read-reals Inv-loop μ-loop
 shared-slice-read-reals c = omega (arith, c .before .before .before .smaller .ensures .0)
 
--- src/parts.rt:20:15
 add-reals : tie.Need-add-reals Inv-loop μ-loop
 add-reals c = omega (arith, c .before .before .before .smaller .ensures .1)
 
--- src/parts.rt:20:9
 mul-reals-2 : tie.Need-mul-reals-2 Inv-loop μ-loop
 mul-reals-2 c = omega (arith, c .before .before .before .smaller .ensures .1)
 
--- src/parts.rt:20:9
 slice-write-reals : tie.Need-slice-write-reals Inv-loop μ-loop
 slice-write-reals c = omega (arith, c .before .before .loop .inv .1, c .before .before .before .smaller .ensures .1)
 
--- src/parts.rt:21:9
 add-i : tie.Need-add-i Inv-loop μ-loop
 add-i c = omega arith
 
--- src/parts.rt:19:5
 loop-less : tie.Need-loop-less Inv-loop μ-loop
 loop-less c = omega arith
 
--- src/parts.rt:19:5
 loop-again : tie.Need-loop-again Inv-loop μ-loop
 loop-again c =
     let l = c .before .before .loop in
@@ -73,11 +58,9 @@ loop-again c =
       sets-next nan (o .part .now) (l .reals) (o .at) (l .i) (omega (arith, c .before .before .before .smaller .ensures .0)) ∙ l .inv .2,
     )
 
--- src/parts.rt:11:1
 same-length : tie.Need-same-length Inv-loop μ-loop
 same-length c = c .before .loop .inv .1
 
--- src/parts.rt:11:1
 returns-2 : tie.Need-returns-2 Inv-loop μ-loop
 returns-2 c =
     let l = c .before .loop in

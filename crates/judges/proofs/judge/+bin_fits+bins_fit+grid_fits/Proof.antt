@@ -56,7 +56,6 @@ abbrev grid-fits-below : ℕ → In 3 grid-fits-kinds.ps
 grid-fits-below t =
     and 3 grid-fits-kinds.ps (falls 3 grid-fits-kinds.ps _<_ μ-grid-fits t) grid-fits.Pre
 
--- src/judge.rt:39:19
 bin-fits-add-r : (t : ℕ) → bin-fits-lts.Need-add-r (
   is-sound-reads.Asked,
   is-sound-reads.Learnt,
@@ -67,7 +66,6 @@ bin-fits-add-r : (t : ℕ) → bin-fits-lts.Need-add-r (
 ) (bin-fits-at t) bin-fits.Post
 bin-fits-add-r t c = omega (arith, c .before .before .before .pre .1 .0, c .before .before .before .pre .1 .1)
 
--- src/judge.rt:39:13
 bin-fits-mul-r : (t : ℕ) → bin-fits-lts.Need-mul-r (
   is-sound-reads.Asked,
   is-sound-reads.Learnt,
@@ -78,7 +76,6 @@ bin-fits-mul-r : (t : ℕ) → bin-fits-lts.Need-mul-r (
 ) (bin-fits-at t) bin-fits.Post
 bin-fits-mul-r t c = omega (arith, c .before .before .before .pre .1 .0, c .before .before .before .pre .1 .1)
 
--- src/judge.rt:39:13
 bin-fits-shared-slice-read-r : (t : ℕ) → bin-fits-lts.Need-shared-slice-read-r (
   is-sound-reads.Asked,
   is-sound-reads.Learnt,
@@ -89,7 +86,6 @@ bin-fits-shared-slice-read-r : (t : ℕ) → bin-fits-lts.Need-shared-slice-read
 ) (bin-fits-at t) bin-fits.Post
 bin-fits-shared-slice-read-r t c = omega (arith, c .before .before .before .before .pre .1 .0, c .before .before .before .before .pre .1 .1)
 
--- src/judge.rt:39:13
 bin-fits-add-r-2 : (t : ℕ) → bin-fits-lts.Need-add-r-2 (
   is-sound-reads.Asked,
   is-sound-reads.Learnt,
@@ -100,7 +96,6 @@ bin-fits-add-r-2 : (t : ℕ) → bin-fits-lts.Need-add-r-2 (
 ) (bin-fits-at t) bin-fits.Post
 bin-fits-add-r-2 t c = omega (arith, c .before .before .before .before .pre .1 .0, c .before .before .before .before .pre .1 .1)
 
--- src/judge.rt:40:19
 bin-fits-add-c : (t : ℕ) → bin-fits-lts.Need-add-c (
   is-sound-reads.Asked,
   is-sound-reads.Learnt,
@@ -111,7 +106,6 @@ bin-fits-add-c : (t : ℕ) → bin-fits-lts.Need-add-c (
 ) (bin-fits-at t) bin-fits.Post
 bin-fits-add-c t c = omega (arith, c .before .before .before .before .pre .1 .0, c .before .before .before .before .pre .1 .1)
 
--- src/judge.rt:40:13
 bin-fits-mul-c : (t : ℕ) → bin-fits-lts.Need-mul-c (
   is-sound-reads.Asked,
   is-sound-reads.Learnt,
@@ -122,7 +116,6 @@ bin-fits-mul-c : (t : ℕ) → bin-fits-lts.Need-mul-c (
 ) (bin-fits-at t) bin-fits.Post
 bin-fits-mul-c t c = omega (arith, c .before .before .before .before .pre .1 .0, c .before .before .before .before .pre .1 .1)
 
--- src/judge.rt:40:13
 bin-fits-shared-slice-read-c : (t : ℕ) → bin-fits-lts.Need-shared-slice-read-c (
   is-sound-reads.Asked,
   is-sound-reads.Learnt,
@@ -133,7 +126,6 @@ bin-fits-shared-slice-read-c : (t : ℕ) → bin-fits-lts.Need-shared-slice-read
 ) (bin-fits-at t) bin-fits.Post
 bin-fits-shared-slice-read-c t c = omega (arith, c .before .before .before .before .before .pre .1 .0, c .before .before .before .before .before .pre .1 .1)
 
--- src/judge.rt:40:13
 bin-fits-add-c-2 : (t : ℕ) → bin-fits-lts.Need-add-c-2 (
   is-sound-reads.Asked,
   is-sound-reads.Learnt,
@@ -144,7 +136,6 @@ bin-fits-add-c-2 : (t : ℕ) → bin-fits-lts.Need-add-c-2 (
 ) (bin-fits-at t) bin-fits.Post
 bin-fits-add-c-2 t c = omega (arith, c .before .before .before .before .before .pre .1 .0, c .before .before .before .before .before .pre .1 .1)
 
--- src/judge.rt:41:19
 bin-fits-add-n : (t : ℕ) → bin-fits-lts.Need-add-n (
   is-sound-reads.Asked,
   is-sound-reads.Learnt,
@@ -155,7 +146,6 @@ bin-fits-add-n : (t : ℕ) → bin-fits-lts.Need-add-n (
 ) (bin-fits-at t) bin-fits.Post
 bin-fits-add-n t c = omega (arith, c .before .before .before .before .before .pre .1 .0, c .before .before .before .before .before .pre .1 .1)
 
--- src/judge.rt:41:13
 bin-fits-mul-n : (t : ℕ) → bin-fits-lts.Need-mul-n (
   is-sound-reads.Asked,
   is-sound-reads.Learnt,
@@ -166,7 +156,6 @@ bin-fits-mul-n : (t : ℕ) → bin-fits-lts.Need-mul-n (
 ) (bin-fits-at t) bin-fits.Post
 bin-fits-mul-n t c = omega (arith, c .before .before .before .before .before .pre .1 .0, c .before .before .before .before .before .pre .1 .1)
 
--- src/judge.rt:41:13
 bin-fits-shared-slice-read-n : (t : ℕ) → bin-fits-lts.Need-shared-slice-read-n (
   is-sound-reads.Asked,
   is-sound-reads.Learnt,
@@ -177,7 +166,6 @@ bin-fits-shared-slice-read-n : (t : ℕ) → bin-fits-lts.Need-shared-slice-read
 ) (bin-fits-at t) bin-fits.Post
 bin-fits-shared-slice-read-n t c = omega (arith, c .before .before .before .before .before .before .pre .1 .0, c .before .before .before .before .before .before .pre .1 .1)
 
--- src/judge.rt:42:49
 bin-fits-add-is-sound : (t : ℕ) → bin-fits-lts.Need-add-is-sound (
   is-sound-reads.Asked,
   is-sound-reads.Learnt,
@@ -188,7 +176,6 @@ bin-fits-add-is-sound : (t : ℕ) → bin-fits-lts.Need-add-is-sound (
 ) (bin-fits-at t) bin-fits.Post
 bin-fits-add-is-sound t c = omega (arith, c .before .before .before .before .before .before .pre .1 .0, c .before .before .before .before .before .before .pre .1 .1)
 
--- src/judge.rt:42:57
 bin-fits-mul-is-sound : (t : ℕ) → bin-fits-lts.Need-mul-is-sound (
   is-sound-reads.Asked,
   is-sound-reads.Learnt,
@@ -199,7 +186,6 @@ bin-fits-mul-is-sound : (t : ℕ) → bin-fits-lts.Need-mul-is-sound (
 ) (bin-fits-at t) bin-fits.Post
 bin-fits-mul-is-sound t c = omega (arith, c .before .before .before .before .before .before .pre .1 .0, c .before .before .before .before .before .before .pre .1 .1)
 
--- src/judge.rt:42:49
 bin-fits-add-is-sound-2 : (t : ℕ) → bin-fits-lts.Need-add-is-sound-2 (
   is-sound-reads.Asked,
   is-sound-reads.Learnt,
@@ -210,7 +196,6 @@ bin-fits-add-is-sound-2 : (t : ℕ) → bin-fits-lts.Need-add-is-sound-2 (
 ) (bin-fits-at t) bin-fits.Post
 bin-fits-add-is-sound-2 t c = omega (arith, c .before .before .before .before .before .before .pre .1 .0, c .before .before .before .before .before .before .pre .1 .1)
 
--- src/judge.rt:42:69
 bin-fits-mul-is-sound-2 : (t : ℕ) → bin-fits-lts.Need-mul-is-sound-2 (
   is-sound-reads.Asked,
   is-sound-reads.Learnt,
@@ -221,7 +206,6 @@ bin-fits-mul-is-sound-2 : (t : ℕ) → bin-fits-lts.Need-mul-is-sound-2 (
 ) (bin-fits-at t) bin-fits.Post
 bin-fits-mul-is-sound-2 t c = omega (arith, c .before .before .before .before .before .before .pre .1 .0, c .before .before .before .before .before .before .pre .1 .1)
 
--- src/judge.rt:42:65
 bin-fits-add-is-sound-3 : (t : ℕ) → bin-fits-lts.Need-add-is-sound-3 (
   is-sound-reads.Asked,
   is-sound-reads.Learnt,
@@ -232,7 +216,6 @@ bin-fits-add-is-sound-3 : (t : ℕ) → bin-fits-lts.Need-add-is-sound-3 (
 ) (bin-fits-at t) bin-fits.Post
 bin-fits-add-is-sound-3 t c = omega (arith, c .before .before .before .before .before .before .pre .1 .0, c .before .before .before .before .before .before .pre .1 .1)
 
--- src/judge.rt:42:9
 bin-fits-is-sound-requires : (t : ℕ) → bin-fits-lts.Need-is-sound-requires (
   is-sound-reads.Asked,
   is-sound-reads.Learnt,
@@ -243,7 +226,6 @@ bin-fits-is-sound-requires : (t : ℕ) → bin-fits-lts.Need-is-sound-requires (
 ) (bin-fits-at t) bin-fits.Post
 bin-fits-is-sound-requires t c κs = (omega (arith, c .before .before .before .before .before .before .pre .1 .0, c .before .before .before .before .before .before .pre .1 .1), omega (arith, c .before .before .before .before .before .before .pre .1 .0, c .before .before .before .before .before .before .pre .1 .1))
 
--- src/judge.rt:43:32
 bin-fits-add-is-chance : (t : ℕ) → bin-fits-lts.Need-add-is-chance (
   is-sound-reads.Asked,
   is-sound-reads.Learnt,
@@ -254,7 +236,6 @@ bin-fits-add-is-chance : (t : ℕ) → bin-fits-lts.Need-add-is-chance (
 ) (bin-fits-at t) bin-fits.Post
 bin-fits-add-is-chance t c = omega (arith, c .before .before .before .before .before .before .before .pre .1 .0, c .before .before .before .before .before .before .before .pre .1 .1)
 
--- src/judge.rt:43:26
 bin-fits-mul-is-chance : (t : ℕ) → bin-fits-lts.Need-mul-is-chance (
   is-sound-reads.Asked,
   is-sound-reads.Learnt,
@@ -265,7 +246,6 @@ bin-fits-mul-is-chance : (t : ℕ) → bin-fits-lts.Need-mul-is-chance (
 ) (bin-fits-at t) bin-fits.Post
 bin-fits-mul-is-chance t c = omega (arith, c .before .before .before .before .before .before .before .pre .1 .0, c .before .before .before .before .before .before .before .pre .1 .1)
 
--- src/judge.rt:43:26
 bin-fits-shared-slice-read-is-chance : (t : ℕ) → bin-fits-lts.Need-shared-slice-read-is-chance (
   is-sound-reads.Asked,
   is-sound-reads.Learnt,
@@ -276,7 +256,6 @@ bin-fits-shared-slice-read-is-chance : (t : ℕ) → bin-fits-lts.Need-shared-sl
 ) (bin-fits-at t) bin-fits.Post
 bin-fits-shared-slice-read-is-chance t c = omega (arith, c .before .before .before .before .before .before .before .before .pre .1 .0, c .before .before .before .before .before .before .before .before .pre .1 .1)
 
--- src/judge.rt:43:16
 bin-fits-is-chance-requires : (t : ℕ) → bin-fits-lts.Need-is-chance-requires (
   is-sound-reads.Asked,
   is-sound-reads.Learnt,
@@ -287,7 +266,6 @@ bin-fits-is-chance-requires : (t : ℕ) → bin-fits-lts.Need-is-chance-requires
 ) (bin-fits-at t) bin-fits.Post
 bin-fits-is-chance-requires t c κs = tt
 
--- src/judge.rt:44:22
 bin-fits-add-link : (t : ℕ) → bin-fits-lts.Need-add-link (
   is-sound-reads.Asked,
   is-sound-reads.Learnt,
@@ -298,7 +276,6 @@ bin-fits-add-link : (t : ℕ) → bin-fits-lts.Need-add-link (
 ) (bin-fits-at t) bin-fits.Post
 bin-fits-add-link t c = omega (arith, c .before .before .before .before .before .before .before .before .before .pre .1 .0, c .before .before .before .before .before .before .before .before .before .pre .1 .1)
 
--- src/judge.rt:44:22
 bin-fits-add-link-2 : (t : ℕ) → bin-fits-lts.Need-add-link-2 (
   is-sound-reads.Asked,
   is-sound-reads.Learnt,
@@ -309,7 +286,6 @@ bin-fits-add-link-2 : (t : ℕ) → bin-fits-lts.Need-add-link-2 (
 ) (bin-fits-at t) bin-fits.Post
 bin-fits-add-link-2 t c = omega (arith, c .before .before .before .before .before .before .before .before .before .pre .1 .0, c .before .before .before .before .before .before .before .before .before .pre .1 .1)
 
--- src/judge.rt:44:16
 bin-fits-mul-link : (t : ℕ) → bin-fits-lts.Need-mul-link (
   is-sound-reads.Asked,
   is-sound-reads.Learnt,
@@ -320,7 +296,6 @@ bin-fits-mul-link : (t : ℕ) → bin-fits-lts.Need-mul-link (
 ) (bin-fits-at t) bin-fits.Post
 bin-fits-mul-link t c = omega (arith, c .before .before .before .before .before .before .before .before .before .pre .1 .0, c .before .before .before .before .before .before .before .before .before .pre .1 .1)
 
--- src/judge.rt:44:16
 bin-fits-shared-slice-read-link : (t : ℕ) → bin-fits-lts.Need-shared-slice-read-link (
   is-sound-reads.Asked,
   is-sound-reads.Learnt,
@@ -331,7 +306,6 @@ bin-fits-shared-slice-read-link : (t : ℕ) → bin-fits-lts.Need-shared-slice-r
 ) (bin-fits-at t) bin-fits.Post
 bin-fits-shared-slice-read-link t c = omega (arith, c .before .before .before .before .before .before .before .before .before .before .pre .1 .0, c .before .before .before .before .before .before .before .before .before .before .pre .1 .1)
 
--- src/judge.rt:46:9
 bin-fits-returns : (t : ℕ) → bin-fits-lts.Need-returns (
   is-sound-reads.Asked,
   is-sound-reads.Learnt,
@@ -343,7 +317,6 @@ bin-fits-returns : (t : ℕ) → bin-fits-lts.Need-returns (
 unfolding binIn
 bin-fits-returns t c = ap₂ _&&_ (c .before .before .is-chance .ensures) (c .before .before .before .before .is-sound .ensures) ∙ sym (child-none (gridAt (c .before .before .before .before .before .before .before .before .before .before .before .args .level) (c .before .before .before .before .before .before .before .before .before .before .before .args .table .now) (c .before .before .before .before .before .before .before .before .before .before .before .args .reals .now) (c .before .before .before .before .before .before .before .before .before .before .before .args .counts .now)) (binIn (c .before .before .before .before .before .before .before .before .before .before .before .args .table .now) (c .before .before .before .before .before .before .before .before .before .before .before .args .reals .now) (c .before .before .before .before .before .before .before .before .before .before .before .args .counts .now) (c .before .before .before .before .before .before .before .before .before .before .before .args .w) (c .before .before .before .before .before .before .before .before .before .before .before .args .i)) (getD (c .before .before .before .before .before .before .before .before .before .before .before .args .table .now) ((c .before .before .before .before .before .before .before .before .before .before .before .args .w) + 7 + (c .before .before .before .before .before .before .before .before .before .before .before .args .i)) 0) (c .if1 .taken))
 
--- src/judge.rt:48:9
 bin-fits-grid-fits-requires : (t : ℕ) → bin-fits-lts.Need-grid-fits-requires (
   is-sound-reads.Asked,
   is-sound-reads.Learnt,
@@ -354,7 +327,6 @@ bin-fits-grid-fits-requires : (t : ℕ) → bin-fits-lts.Need-grid-fits-requires
 ) (bin-fits-at t) bin-fits.Post
 bin-fits-grid-fits-requires t c κs = (omega (arith, c .before .before .before .before .before .before .before .before .before .before .before .pre .0), c .before .before .before .before .before .before .before .before .before .before .before .pre .1 .0 .children (c .before .before .before .before .before .before .before .before .before .before .before .args .i) (c .before .before .before .before .before .before .before .before .before .before .before .pre .1 .1) (c .if1 .left))
 
--- src/judge.rt:34:1
 bin-fits-returns-2 : (t : ℕ) → bin-fits-lts.Need-returns-2 (
   is-sound-reads.Asked,
   is-sound-reads.Learnt,
@@ -372,7 +344,6 @@ bins-fit-Inv-loop table reals counts level w n ok₀ i₀ ok i = (i ≤ n) × ((
 abbrev bins-fit-μ-loop : bins-fit-lts.MeasureT-loop
 bins-fit-μ-loop table reals counts level w n ok₀ i₀ ok i = n - i
 
--- src/judge.rt:58:19
 bins-fit-add-n : (t : ℕ) → bins-fit-lts.Need-add-n (
   is-sound-reads.Asked,
   is-sound-reads.Learnt,
@@ -381,7 +352,6 @@ bins-fit-add-n : (t : ℕ) → bins-fit-lts.Need-add-n (
 ) (bins-fit-at t) bins-fit.Post bins-fit-Inv-loop bins-fit-μ-loop
 bins-fit-add-n t c = omega (arith, c .before .before .before .pre .1)
 
--- src/judge.rt:58:13
 bins-fit-mul-n : (t : ℕ) → bins-fit-lts.Need-mul-n (
   is-sound-reads.Asked,
   is-sound-reads.Learnt,
@@ -390,7 +360,6 @@ bins-fit-mul-n : (t : ℕ) → bins-fit-lts.Need-mul-n (
 ) (bins-fit-at t) bins-fit.Post bins-fit-Inv-loop bins-fit-μ-loop
 bins-fit-mul-n t c = omega (arith, c .before .before .before .pre .1)
 
--- src/judge.rt:58:13
 bins-fit-shared-slice-read-n : (t : ℕ) → bins-fit-lts.Need-shared-slice-read-n (
   is-sound-reads.Asked,
   is-sound-reads.Learnt,
@@ -399,7 +368,6 @@ bins-fit-shared-slice-read-n : (t : ℕ) → bins-fit-lts.Need-shared-slice-read
 ) (bins-fit-at t) bins-fit.Post bins-fit-Inv-loop bins-fit-μ-loop
 bins-fit-shared-slice-read-n t c = omega (arith, c .before .before .before .before .pre .1)
 
--- src/judge.rt:59:58
 bins-fit-add-is-sound : (t : ℕ) → bins-fit-lts.Need-add-is-sound (
   is-sound-reads.Asked,
   is-sound-reads.Learnt,
@@ -408,7 +376,6 @@ bins-fit-add-is-sound : (t : ℕ) → bins-fit-lts.Need-add-is-sound (
 ) (bins-fit-at t) bins-fit.Post bins-fit-Inv-loop bins-fit-μ-loop
 bins-fit-add-is-sound t c = omega (arith, c .before .before .before .before .pre .1)
 
--- src/judge.rt:59:52
 bins-fit-mul-is-sound : (t : ℕ) → bins-fit-lts.Need-mul-is-sound (
   is-sound-reads.Asked,
   is-sound-reads.Learnt,
@@ -417,7 +384,6 @@ bins-fit-mul-is-sound : (t : ℕ) → bins-fit-lts.Need-mul-is-sound (
 ) (bins-fit-at t) bins-fit.Post bins-fit-Inv-loop bins-fit-μ-loop
 bins-fit-mul-is-sound t c = omega (arith, c .before .before .before .before .pre .1)
 
--- src/judge.rt:59:52
 bins-fit-shared-slice-read-is-sound : (t : ℕ) → bins-fit-lts.Need-shared-slice-read-is-sound (
   is-sound-reads.Asked,
   is-sound-reads.Learnt,
@@ -426,7 +392,6 @@ bins-fit-shared-slice-read-is-sound : (t : ℕ) → bins-fit-lts.Need-shared-sli
 ) (bins-fit-at t) bins-fit.Post bins-fit-Inv-loop bins-fit-μ-loop
 bins-fit-shared-slice-read-is-sound t c = omega (arith, c .before .before .before .before .before .pre .1)
 
--- src/judge.rt:59:81
 bins-fit-add-is-sound-2 : (t : ℕ) → bins-fit-lts.Need-add-is-sound-2 (
   is-sound-reads.Asked,
   is-sound-reads.Learnt,
@@ -435,7 +400,6 @@ bins-fit-add-is-sound-2 : (t : ℕ) → bins-fit-lts.Need-add-is-sound-2 (
 ) (bins-fit-at t) bins-fit.Post bins-fit-Inv-loop bins-fit-μ-loop
 bins-fit-add-is-sound-2 t c = omega (arith, c .before .before .before .before .before .pre .1)
 
--- src/judge.rt:59:75
 bins-fit-mul-is-sound-2 : (t : ℕ) → bins-fit-lts.Need-mul-is-sound-2 (
   is-sound-reads.Asked,
   is-sound-reads.Learnt,
@@ -444,7 +408,6 @@ bins-fit-mul-is-sound-2 : (t : ℕ) → bins-fit-lts.Need-mul-is-sound-2 (
 ) (bins-fit-at t) bins-fit.Post bins-fit-Inv-loop bins-fit-μ-loop
 bins-fit-mul-is-sound-2 t c = omega (arith, c .before .before .before .before .before .pre .1)
 
--- src/judge.rt:59:75
 bins-fit-shared-slice-read-is-sound-2 : (t : ℕ) → bins-fit-lts.Need-shared-slice-read-is-sound-2 (
   is-sound-reads.Asked,
   is-sound-reads.Learnt,
@@ -453,7 +416,6 @@ bins-fit-shared-slice-read-is-sound-2 : (t : ℕ) → bins-fit-lts.Need-shared-s
 ) (bins-fit-at t) bins-fit.Post bins-fit-Inv-loop bins-fit-μ-loop
 bins-fit-shared-slice-read-is-sound-2 t c = omega (arith, c .before .before .before .before .before .before .pre .1)
 
--- src/judge.rt:59:9
 bins-fit-is-sound-requires : (t : ℕ) → bins-fit-lts.Need-is-sound-requires (
   is-sound-reads.Asked,
   is-sound-reads.Learnt,
@@ -462,7 +424,6 @@ bins-fit-is-sound-requires : (t : ℕ) → bins-fit-lts.Need-is-sound-requires (
 ) (bins-fit-at t) bins-fit.Post bins-fit-Inv-loop bins-fit-μ-loop
 bins-fit-is-sound-requires t c κs = (omega (arith, c .before .before .before .before .before .before .pre .1), omega (arith, c .before .before .before .before .before .before .pre .1))
 
--- src/judge.rt:61:5
 bins-fit-loop-holds : (t : ℕ) → bins-fit-lts.Need-loop-holds (
   is-sound-reads.Asked,
   is-sound-reads.Learnt,
@@ -471,7 +432,6 @@ bins-fit-loop-holds : (t : ℕ) → bins-fit-lts.Need-loop-holds (
 ) (bins-fit-at t) bins-fit.Post bins-fit-Inv-loop bins-fit-μ-loop
 bins-fit-loop-holds t c = let e : (getD (c .before .before .before .before .before .before .before .args .table .now) ((c .before .before .before .before .before .before .before .args .w) + 2) 0) - 0 ≡ (getD (c .before .before .before .before .before .before .before .args .table .now) ((c .before .before .before .before .before .before .before .args .w) + 2) 0) = omega arith in (omega arith, rw e)
 
--- src/judge.rt:62:13
 bins-fit-bin-fits-requires : (t : ℕ) → bins-fit-lts.Need-bin-fits-requires (
   is-sound-reads.Asked,
   is-sound-reads.Learnt,
@@ -480,7 +440,6 @@ bins-fit-bin-fits-requires : (t : ℕ) → bins-fit-lts.Need-bin-fits-requires (
 ) (bins-fit-at t) bins-fit.Post bins-fit-Inv-loop bins-fit-μ-loop
 bins-fit-bin-fits-requires t c κs = (omega (arith, c .before .before .before .before .before .before .before .before .before .pre .0), (c .before .before .before .before .before .before .before .before .before .pre .1, c .loop-test .taken))
 
--- src/judge.rt:64:9
 bins-fit-add-i : (t : ℕ) → bins-fit-lts.Need-add-i (
   is-sound-reads.Asked,
   is-sound-reads.Learnt,
@@ -489,7 +448,6 @@ bins-fit-add-i : (t : ℕ) → bins-fit-lts.Need-add-i (
 ) (bins-fit-at t) bins-fit.Post bins-fit-Inv-loop bins-fit-μ-loop
 bins-fit-add-i t c = omega (arith, c .before .loop-test .taken)
 
--- src/judge.rt:61:5
 bins-fit-loop-less : (t : ℕ) → bins-fit-lts.Need-loop-less (
   is-sound-reads.Asked,
   is-sound-reads.Learnt,
@@ -498,7 +456,6 @@ bins-fit-loop-less : (t : ℕ) → bins-fit-lts.Need-loop-less (
 ) (bins-fit-at t) bins-fit.Post bins-fit-Inv-loop bins-fit-μ-loop
 bins-fit-loop-less t c = omega (arith, c .before .loop-test .taken)
 
--- src/judge.rt:61:5
 bins-fit-loop-again : (t : ℕ) → bins-fit-lts.Need-loop-again (
   is-sound-reads.Asked,
   is-sound-reads.Learnt,
@@ -507,7 +464,6 @@ bins-fit-loop-again : (t : ℕ) → bins-fit-lts.Need-loop-again (
 ) (bins-fit-at t) bins-fit.Post bins-fit-Inv-loop bins-fit-μ-loop
 bins-fit-loop-again t c = (omega (arith, c .before .loop-test .taken), ap (λ (x : Bool). ((c .before .before .loop .ok) && x) && soundBins (binsIn (gridAt (c .before .before .before .before .before .before .before .before .before .before .args .level) (c .before .before .before .before .before .before .before .before .before .before .args .table .now) (c .before .before .before .before .before .before .before .before .before .before .args .reals .now) (c .before .before .before .before .before .before .before .before .before .before .args .counts .now)) (c .before .before .before .before .before .before .before .before .before .before .args .table .now) (c .before .before .before .before .before .before .before .before .before .before .args .reals .now) (c .before .before .before .before .before .before .before .before .before .before .args .counts .now) (c .before .before .before .before .before .before .before .before .before .before .args .w) ((c .before .before .loop .i) + 1) ((getD (c .before .before .before .before .before .before .before .before .before .before .args .table .now) ((c .before .before .before .before .before .before .before .before .before .before .args .w) + 2) 0) - ((c .before .before .loop .i) + 1)))) (c .bin-fits .ensures) ∙ bins-on (gridAt (c .before .before .before .before .before .before .before .before .before .before .args .level) (c .before .before .before .before .before .before .before .before .before .before .args .table .now) (c .before .before .before .before .before .before .before .before .before .before .args .reals .now) (c .before .before .before .before .before .before .before .before .before .before .args .counts .now)) (c .before .before .before .before .before .before .before .before .before .before .args .table .now) (c .before .before .before .before .before .before .before .before .before .before .args .reals .now) (c .before .before .before .before .before .before .before .before .before .before .args .counts .now) (c .before .before .before .before .before .before .before .before .before .before .args .w) (getD (c .before .before .before .before .before .before .before .before .before .before .args .table .now) ((c .before .before .before .before .before .before .before .before .before .before .args .w) + 2) 0) (c .before .before .loop .i) (c .before .before .loop .ok) (c .before .loop-test .taken) ∙ c .before .before .loop .inv .1)
 
--- src/judge.rt:53:1
 bins-fit-returns : (t : ℕ) → bins-fit-lts.Need-returns (
   is-sound-reads.Asked,
   is-sound-reads.Learnt,
@@ -517,7 +473,6 @@ bins-fit-returns : (t : ℕ) → bins-fit-lts.Need-returns (
 unfolding headAt
 bins-fit-returns t c = sym (bins-out (gridAt (c .before .before .before .before .before .before .before .before .before .args .level) (c .before .before .before .before .before .before .before .before .before .args .table .now) (c .before .before .before .before .before .before .before .before .before .args .reals .now) (c .before .before .before .before .before .before .before .before .before .args .counts .now)) (c .before .before .before .before .before .before .before .before .before .args .table .now) (c .before .before .before .before .before .before .before .before .before .args .reals .now) (c .before .before .before .before .before .before .before .before .before .args .counts .now) (c .before .before .before .before .before .before .before .before .before .args .w) (getD (c .before .before .before .before .before .before .before .before .before .args .table .now) ((c .before .before .before .before .before .before .before .before .before .args .w) + 2) 0) (c .before .loop .i) (c .before .loop .ok) (c .loop-test .left)) ∙ c .before .loop .inv .1 ∙ ap (λ (x : Bool). x && soundBins (binsIn (gridAt (c .before .before .before .before .before .before .before .before .before .args .level) (c .before .before .before .before .before .before .before .before .before .args .table .now) (c .before .before .before .before .before .before .before .before .before .args .reals .now) (c .before .before .before .before .before .before .before .before .before .args .counts .now)) (c .before .before .before .before .before .before .before .before .before .args .table .now) (c .before .before .before .before .before .before .before .before .before .args .reals .now) (c .before .before .before .before .before .before .before .before .before .args .counts .now) (c .before .before .before .before .before .before .before .before .before .args .w) 0 (getD (c .before .before .before .before .before .before .before .before .before .args .table .now) ((c .before .before .before .before .before .before .before .before .before .args .w) + 2) 0))) (c .before .before .is-sound .ensures) ∙ sound-bins (headAt (c .before .before .before .before .before .before .before .before .before .args .table .now) (c .before .before .before .before .before .before .before .before .before .args .reals .now) (c .before .before .before .before .before .before .before .before .before .args .counts .now) (c .before .before .before .before .before .before .before .before .before .args .w)) (binsIn (gridAt (c .before .before .before .before .before .before .before .before .before .args .level) (c .before .before .before .before .before .before .before .before .before .args .table .now) (c .before .before .before .before .before .before .before .before .before .args .reals .now) (c .before .before .before .before .before .before .before .before .before .args .counts .now)) (c .before .before .before .before .before .before .before .before .before .args .table .now) (c .before .before .before .before .before .before .before .before .before .args .reals .now) (c .before .before .before .before .before .before .before .before .before .args .counts .now) (c .before .before .before .before .before .before .before .before .before .args .w) 0 (getD (c .before .before .before .before .before .before .before .before .before .args .table .now) ((c .before .before .before .before .before .before .before .before .before .args .w) + 2) 0))
 
--- src/judge.rt:74:8
 grid-fits-mul-if1 : (t : ℕ) → grid-fits-lts.Need-mul-if1 (
   axes-grid-fits-reads.Asked,
   axes-grid-fits-reads.Learnt,
@@ -526,7 +481,6 @@ grid-fits-mul-if1 : (t : ℕ) → grid-fits-lts.Need-mul-if1 (
 ) (grid-fits-at t) grid-fits.Post
 grid-fits-mul-if1 t c = let q = laid-head (c .before .before .before .args .level) (c .before .before .before .args .table .now) (length (c .before .before .before .args .reals .now)) (length (c .before .before .before .args .counts .now)) (c .before .before .before .args .w) (c .before .before .before .pre .1) in omega arith
 
--- src/judge.rt:74:8
 grid-fits-shared-slice-read-if1 : (t : ℕ) → grid-fits-lts.Need-shared-slice-read-if1 (
   axes-grid-fits-reads.Asked,
   axes-grid-fits-reads.Learnt,
@@ -535,7 +489,6 @@ grid-fits-shared-slice-read-if1 : (t : ℕ) → grid-fits-lts.Need-shared-slice-
 ) (grid-fits-at t) grid-fits.Post
 grid-fits-shared-slice-read-if1 t c = let q = laid-head (c .before .before .before .before .args .level) (c .before .before .before .before .args .table .now) (length (c .before .before .before .before .args .reals .now)) (length (c .before .before .before .before .args .counts .now)) (c .before .before .before .before .args .w) (c .before .before .before .before .pre .1) in omega arith
 
--- src/judge.rt:75:9
 grid-fits-axes-grid-fits-requires : (t : ℕ) → grid-fits-lts.Need-axes-grid-fits-requires (
   axes-grid-fits-reads.Asked,
   axes-grid-fits-reads.Learnt,
@@ -544,7 +497,6 @@ grid-fits-axes-grid-fits-requires : (t : ℕ) → grid-fits-lts.Need-axes-grid-f
 ) (grid-fits-at t) grid-fits.Post
 grid-fits-axes-grid-fits-requires t c κs = laid-axes (c .before .before .before .before .before .args .level) (c .before .before .before .before .before .args .table .now) (length (c .before .before .before .before .before .args .reals .now)) (length (c .before .before .before .before .before .args .counts .now)) (c .before .before .before .before .before .args .w) (c .before .before .before .before .before .pre .1) (c .if1 .taken)
 
--- src/judge.rt:75:9
 grid-fits-returns : (t : ℕ) → grid-fits-lts.Need-returns (
   axes-grid-fits-reads.Asked,
   axes-grid-fits-reads.Learnt,
@@ -553,7 +505,6 @@ grid-fits-returns : (t : ℕ) → grid-fits-lts.Need-returns (
 ) (grid-fits-at t) grid-fits.Post
 grid-fits-returns t c = c .axes-grid-fits .ensures ∙ ap sound (sym (node-axes (c .before .before .before .before .before .before .args .level) (c .before .before .before .before .before .before .args .table .now) (c .before .before .before .before .before .before .args .reals .now) (c .before .before .before .before .before .before .args .counts .now) (c .before .before .before .before .before .before .args .w) (c .before .if1 .taken)))
 
--- src/judge.rt:77:36
 grid-fits-sub-bins-fit : (t : ℕ) → grid-fits-lts.Need-sub-bins-fit (
   axes-grid-fits-reads.Asked,
   axes-grid-fits-reads.Learnt,
@@ -562,7 +513,6 @@ grid-fits-sub-bins-fit : (t : ℕ) → grid-fits-lts.Need-sub-bins-fit (
 ) (grid-fits-at t) grid-fits.Post
 grid-fits-sub-bins-fit t c = let d = laid-bins (c .before .before .before .before .before .args .level) (c .before .before .before .before .before .args .table .now) (length (c .before .before .before .before .before .args .reals .now)) (length (c .before .before .before .before .before .args .counts .now)) (c .before .before .before .before .before .args .w) (c .before .before .before .before .before .pre .1) (c .if1 .left) in omega (arith, d .level)
 
--- src/judge.rt:77:5
 grid-fits-bins-fit-requires : (t : ℕ) → grid-fits-lts.Need-bins-fit-requires (
   axes-grid-fits-reads.Asked,
   axes-grid-fits-reads.Learnt,
@@ -571,7 +521,6 @@ grid-fits-bins-fit-requires : (t : ℕ) → grid-fits-lts.Need-bins-fit-requires
 ) (grid-fits-at t) grid-fits.Post
 grid-fits-bins-fit-requires t c κs = let d = laid-bins (c .before .before .before .before .before .args .level) (c .before .before .before .before .before .args .table .now) (length (c .before .before .before .before .before .args .reals .now)) (length (c .before .before .before .before .before .args .counts .now)) (c .before .before .before .before .before .args .w) (c .before .before .before .before .before .pre .1) (c .if1 .left) in (omega (arith, c .before .before .before .before .before .pre .0, d .level), d .bins)
 
--- src/judge.rt:70:1
 grid-fits-returns-2 : (t : ℕ) → grid-fits-lts.Need-returns-2 (
   axes-grid-fits-reads.Asked,
   axes-grid-fits-reads.Learnt,

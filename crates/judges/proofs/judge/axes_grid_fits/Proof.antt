@@ -9,97 +9,71 @@ use Rattle.lent.proofs.Sounds.{words-stretch, numbers-upto, sound-axes}
 use borrow.Author.Needs.{needs}
 use Rattle.judges.proofs.judge.axes_grid_fits.Statement.{statement}
 use Rattle.judges.proofs.judge.axes_grid_fits.Tie as tie
-use Rattle.judges.proofs.judge.axes_grid_fits.Reads as reads
-use Rattle.judges.proofs.judge.axes_grid_fits.Lts as lts
-use Rattle.judges.proofs.judge.is_sound.Reads as is-sound-reads
-use Rattle.lent.proofs.layout.axes_place.Reads as axes-place-reads
 
--- src/judge.rt:25:9
 axes-place-requires : tie.Need-axes-place-requires
 axes-place-requires c κs = tt
 
--- src/judge.rt:26:17
 add-first : tie.Need-add-first
 add-first c = search needs
 
--- src/judge.rt:27:30
 add-last : tie.Need-add-last
 add-last c = search needs
 
--- src/judge.rt:27:24
 mul-last : tie.Need-mul-last
 mul-last c = search needs
 
--- src/judge.rt:27:24
 shared-slice-read-last : tie.Need-shared-slice-read-last
 shared-slice-read-last c = search needs
 
--- src/judge.rt:27:16
 add-last-2 : tie.Need-add-last-2
 add-last-2 c = search needs
 
--- src/judge.rt:28:57
 add-axes-fit-there : tie.Need-add-axes-fit-there
 add-axes-fit-there c = search needs
 
--- src/judge.rt:28:51
 mul-axes-fit-there : tie.Need-mul-axes-fit-there
 mul-axes-fit-there c = search needs
 
--- src/judge.rt:28:51
 shared-slice-read-axes-fit-there : tie.Need-shared-slice-read-axes-fit-there
 shared-slice-read-axes-fit-there c = search needs
 
--- src/judge.rt:28:65
 mul-axes-fit-there-2 : tie.Need-mul-axes-fit-there-2
 mul-axes-fit-there-2 c = search needs
 
--- src/judge.rt:28:65
 sub-axes-fit-there : tie.Need-sub-axes-fit-there
 sub-axes-fit-there c = search needs
 
--- src/judge.rt:28:65
 part-axes-fit-there-start : tie.Need-part-axes-fit-there-start
 part-axes-fit-there-start c = search needs
 
--- src/judge.rt:28:65
 part-axes-fit-there-end : tie.Need-part-axes-fit-there-end
 part-axes-fit-there-end c = search needs
 
--- src/judge.rt:28:9
 axes-fit-there-requires : tie.Need-axes-fit-there-requires
 unfolding axesPlace
 axes-fit-there-requires c κs = rw (placed (c .before .before .before .before .before .before .before .args .table .now) (c .before .before .before .before .before .before .before .args .w) (c .before .before .before .axes-place .ensures) (search needs), (part ((c .before .before .before .before .before .before .before .args .w) + 11) (getD (c .before .before .before .before .before .before .before .args .table .now) ((c .before .before .before .before .before .before .before .args .w) + 8) 0) (c .before .before .before .before .before .before .before .args .table .now) ∙ words-stretch (c .before .before .before .before .before .before .before .args .table .now) ((c .before .before .before .before .before .before .before .args .w) + 11) (getD (c .before .before .before .before .before .before .before .args .table .now) ((c .before .before .before .before .before .before .before .args .w) + 8) 0) (omega (arith, c .before .before .before .before .before .before .before .pre .head)))) (c .before .before .before .before .before .before .before .pre .most, numbers-upto (c .before .before .before .before .before .before .before .args .table .now) (length (c .before .before .before .before .before .before .before .args .reals .now)) (length (c .before .before .before .before .before .before .before .args .counts .now)) (c .before .before .before .before .before .before .before .args .w) (c .before .before .before .before .before .before .before .pre), c .before .before .before .before .before .before .before .pre .room, c .before .before .before .before .before .before .before .pre .places)
 
--- src/judge.rt:29:55
 add-is-sound : tie.Need-add-is-sound
 add-is-sound c = search needs
 
--- src/judge.rt:29:49
 mul-is-sound : tie.Need-mul-is-sound
 mul-is-sound c = search needs
 
--- src/judge.rt:29:49
 shared-slice-read-is-sound : tie.Need-shared-slice-read-is-sound
 shared-slice-read-is-sound c = search needs
 
--- src/judge.rt:29:78
 add-is-sound-2 : tie.Need-add-is-sound-2
 add-is-sound-2 c = search needs
 
--- src/judge.rt:29:72
 mul-is-sound-2 : tie.Need-mul-is-sound-2
 mul-is-sound-2 c = search needs
 
--- src/judge.rt:29:72
 shared-slice-read-is-sound-2 : tie.Need-shared-slice-read-is-sound-2
 shared-slice-read-is-sound-2 c = search needs
 
--- src/judge.rt:29:9
 is-sound-requires : tie.Need-is-sound-requires
 is-sound-requires c κs = search needs
 
--- src/judge.rt:21:1
 returns : tie.Need-returns
 unfolding axesPlace
 returns c = rw (c .before .before .before .axes-fit-there .ensures, c .is-sound .ensures, placed (c .before .before .before .before .before .before .before .before .before .before .before .args .table .now) (c .before .before .before .before .before .before .before .before .before .before .before .args .w) (c .before .before .before .before .before .before .before .axes-place .ensures) (search needs), (part ((c .before .before .before .before .before .before .before .before .before .before .before .args .w) + 11) (getD (c .before .before .before .before .before .before .before .before .before .before .before .args .table .now) ((c .before .before .before .before .before .before .before .before .before .before .before .args .w) + 8) 0) (c .before .before .before .before .before .before .before .before .before .before .before .args .table .now) ∙ words-stretch (c .before .before .before .before .before .before .before .before .before .before .before .args .table .now) ((c .before .before .before .before .before .before .before .before .before .before .before .args .w) + 11) (getD (c .before .before .before .before .before .before .before .before .before .before .before .args .table .now) ((c .before .before .before .before .before .before .before .before .before .before .before .args .w) + 8) 0) (omega (arith, c .before .before .before .before .before .before .before .before .before .before .before .pre .head)))) (sound-axes (c .before .before .before .before .before .before .before .before .before .before .before .args .table .now) (c .before .before .before .before .before .before .before .before .before .before .before .args .reals .now) (c .before .before .before .before .before .before .before .before .before .before .before .args .counts .now) (c .before .before .before .before .before .before .before .before .before .before .before .args .w) (c .before .before .before .before .before .before .before .before .before .before .before .pre))

@@ -2,15 +2,10 @@ use Rattle.model.specs.Sound.{chance}
 use borrow.Author.Needs.{needs}
 use Rattle.judges.proofs.judge.is_chance.Statement.{statement}
 use Rattle.judges.proofs.judge.is_chance.Tie as tie
-use Rattle.judges.proofs.judge.is_chance.Reads as reads
-use Rattle.judges.proofs.judge.is_chance.Lts as lts
-use Rattle.plain.proofs.finite.Reads as finite-reads
 
--- src/judge.rt:17:5
 finite-requires : tie.Need-finite-requires
 finite-requires c κs = search needs
 
--- src/judge.rt:14:1
 returns : tie.Need-returns
 unfolding chance
 returns c = rw (c .finite .ensures)

@@ -4,10 +4,6 @@ use Rattle.lent.specs.Memory.{recordAt}
 use native.Mathlib.Omega.{arith}
 use Rattle.judges.proofs.judge.is_sound.Statement.{statement}
 use Rattle.judges.proofs.judge.is_sound.Tie as tie
-use Rattle.judges.proofs.judge.is_sound.Reads as reads
-use Rattle.judges.proofs.judge.is_sound.Lts as lts
-use Rattle.judges.proofs.judge.is_finite_at.Reads as is-finite-at-reads
-use Rattle.judges.proofs.judging.is_bounded_at.Reads as is-bounded-at-reads
 
 is-finite-at-requires : tie.Need-is-finite-at-requires
 is-finite-at-requires c κs = omega arith

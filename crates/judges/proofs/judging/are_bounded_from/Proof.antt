@@ -3,9 +3,6 @@ use Rattle.lent.proofs.Judges.{part}
 use native.Mathlib.Omega.{arith}
 use Rattle.judges.proofs.judging.are_bounded_from.Statement.{statement}
 use Rattle.judges.proofs.judging.are_bounded_from.Tie as tie
-use Rattle.judges.proofs.judging.are_bounded_from.Reads as reads
-use Rattle.judges.proofs.judging.are_bounded_from.Lts as lts
-use Rattle.axis.proofs.scans.are_bounded.Reads as are-bounded-reads
 
 add-are-bounded : tie.Need-add-are-bounded
 add-are-bounded c = omega arith

@@ -3,9 +3,6 @@ use Rattle.lent.proofs.Judges.{part}
 use native.Mathlib.Omega.{arith}
 use Rattle.judges.proofs.judging.are_finite_from.Statement.{statement}
 use Rattle.judges.proofs.judging.are_finite_from.Tie as tie
-use Rattle.judges.proofs.judging.are_finite_from.Reads as reads
-use Rattle.judges.proofs.judging.are_finite_from.Lts as lts
-use Rattle.axis.proofs.scans.are_finite.Reads as are-finite-reads
 
 add-are-finite : tie.Need-add-are-finite
 add-are-finite c = omega arith

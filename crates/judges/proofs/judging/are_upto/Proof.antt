@@ -9,8 +9,6 @@ use Rattle.lent.specs.Judged.{allUpto}
 use Rattle.lent.proofs.Rooms.{upto-on, upto-out}
 use Rattle.judges.proofs.judging.are_upto.Statement.{statement}
 use Rattle.judges.proofs.judging.are_upto.Tie as tie
-use Rattle.judges.proofs.judging.are_upto.Reads as reads
-use Rattle.judges.proofs.judging.are_upto.Lts as lts
 
 abbrev Inv-loop : tie.InvT-loop
 Inv-loop most bins values top ok₀ i₀ ok i = (i ≤ length values) × ((ok && allUpto most (drop i values)) ≡ ((leb 1 bins && leb bins most) && allUpto most values))

@@ -10,11 +10,6 @@ use Rattle.lent.proofs.Rooms.{axes-had, upto-had}
 use borrow.Author.Needs.{needs}
 use Rattle.judges.proofs.judging.axes_fit.Statement.{statement}
 use Rattle.judges.proofs.judging.axes_fit.Tie as tie
-use Rattle.judges.proofs.judging.axes_fit.Reads as reads
-use Rattle.judges.proofs.judging.axes_fit.Lts as lts
-use Rattle.judges.proofs.judging.are_upto.Reads as are-upto-reads
-use Rattle.judges.proofs.judging.axes_fit_there.Reads as axes-fit-there-reads
-use Rattle.lent.proofs.room.has_axes.Reads as has-axes-reads
 
 has-axes-requires : tie.Need-has-axes-requires
 has-axes-requires c κs = search needs

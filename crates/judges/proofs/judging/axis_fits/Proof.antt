@@ -7,38 +7,26 @@ use mathlib.Core.Path.{sym, _∙_}
 use borrow.Author.Needs.{needs}
 use Rattle.judges.proofs.judging.axis_fits.Statement.{statement}
 use Rattle.judges.proofs.judging.axis_fits.Tie as tie
-use Rattle.judges.proofs.judging.axis_fits.Reads as reads
-use Rattle.judges.proofs.judging.axis_fits.Lts as lts
-use Rattle.judges.proofs.judging.counts_fit.Reads as counts-fit-reads
-use Rattle.judges.proofs.judging.is_listed.Reads as is-listed-reads
-use Rattle.judges.proofs.judging.reals_fit.Reads as reals-fit-reads
 
--- src/judging.rt:57:16
 mul-held : tie.Need-mul-held
 mul-held c = search needs
 
--- src/judging.rt:57:16
 shared-slice-read-held : tie.Need-shared-slice-read-held
 shared-slice-read-held c = search needs
 
--- src/judging.rt:58:9
 is-listed-requires : tie.Need-is-listed-requires
 is-listed-requires c κs = search needs
 
--- src/judging.rt:59:9
 returns : tie.Need-returns
 unfolding axisFits
 returns c = rw (sym (c .before .is-listed .ensures) ∙ not-true (c .before .is-listed .result) (c .if1 .taken))
 
--- src/judging.rt:62:9
 reals-fit-requires : tie.Need-reals-fit-requires
 reals-fit-requires c κs = ((listed-upto (c .before .before .before .before .before .before .args .most) (getD (c .before .before .before .before .before .before .args .counts .now) (c .before .before .before .before .before .before .args .c) 0) (c .before .before .before .before .before .before .args .bins ∷ c .before .before .before .before .before .before .args .values .now) (c .before .before .before .before .before .before .pre .1) (sym (c .before .is-listed .ensures) ∙ not-false (c .before .is-listed .result) (c .if1 .left))) .1, c .before .before .before .before .before .before .pre .0, c .before .before .before .before .before .before .pre .2)
 
--- src/judging.rt:63:9
 counts-fit-requires : tie.Need-counts-fit-requires
 counts-fit-requires c κs = ((listed-upto (c .before .before .before .before .before .before .before .args .most) (getD (c .before .before .before .before .before .before .before .args .counts .now) (c .before .before .before .before .before .before .before .args .c) 0) (c .before .before .before .before .before .before .before .args .bins ∷ c .before .before .before .before .before .before .before .args .values .now) (c .before .before .before .before .before .before .before .pre .1) (sym (c .before .before .is-listed .ensures) ∙ not-false (c .before .before .is-listed .result) (c .before .if1 .left))) .1, c .before .before .before .before .before .before .before .pre .0, c .before .before .before .before .before .before .before .pre .3)
 
--- src/judging.rt:53:1
 returns-2 : tie.Need-returns-2
 unfolding axisFits
 returns-2 c = rw ((sym (c .before .before .before .is-listed .ensures) ∙ not-false (c .before .before .before .is-listed .result) (c .before .before .if1 .left)), c .before .reals-fit .ensures, c .counts-fit .ensures)

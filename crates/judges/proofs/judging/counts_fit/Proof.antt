@@ -3,10 +3,6 @@ use Rattle.lent.specs.Judged.{countsFit}
 use native.Mathlib.Omega.{arith}
 use Rattle.judges.proofs.judging.counts_fit.Statement.{statement}
 use Rattle.judges.proofs.judging.counts_fit.Tie as tie
-use Rattle.judges.proofs.judging.counts_fit.Reads as reads
-use Rattle.judges.proofs.judging.counts_fit.Lts as lts
-use Rattle.judges.proofs.judging.are_bounded_from.Reads as are-bounded-from-reads
-use Rattle.judges.proofs.judging.is_bounded_at.Reads as is-bounded-at-reads
 
 add-are-bounded-from : tie.Need-add-are-bounded-from
 add-are-bounded-from c = omega arith

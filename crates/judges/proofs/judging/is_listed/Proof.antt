@@ -8,8 +8,6 @@ use Rattle.model.specs.Sound.{listed}
 use Rattle.lent.proofs.Judges.{listed-on, listed-out}
 use Rattle.judges.proofs.judging.is_listed.Statement.{statement}
 use Rattle.judges.proofs.judging.is_listed.Tie as tie
-use Rattle.judges.proofs.judging.is_listed.Reads as reads
-use Rattle.judges.proofs.judging.is_listed.Lts as lts
 
 abbrev Inv-loop : tie.InvT-loop
 Inv-loop n bins values found₀ i₀ found i = (i ≤ length values) × ((found || listed n (drop i values)) ≡ (eqb n bins || listed n values))
@@ -17,31 +15,24 @@ Inv-loop n bins values found₀ i₀ found i = (i ≤ length values) × ((found 
 abbrev μ-loop : tie.MeasureT-loop
 μ-loop n bins values found₀ i₀ found i = length values - i
 
--- src/judging.rt:16:5
 loop-holds : tie.Need-loop-holds Inv-loop μ-loop
 loop-holds c = (omega arith, refl)
 
--- src/judging.rt:17:31
 mul-found : tie.Need-mul-found Inv-loop μ-loop
 mul-found c = omega arith
 
--- src/judging.rt:17:31
 shared-slice-read-found : tie.Need-shared-slice-read-found Inv-loop μ-loop
 shared-slice-read-found c = c .before .loop-test .taken
 
--- src/judging.rt:18:9
 add-i : tie.Need-add-i Inv-loop μ-loop
 add-i c = omega arith
 
--- src/judging.rt:16:5
 loop-less : tie.Need-loop-less Inv-loop μ-loop
 loop-less c = omega (arith, c .before .loop-test .taken)
 
--- src/judging.rt:16:5
 loop-again : tie.Need-loop-again Inv-loop μ-loop
 loop-again c = (omega (arith, c .before .loop-test .taken), listed-on (c .before .before .before .args .n) (c .before .before .before .args .values .now) (c .before .before .loop .i) (c .before .before .loop .found) (c .before .loop-test .taken) ∙ c .before .before .loop .inv .1)
 
--- src/judging.rt:11:1
 returns : tie.Need-returns Inv-loop μ-loop
 unfolding listed
 returns c = sym (listed-out (c .before .before .args .n) (c .before .before .args .values .now) (c .before .loop .i) (c .before .loop .found) (c .loop-test .left)) ∙ c .before .loop .inv .1

@@ -4,10 +4,6 @@ use Rattle.lent.proofs.Judges.{part-one}
 use native.Mathlib.Omega.{arith}
 use Rattle.judges.proofs.judging.reals_fit.Statement.{statement}
 use Rattle.judges.proofs.judging.reals_fit.Tie as tie
-use Rattle.judges.proofs.judging.reals_fit.Reads as reads
-use Rattle.judges.proofs.judging.reals_fit.Lts as lts
-use Rattle.axis.proofs.scans.is_well_formed.Reads as is-well-formed-reads
-use Rattle.judges.proofs.judging.are_finite_from.Reads as are-finite-from-reads
 
 add-is-well-formed : tie.Need-add-is-well-formed
 add-is-well-formed c = omega arith

@@ -3,32 +3,22 @@ use Rattle.lent.proofs.States.{fault-planned, sizes-planned, fault-strayed}
 use borrow.Author.Needs.{needs}
 use Rattle.judges.proofs.state.fault.Statement.{statement}
 use Rattle.judges.proofs.state.fault.Tie as tie
-use Rattle.judges.proofs.state.fault.Reads as reads
-use Rattle.judges.proofs.state.fault.Lts as lts
-use Rattle.judges.proofs.state.judged.Reads as judged-reads
-use Rattle.plan.proofs.sizes.Reads as sizes-reads
 
--- src/state.rt:31:11
 sizes-requires : tie.Need-sizes-requires
 sizes-requires c κs = search needs
 
--- src/state.rt:32:21
 enum-known-needs : tie.Need-enum-known-needs
 enum-known-needs c = search needs
 
--- src/state.rt:32:31
 judged-requires : tie.Need-judged-requires
 judged-requires c κs = sizes-planned (c .before .before .before .before .before .before .before .args .table .now) (c .before .before .before .sizes .result) (c .before .needs .given .0 .0) (c .before .before .before .sizes .ensures) (sym (c .before .needs .given .1))
 
--- src/state.rt:33:30
 enum-told : tie.Need-enum-told
 enum-told c = search needs
 
--- src/state.rt:28:1
 returns : tie.Need-returns
 returns c = fault-planned (c .before .before .before .before .before .before .before .before .args .table .now) (c .before .before .before .before .before .before .before .before .args .reals .now) (c .before .before .before .before .before .before .before .before .args .counts .now) (c .before .before .before .before .sizes .result) (c .before .before .needs .given .0 .0) (c .judged .result) (c .before .before .before .before .sizes .ensures) (sym (c .before .before .needs .given .1)) (c .judged .ensures)
 
--- src/state.rt:28:1
 returns-2 : tie.Need-returns-2
 returns-2 c = fault-strayed (c .before .before .before .before .before .before .args .table .now) (c .before .before .before .before .before .before .args .reals .now) (c .before .before .before .before .before .before .args .counts .now) (c .before .before .sizes .result) (c .enum-told .given .0 .0) (c .before .before .sizes .ensures) (sym (c .enum-told .given .1))
 

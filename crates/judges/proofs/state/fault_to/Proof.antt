@@ -4,10 +4,6 @@ use Rattle.lent.proofs.States.{sizes-planned, fault-to-planned, fault-to-straye
 use borrow.Author.Needs.{needs}
 use Rattle.judges.proofs.state.fault_to.Statement.{statement}
 use Rattle.judges.proofs.state.fault_to.Tie as tie
-use Rattle.judges.proofs.state.fault_to.Reads as reads
-use Rattle.judges.proofs.state.fault_to.Lts as lts
-use Rattle.judges.proofs.state.judged_to.Reads as judged-to-reads
-use Rattle.plan.proofs.sizes.Reads as sizes-reads
 
 sizes-requires : tie.Need-sizes-requires
 sizes-requires c κs = search needs

@@ -6,40 +6,30 @@ use Rattle.lent.specs.State.{judgedTo}
 use Rattle.lent.proofs.Laid.{root-laid}
 use Rattle.judges.proofs.state.judged_to.Statement.{statement}
 use Rattle.judges.proofs.state.judged_to.Tie as tie
-use Rattle.judges.proofs.state.judged_to.Reads as reads
-use Rattle.judges.proofs.state.judged_to.Lts as lts
-use Rattle.judges.proofs.judge.grid_fits.Reads as grid-fits-reads
 
--- src/state.rt:44:9
 returns : tie.Need-returns
 unfolding judgedTo
 returns c = rw (lt-ltb _ _ (c .if1 .taken))
 
--- src/state.rt:47:9
 returns-2 : tie.Need-returns-2
 unfolding judgedTo
 returns-2 c = rw (le-ltb _ _ (c .before .before .if1 .left), lt-ltb _ _ (c .if2 .taken))
 
--- src/state.rt:50:9
 returns-3 : tie.Need-returns-3
 unfolding judgedTo
 returns-3 c = rw (le-ltb _ _ (c .before .before .before .before .if1 .left), le-ltb _ _ (c .before .before .if2 .left), lt-ltb _ _ (c .if3 .taken))
 
--- src/state.rt:53:9
 returns-4 : tie.Need-returns-4
 unfolding judgedTo
 returns-4 c = rw (le-ltb _ _ (c .before .before .before .before .before .before .if1 .left), le-ltb _ _ (c .before .before .before .before .if2 .left), le-ltb _ _ (c .before .before .if3 .left), lt-ltb _ _ (c .if4 .taken))
 
--- src/state.rt:55:9
 grid-fits-requires : tie.Need-grid-fits-requires
 grid-fits-requires c κs = root-laid (c .before .before .before .before .before .before .before .before .before .before .before .args .table .now) (c .before .before .before .before .before .before .before .before .before .before .before .args .needs) (length (c .before .before .before .before .before .before .before .before .before .before .before .args .reals .now)) (length (c .before .before .before .before .before .before .before .before .before .before .before .args .counts .now)) (λ i. omega (arith, c .before .before .before .before .before .before .before .before .before .before .shared-slice-known .given i)) (c .before .before .before .before .before .before .before .before .before .before .before .pre) (c .before .before .before .before .before .before .if1 .left) (c .before .before .before .before .if2 .left)
 
--- src/state.rt:56:9
 returns-5 : tie.Need-returns-5
 unfolding judgedTo
 returns-5 c = rw (le-ltb _ _ (c .before .before .before .before .before .before .before .before .if1 .left), le-ltb _ _ (c .before .before .before .before .before .before .if2 .left), le-ltb _ _ (c .before .before .before .before .if3 .left), le-ltb _ _ (c .before .before .if4 .left), sym (c .before .grid-fits .ensures) ∙ not-true (c .before .grid-fits .result) (c .if5 .taken))
 
--- src/state.rt:32:1
 returns-6 : tie.Need-returns-6
 unfolding judgedTo
 returns-6 c = rw (le-ltb _ _ (c .before .before .before .before .before .before .before .before .if1 .left), le-ltb _ _ (c .before .before .before .before .before .before .if2 .left), le-ltb _ _ (c .before .before .before .before .if3 .left), le-ltb _ _ (c .before .before .if4 .left), sym (c .before .grid-fits .ensures) ∙ not-false (c .before .grid-fits .result) (c .if5 .left))

@@ -3,32 +3,22 @@ use Rattle.lent.proofs.States.{sizes-planned, first-planned, first-strayed}
 use borrow.Author.Needs.{needs}
 use Rattle.judges.proofs.state.pair_fault.Statement.{statement}
 use Rattle.judges.proofs.state.pair_fault.Tie as tie
-use Rattle.judges.proofs.state.pair_fault.Reads as reads
-use Rattle.judges.proofs.state.pair_fault.Lts as lts
-use Rattle.judges.proofs.state.second_fault.Reads as second-fault-reads
-use Rattle.plan.proofs.sizes.Reads as sizes-reads
 
--- src/state.rt:109:11
 sizes-requires : tie.Need-sizes-requires
 sizes-requires c κs = search needs
 
--- src/state.rt:110:21
 enum-known-needs : tie.Need-enum-known-needs
 enum-known-needs c = search needs
 
--- src/state.rt:110:31
 second-fault-requires : tie.Need-second-fault-requires
 second-fault-requires c κs = sizes-planned (c .before .before .before .before .before .before .before .before .before .before .args .table .now) (c .before .before .before .sizes .result) (c .before .needs .given .0 .0) (c .before .before .before .sizes .ensures) (sym (c .before .needs .given .1))
 
--- src/state.rt:111:30
 enum-told : tie.Need-enum-told
 enum-told c = search needs
 
--- src/state.rt:99:1
 returns : tie.Need-returns
 returns c = first-planned (c .before .before .before .before .before .before .before .before .before .before .before .args .table .now) (c .before .before .before .before .before .before .before .before .before .before .before .args .reals .now) (c .before .before .before .before .before .before .before .before .before .before .before .args .counts .now) (c .before .before .before .before .before .before .before .before .before .before .before .args .other .now) (c .before .before .before .before .before .before .before .before .before .before .before .args .theirs .now) (c .before .before .before .before .before .before .before .before .before .before .before .args .tallies .now) (c .before .before .before .before .sizes .result) (c .before .before .needs .given .0 .0) (c .second-fault .result) (c .before .before .before .before .sizes .ensures) (sym (c .before .before .needs .given .1)) (c .second-fault .ensures)
 
--- src/state.rt:99:1
 returns-2 : tie.Need-returns-2
 returns-2 c = first-strayed (c .before .before .before .before .before .before .before .before .before .args .table .now) (c .before .before .before .before .before .before .before .before .before .args .reals .now) (c .before .before .before .before .before .before .before .before .before .args .counts .now) (c .before .before .before .before .before .before .before .before .before .args .other .now) (c .before .before .before .before .before .before .before .before .before .args .theirs .now) (c .before .before .before .before .before .before .before .before .before .args .tallies .now) (c .before .before .sizes .result) (c .enum-told .given .0 .0) (c .before .before .sizes .ensures) (sym (c .enum-told .given .1))
 

@@ -4,9 +4,6 @@ use native.Mathlib.Omega.{arith}
 use Rattle.lent.proofs.Places.{short, head-there}
 use Rattle.lent.proofs.layout.holds_place.Statement.{statement}
 use Rattle.lent.proofs.layout.holds_place.Tie as tie
-use Rattle.lent.proofs.layout.holds_place.Reads as reads
-use Rattle.lent.proofs.layout.holds_place.Lts as lts
-use Rattle.lent.proofs.layout.word.Reads as word-reads
 
 returns : tie.Need-returns
 returns c = sym (short (c .before .before .args .table .now) (c .before .before .args .w) (omega arith))

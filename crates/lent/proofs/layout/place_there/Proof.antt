@@ -1,13 +1,8 @@
 -- The run's words, read one by one.
-use native.Mathlib.Omega.{arith}
 use Rattle.lent.specs.Tree.{axesPlace}
 use borrow.Author.Needs.{needs}
 use Rattle.lent.proofs.layout.place_there.Statement.{statement}
 use Rattle.lent.proofs.layout.place_there.Tie as tie
-use Rattle.lent.proofs.layout.place_there.Reads as reads
-use Rattle.lent.proofs.layout.place_there.Lts as lts
-use Rattle.answers.proofs.double.Reads as double-reads
-use Rattle.lent.proofs.layout.word.Reads as word-reads
 
 add-word : tie.Need-add-word
 add-word c = search needs

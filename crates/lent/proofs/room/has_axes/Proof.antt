@@ -6,9 +6,6 @@ use Rattle.lent.proofs.Rooms.{few-axes}
 use borrow.Author.Needs.{needs}
 use Rattle.lent.proofs.room.has_axes.Statement.{statement}
 use Rattle.lent.proofs.room.has_axes.Tie as tie
-use Rattle.lent.proofs.room.has_axes.Reads as reads
-use Rattle.lent.proofs.room.has_axes.Lts as lts
-use Rattle.lent.proofs.room.is_within.Reads as is-within-reads
 
 returns : tie.Need-returns
 unfolding roomyAxes

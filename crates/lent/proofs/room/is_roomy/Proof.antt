@@ -3,9 +3,6 @@ use Rattle.lent.specs.Laid.{roomy}
 use borrow.Author.Needs.{needs}
 use Rattle.lent.proofs.room.is_roomy.Statement.{statement}
 use Rattle.lent.proofs.room.is_roomy.Tie as tie
-use Rattle.lent.proofs.room.is_roomy.Reads as reads
-use Rattle.lent.proofs.room.is_roomy.Lts as lts
-use Rattle.lent.proofs.room.has_axes.Reads as has-axes-reads
 
 has-axes-requires : tie.Need-has-axes-requires
 has-axes-requires c κs = search needs

@@ -7,8 +7,6 @@ use borrow.Author.Tests.{leb-true, leb-false, le-leb, lt-leb}
 use lib.Dec.{leb}
 use Rattle.lent.proofs.room.is_within.Statement.{statement}
 use Rattle.lent.proofs.room.is_within.Tie as tie
-use Rattle.lent.proofs.room.is_within.Reads as reads
-use Rattle.lent.proofs.room.is_within.Lts as lts
 
 what-is-left : (a s n : ℕ) (o : Bool) → leb a (n - s) ≡ o → s ≤ n → o ≡ leb (a + s) n
 what-is-left a s n true e h = let k = leb-true a (n - s) e in let i : a + s ≤ n = omega arith in sym (le-leb (a + s) n i)

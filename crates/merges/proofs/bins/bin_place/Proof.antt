@@ -4,8 +4,6 @@ use Rattle.merges.specs.Bins.{binPlace}
 use borrow.Author.Needs.{needs}
 use Rattle.merges.proofs.bins.bin_place.Statement.{statement}
 use Rattle.merges.proofs.bins.bin_place.Tie as tie
-use Rattle.merges.proofs.bins.bin_place.Reads as reads
-use Rattle.merges.proofs.bins.bin_place.Lts as lts
 
 add-chances : tie.Need-add-chances
 add-chances c = search needs

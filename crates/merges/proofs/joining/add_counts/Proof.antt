@@ -4,59 +4,43 @@ use Rattle.lent.proofs.Joins.{joined}
 use borrow.Author.Needs.{needs}
 use Rattle.merges.proofs.joining.add_counts.Statement.{statement}
 use Rattle.merges.proofs.joining.add_counts.Tie as tie
-use Rattle.merges.proofs.joining.add_counts.Reads as reads
-use Rattle.merges.proofs.joining.add_counts.Lts as lts
-use Rattle.recut.proofs.gather_counts.Reads as gather-counts-reads
 
--- src/joining.rt:67:15
 add-end : tie.Need-add-end
 add-end c = search needs
 
--- src/joining.rt:68:16
 add-last : tie.Need-add-last
 add-last c = search needs
 
--- src/joining.rt:69:26
 mul-gather-counts : tie.Need-mul-gather-counts
 mul-gather-counts c = search needs
 
--- src/joining.rt:69:26
 sub-gather-counts : tie.Need-sub-gather-counts
 sub-gather-counts c = search needs
 
--- src/joining.rt:69:26
 part-gather-counts-start : tie.Need-part-gather-counts-start
 part-gather-counts-start c = search needs
 
--- src/joining.rt:69:26
 part-gather-counts-end : tie.Need-part-gather-counts-end
 part-gather-counts-end c = search needs
 
--- src/joining.rt:69:51
 mul-gather-counts-2 : tie.Need-mul-gather-counts-2
 mul-gather-counts-2 c = search needs
 
--- src/joining.rt:69:51
 sub-gather-counts-2 : tie.Need-sub-gather-counts-2
 sub-gather-counts-2 c = search needs
 
--- src/joining.rt:69:51
 part-gather-counts-start-2 : tie.Need-part-gather-counts-start-2
 part-gather-counts-start-2 c = search needs
 
--- src/joining.rt:69:51
 part-gather-counts-end-2 : tie.Need-part-gather-counts-end-2
 part-gather-counts-end-2 c = search needs
 
--- src/joining.rt:69:5
 gather-counts-requires : tie.Need-gather-counts-requires
 gather-counts-requires c κs = search needs
 
--- src/joining.rt:63:1
 same-length : tie.Need-same-length
 same-length c = search needs
 
--- src/joining.rt:63:1
 returns : tie.Need-returns
 unfolding joinedCounts
 returns c = joined joinedCount (c .before .before .before .before .before .before .before .args .start) (c .before .before .before .before .before .before .before .args .from) (c .before .before .before .before .before .before .before .args .n) _ (c .before .before .before .before .before .before .before .args .theirs .now) (c .before .before .before .before .before .before .before .args .counts .now) (c .before .before .gather-counts .ensures)

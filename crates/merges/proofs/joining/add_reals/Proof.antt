@@ -5,59 +5,43 @@ use Rattle.lent.proofs.Joins.{joined}
 use borrow.Author.Needs.{needs}
 use Rattle.merges.proofs.joining.add_reals.Statement.{statement}
 use Rattle.merges.proofs.joining.add_reals.Tie as tie
-use Rattle.merges.proofs.joining.add_reals.Reads as reads
-use Rattle.merges.proofs.joining.add_reals.Lts as lts
-use Rattle.recut.proofs.gather.Reads as gather-reads
 
--- src/joining.rt:57:15
 add-end : tie.Need-add-end
 add-end c = search needs
 
--- src/joining.rt:58:16
 add-last : tie.Need-add-last
 add-last c = search needs
 
--- src/joining.rt:59:19
 mul-gather : tie.Need-mul-gather
 mul-gather c = search needs
 
--- src/joining.rt:59:19
 sub-gather : tie.Need-sub-gather
 sub-gather c = search needs
 
--- src/joining.rt:59:19
 part-gather-start : tie.Need-part-gather-start
 part-gather-start c = search needs
 
--- src/joining.rt:59:19
 part-gather-end : tie.Need-part-gather-end
 part-gather-end c = search needs
 
--- src/joining.rt:59:43
 mul-gather-2 : tie.Need-mul-gather-2
 mul-gather-2 c = search needs
 
--- src/joining.rt:59:43
 sub-gather-2 : tie.Need-sub-gather-2
 sub-gather-2 c = search needs
 
--- src/joining.rt:59:43
 part-gather-start-2 : tie.Need-part-gather-start-2
 part-gather-start-2 c = search needs
 
--- src/joining.rt:59:43
 part-gather-end-2 : tie.Need-part-gather-end-2
 part-gather-end-2 c = search needs
 
--- src/joining.rt:59:5
 gather-requires : tie.Need-gather-requires
 gather-requires c κs = search needs
 
--- src/joining.rt:53:1
 same-length : tie.Need-same-length
 same-length c = search needs
 
--- src/joining.rt:53:1
 returns : tie.Need-returns
 unfolding gatheredOf
 returns c = joined (add binary64) (c .before .before .before .before .before .before .before .args .start) (c .before .before .before .before .before .before .before .args .from) (c .before .before .before .before .before .before .before .args .n) _ (c .before .before .before .before .before .before .before .args .theirs .now) (c .before .before .before .before .before .before .before .args .reals .now) (c .before .before .gather .ensures)

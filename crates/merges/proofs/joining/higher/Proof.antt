@@ -2,15 +2,11 @@
 use Rattle.lent.specs.Merged.{higherOf}
 use Rattle.merges.proofs.joining.higher.Statement.{statement}
 use Rattle.merges.proofs.joining.higher.Tie as tie
-use Rattle.merges.proofs.joining.higher.Reads as reads
-use Rattle.merges.proofs.joining.higher.Lts as lts
 
--- src/joining.rt:15:9
 returns : tie.Need-returns
 unfolding higherOf
 returns c = rw (c .if1 .taken)
 
--- src/joining.rt:11:1
 returns-2 : tie.Need-returns-2
 unfolding higherOf
 returns-2 c = rw (c .if1 .left)

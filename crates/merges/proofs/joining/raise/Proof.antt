@@ -11,9 +11,6 @@ use Rattle.recut.proofs.Pairs.{pairs-next, pairs-done, pairs-out}
 use Rattle.lent.specs.Merged.{higherOf}
 use Rattle.merges.proofs.joining.raise.Statement.{statement}
 use Rattle.merges.proofs.joining.raise.Tie as tie
-use Rattle.merges.proofs.joining.raise.Reads as reads
-use Rattle.merges.proofs.joining.raise.Lts as lts
-use Rattle.merges.proofs.joining.higher.Reads as higher-reads
 
 abbrev Inv-loop : tie.InvT-loop
 Inv-loop column₀ theirs i₀ column i =
@@ -22,47 +19,36 @@ Inv-loop column₀ theirs i₀ column i =
 abbrev μ-loop : tie.MeasureT-loop
 μ-loop column₀ theirs i₀ column i = length column - i
 
--- src/joining.rt:35:5
 loop-holds : tie.Need-loop-holds Inv-loop μ-loop
 loop-holds c = (zero-le, refl, refl)
 
--- src/joining.rt:36:28
 mul-higher : tie.Need-mul-higher Inv-loop μ-loop
 mul-higher c = omega arith
 
--- src/joining.rt:36:28
 slice-read-higher : tie.Need-slice-read-higher Inv-loop μ-loop
 slice-read-higher c = omega arith
 
--- src/joining.rt:36:39
 mul-higher-2 : tie.Need-mul-higher-2 Inv-loop μ-loop
 mul-higher-2 c = omega arith
 
--- src/joining.rt:36:39
 shared-slice-read-higher : tie.Need-shared-slice-read-higher Inv-loop μ-loop
 shared-slice-read-higher c = omega (arith, ltb-true)
 
--- src/joining.rt:36:21
 higher-requires : tie.Need-higher-requires Inv-loop μ-loop
 higher-requires c κs = tt
 
--- src/joining.rt:36:9
 mul-column : tie.Need-mul-column Inv-loop μ-loop
 mul-column c = omega arith
 
--- src/joining.rt:36:9
 slice-write-column : tie.Need-slice-write-column Inv-loop μ-loop
 slice-write-column c = omega arith
 
--- src/joining.rt:37:9
 add-i : tie.Need-add-i Inv-loop μ-loop
 add-i c = omega arith
 
--- src/joining.rt:35:5
 loop-less : tie.Need-loop-less Inv-loop μ-loop
 loop-less c = simp length-set (omega arith)
 
--- src/joining.rt:35:5
 loop-again : tie.Need-loop-again Inv-loop μ-loop
 loop-again c = (
   simp length-set (omega arith),
@@ -70,19 +56,15 @@ loop-again c = (
   pairs-next higherOf nan nan _ _ _ _ (c .before .before .before .before .loop-test .taken) (ltb-true _ _ (c .before .before .before .if1 .taken)) (c .higher .ensures) ∙ c .before .before .before .before .before .loop .inv .2,
 )
 
--- src/joining.rt:31:1
 same-length : tie.Need-same-length Inv-loop μ-loop
 same-length c = c .before .before .loop .inv .1
 
--- src/joining.rt:31:1
 returns : tie.Need-returns Inv-loop μ-loop
 returns c = let h : length (c .before .before .before .before .before .args .theirs .now) ≤ c .before .before .loop .i = ltb-false _ _ (c .if1 .left) in sym (pairs-done higherOf _ _ _ h) ∙ c .before .before .loop .inv .2
 
--- src/joining.rt:31:1
 same-length-2 : tie.Need-same-length-2 Inv-loop μ-loop
 same-length-2 c = c .before .loop .inv .1
 
--- src/joining.rt:31:1
 returns-2 : tie.Need-returns-2 Inv-loop μ-loop
 returns-2 c = sym (pairs-out higherOf _ _ _ (c .loop-test .left)) ∙ c .before .loop .inv .2
 

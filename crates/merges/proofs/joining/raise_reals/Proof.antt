@@ -4,59 +4,43 @@ use Rattle.lent.proofs.Joins.{joined}
 use borrow.Author.Needs.{needs}
 use Rattle.merges.proofs.joining.raise_reals.Statement.{statement}
 use Rattle.merges.proofs.joining.raise_reals.Tie as tie
-use Rattle.merges.proofs.joining.raise_reals.Reads as reads
-use Rattle.merges.proofs.joining.raise_reals.Lts as lts
-use Rattle.merges.proofs.joining.raise.Reads as raise-reads
 
--- src/joining.rt:77:15
 add-end : tie.Need-add-end
 add-end c = search needs
 
--- src/joining.rt:78:16
 add-last : tie.Need-add-last
 add-last c = search needs
 
--- src/joining.rt:79:11
 mul-raise : tie.Need-mul-raise
 mul-raise c = search needs
 
--- src/joining.rt:79:11
 sub-raise : tie.Need-sub-raise
 sub-raise c = search needs
 
--- src/joining.rt:79:11
 part-raise-start : tie.Need-part-raise-start
 part-raise-start c = search needs
 
--- src/joining.rt:79:11
 part-raise-end : tie.Need-part-raise-end
 part-raise-end c = search needs
 
--- src/joining.rt:79:35
 mul-raise-2 : tie.Need-mul-raise-2
 mul-raise-2 c = search needs
 
--- src/joining.rt:79:35
 sub-raise-2 : tie.Need-sub-raise-2
 sub-raise-2 c = search needs
 
--- src/joining.rt:79:35
 part-raise-start-2 : tie.Need-part-raise-start-2
 part-raise-start-2 c = search needs
 
--- src/joining.rt:79:35
 part-raise-end-2 : tie.Need-part-raise-end-2
 part-raise-end-2 c = search needs
 
--- src/joining.rt:79:5
 raise-requires : tie.Need-raise-requires
 raise-requires c κs = search needs
 
--- src/joining.rt:73:1
 same-length : tie.Need-same-length
 same-length c = search needs
 
--- src/joining.rt:73:1
 returns : tie.Need-returns
 returns c = joined higherOf (c .before .before .before .before .before .before .before .args .start) (c .before .before .before .before .before .before .before .args .from) (c .before .before .before .before .before .before .before .args .n) _ (c .before .before .before .before .before .before .before .args .theirs .now) (c .before .before .before .before .before .before .before .args .reals .now) (c .before .before .raise .ensures)
 

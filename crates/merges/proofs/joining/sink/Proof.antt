@@ -11,9 +11,6 @@ use Rattle.recut.proofs.Pairs.{pairs-next, pairs-done, pairs-out}
 use Rattle.lent.specs.Merged.{lowerOf}
 use Rattle.merges.proofs.joining.sink.Statement.{statement}
 use Rattle.merges.proofs.joining.sink.Tie as tie
-use Rattle.merges.proofs.joining.sink.Reads as reads
-use Rattle.merges.proofs.joining.sink.Lts as lts
-use Rattle.merges.proofs.joining.lower.Reads as lower-reads
 
 abbrev Inv-loop : tie.InvT-loop
 Inv-loop column₀ theirs i₀ column i =
@@ -22,47 +19,36 @@ Inv-loop column₀ theirs i₀ column i =
 abbrev μ-loop : tie.MeasureT-loop
 μ-loop column₀ theirs i₀ column i = length column - i
 
--- src/joining.rt:46:5
 loop-holds : tie.Need-loop-holds Inv-loop μ-loop
 loop-holds c = (zero-le, refl, refl)
 
--- src/joining.rt:47:27
 mul-lower : tie.Need-mul-lower Inv-loop μ-loop
 mul-lower c = omega arith
 
--- src/joining.rt:47:27
 slice-read-lower : tie.Need-slice-read-lower Inv-loop μ-loop
 slice-read-lower c = omega arith
 
--- src/joining.rt:47:38
 mul-lower-2 : tie.Need-mul-lower-2 Inv-loop μ-loop
 mul-lower-2 c = omega arith
 
--- src/joining.rt:47:38
 shared-slice-read-lower : tie.Need-shared-slice-read-lower Inv-loop μ-loop
 shared-slice-read-lower c = omega (arith, ltb-true)
 
--- src/joining.rt:47:21
 lower-requires : tie.Need-lower-requires Inv-loop μ-loop
 lower-requires c κs = tt
 
--- src/joining.rt:47:9
 mul-column : tie.Need-mul-column Inv-loop μ-loop
 mul-column c = omega arith
 
--- src/joining.rt:47:9
 slice-write-column : tie.Need-slice-write-column Inv-loop μ-loop
 slice-write-column c = omega arith
 
--- src/joining.rt:48:9
 add-i : tie.Need-add-i Inv-loop μ-loop
 add-i c = omega arith
 
--- src/joining.rt:46:5
 loop-less : tie.Need-loop-less Inv-loop μ-loop
 loop-less c = simp length-set (omega arith)
 
--- src/joining.rt:46:5
 loop-again : tie.Need-loop-again Inv-loop μ-loop
 loop-again c = (
   simp length-set (omega arith),
@@ -70,19 +56,15 @@ loop-again c = (
   pairs-next lowerOf nan nan _ _ _ _ (c .before .before .before .before .loop-test .taken) (ltb-true _ _ (c .before .before .before .if1 .taken)) (c .lower .ensures) ∙ c .before .before .before .before .before .loop .inv .2,
 )
 
--- src/joining.rt:42:1
 same-length : tie.Need-same-length Inv-loop μ-loop
 same-length c = c .before .before .loop .inv .1
 
--- src/joining.rt:42:1
 returns : tie.Need-returns Inv-loop μ-loop
 returns c = let h : length (c .before .before .before .before .before .args .theirs .now) ≤ c .before .before .loop .i = ltb-false _ _ (c .if1 .left) in sym (pairs-done lowerOf _ _ _ h) ∙ c .before .before .loop .inv .2
 
--- src/joining.rt:42:1
 same-length-2 : tie.Need-same-length-2 Inv-loop μ-loop
 same-length-2 c = c .before .loop .inv .1
 
--- src/joining.rt:42:1
 returns-2 : tie.Need-returns-2 Inv-loop μ-loop
 returns-2 c = sym (pairs-out lowerOf _ _ _ (c .loop-test .left)) ∙ c .before .loop .inv .2
 

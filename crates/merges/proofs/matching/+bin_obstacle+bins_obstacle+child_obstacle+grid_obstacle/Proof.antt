@@ -104,7 +104,6 @@ grid-obstacle-below t =
     (falls 6 grid-obstacle-kinds.ps _<_ μ-grid-obstacle t)
     grid-obstacle.Pre
 
--- src/matching.rt:180:22
 bin-obstacle-add-link : (t : ℕ) → bin-obstacle-lts.Need-add-link (
   bin-own-obstacle-reads.Asked,
   bin-own-obstacle-reads.Learnt,
@@ -115,7 +114,6 @@ bin-obstacle-add-link : (t : ℕ) → bin-obstacle-lts.Need-add-link (
 ) (bin-obstacle-at t) bin-obstacle.Post
 bin-obstacle-add-link t c = omega (arith, c .before .before .before .before .before .before .pre .1 .0, c .before .before .before .before .before .before .pre .1 .1, c .before .before .before .before .before .before .pre .1 .2, c .before .before .before .before .before .before .pre .1 .3)
 
--- src/matching.rt:180:22
 bin-obstacle-add-link-2 : (t : ℕ) → bin-obstacle-lts.Need-add-link-2 (
   bin-own-obstacle-reads.Asked,
   bin-own-obstacle-reads.Learnt,
@@ -126,7 +124,6 @@ bin-obstacle-add-link-2 : (t : ℕ) → bin-obstacle-lts.Need-add-link-2 (
 ) (bin-obstacle-at t) bin-obstacle.Post
 bin-obstacle-add-link-2 t c = omega (arith, c .before .before .before .before .before .before .pre .1 .0, c .before .before .before .before .before .before .pre .1 .1, c .before .before .before .before .before .before .pre .1 .2, c .before .before .before .before .before .before .pre .1 .3)
 
--- src/matching.rt:180:16
 bin-obstacle-mul-link : (t : ℕ) → bin-obstacle-lts.Need-mul-link (
   bin-own-obstacle-reads.Asked,
   bin-own-obstacle-reads.Learnt,
@@ -137,7 +134,6 @@ bin-obstacle-mul-link : (t : ℕ) → bin-obstacle-lts.Need-mul-link (
 ) (bin-obstacle-at t) bin-obstacle.Post
 bin-obstacle-mul-link t c = omega (arith, c .before .before .before .before .before .before .pre .1 .0, c .before .before .before .before .before .before .pre .1 .1, c .before .before .before .before .before .before .pre .1 .2, c .before .before .before .before .before .before .pre .1 .3)
 
--- src/matching.rt:180:16
 bin-obstacle-shared-slice-read-link : (t : ℕ) → bin-obstacle-lts.Need-shared-slice-read-link (
   bin-own-obstacle-reads.Asked,
   bin-own-obstacle-reads.Learnt,
@@ -148,7 +144,6 @@ bin-obstacle-shared-slice-read-link : (t : ℕ) → bin-obstacle-lts.Need-shared
 ) (bin-obstacle-at t) bin-obstacle.Post
 bin-obstacle-shared-slice-read-link t c = omega (arith, c .before .before .before .before .before .before .before .pre .1 .0, c .before .before .before .before .before .before .before .pre .1 .1, c .before .before .before .before .before .before .before .pre .1 .2, c .before .before .before .before .before .before .before .pre .1 .3)
 
--- src/matching.rt:181:21
 bin-obstacle-add-far : (t : ℕ) → bin-obstacle-lts.Need-add-far (
   bin-own-obstacle-reads.Asked,
   bin-own-obstacle-reads.Learnt,
@@ -159,7 +154,6 @@ bin-obstacle-add-far : (t : ℕ) → bin-obstacle-lts.Need-add-far (
 ) (bin-obstacle-at t) bin-obstacle.Post
 bin-obstacle-add-far t c = omega (arith, c .before .before .before .before .before .before .before .pre .1 .0, c .before .before .before .before .before .before .before .pre .1 .1, c .before .before .before .before .before .before .before .pre .1 .2, c .before .before .before .before .before .before .before .pre .1 .3)
 
--- src/matching.rt:181:21
 bin-obstacle-add-far-2 : (t : ℕ) → bin-obstacle-lts.Need-add-far-2 (
   bin-own-obstacle-reads.Asked,
   bin-own-obstacle-reads.Learnt,
@@ -170,7 +164,6 @@ bin-obstacle-add-far-2 : (t : ℕ) → bin-obstacle-lts.Need-add-far-2 (
 ) (bin-obstacle-at t) bin-obstacle.Post
 bin-obstacle-add-far-2 t c = omega (arith, c .before .before .before .before .before .before .before .pre .1 .0, c .before .before .before .before .before .before .before .pre .1 .1, c .before .before .before .before .before .before .before .pre .1 .2, c .before .before .before .before .before .before .before .pre .1 .3)
 
--- src/matching.rt:181:15
 bin-obstacle-mul-far : (t : ℕ) → bin-obstacle-lts.Need-mul-far (
   bin-own-obstacle-reads.Asked,
   bin-own-obstacle-reads.Learnt,
@@ -181,7 +174,6 @@ bin-obstacle-mul-far : (t : ℕ) → bin-obstacle-lts.Need-mul-far (
 ) (bin-obstacle-at t) bin-obstacle.Post
 bin-obstacle-mul-far t c = omega (arith, c .before .before .before .before .before .before .before .pre .1 .0, c .before .before .before .before .before .before .before .pre .1 .1, c .before .before .before .before .before .before .before .pre .1 .2, c .before .before .before .before .before .before .before .pre .1 .3)
 
--- src/matching.rt:181:15
 bin-obstacle-shared-slice-read-far : (t : ℕ) → bin-obstacle-lts.Need-shared-slice-read-far (
   bin-own-obstacle-reads.Asked,
   bin-own-obstacle-reads.Learnt,
@@ -192,7 +184,6 @@ bin-obstacle-shared-slice-read-far : (t : ℕ) → bin-obstacle-lts.Need-shared-
 ) (bin-obstacle-at t) bin-obstacle.Post
 bin-obstacle-shared-slice-read-far t c = omega (arith, c .before .before .before .before .before .before .before .before .pre .1 .0, c .before .before .before .before .before .before .before .before .pre .1 .1, c .before .before .before .before .before .before .before .before .pre .1 .2, c .before .before .before .before .before .before .before .before .pre .1 .3)
 
--- src/matching.rt:182:9
 bin-obstacle-bin-own-obstacle-requires : (t : ℕ) → bin-obstacle-lts.Need-bin-own-obstacle-requires (
   bin-own-obstacle-reads.Asked,
   bin-own-obstacle-reads.Learnt,
@@ -203,7 +194,6 @@ bin-obstacle-bin-own-obstacle-requires : (t : ℕ) → bin-obstacle-lts.Need-bin
 ) (bin-obstacle-at t) bin-obstacle.Post
 bin-obstacle-bin-own-obstacle-requires t c κs = (bin-room (Laid (c .before .before .before .before .before .before .before .before .args .level) (c .before .before .before .before .before .before .before .before .args .table .now) (length (c .before .before .before .before .before .before .before .before .args .reals .now)) (length (c .before .before .before .before .before .before .before .before .args .counts .now))) (c .before .before .before .before .before .before .before .before .args .table .now) (length (c .before .before .before .before .before .before .before .before .args .reals .now)) (length (c .before .before .before .before .before .before .before .before .args .counts .now)) (c .before .before .before .before .before .before .before .before .args .w) (c .before .before .before .before .before .before .before .before .args .i) (c .before .before .before .before .before .before .before .before .pre .1 .0) (c .before .before .before .before .before .before .before .before .pre .1 .2), bin-room (Laid (c .before .before .before .before .before .before .before .before .args .level) (c .before .before .before .before .before .before .before .before .args .other .now) (length (c .before .before .before .before .before .before .before .before .args .theirs .now)) (length (c .before .before .before .before .before .before .before .before .args .tallies .now))) (c .before .before .before .before .before .before .before .before .args .other .now) (length (c .before .before .before .before .before .before .before .before .args .theirs .now)) (length (c .before .before .before .before .before .before .before .before .args .tallies .now)) (c .before .before .before .before .before .before .before .before .args .v) (c .before .before .before .before .before .before .before .before .args .i) (c .before .before .before .before .before .before .before .before .pre .1 .1) (c .before .before .before .before .before .before .before .before .pre .1 .3), own-sound _ _ (c .before .before .before .before .before .before .before .before .pre .1 .4), own-sound _ _ (c .before .before .before .before .before .before .before .before .pre .1 .5))
 
--- src/matching.rt:183:9
 bin-obstacle-child-obstacle-requires : (t : ℕ) → bin-obstacle-lts.Need-child-obstacle-requires (
   bin-own-obstacle-reads.Asked,
   bin-own-obstacle-reads.Learnt,
@@ -215,7 +205,6 @@ bin-obstacle-child-obstacle-requires : (t : ℕ) → bin-obstacle-lts.Need-child
 unfolding ChildLaid
 bin-obstacle-child-obstacle-requires t c κs = (omega (arith, c .before .before .before .before .before .before .before .before .before .pre .0), (c .before .before .before .before .before .before .before .before .before .pre .1 .0 .children (c .before .before .before .before .before .before .before .before .before .args .i) (c .before .before .before .before .before .before .before .before .before .pre .1 .2), c .before .before .before .before .before .before .before .before .before .pre .1 .1 .children (c .before .before .before .before .before .before .before .before .before .args .i) (c .before .before .before .before .before .before .before .before .before .pre .1 .3), sound-below _ _ (c .before .before .before .before .before .before .before .before .before .pre .1 .4), sound-below _ _ (c .before .before .before .before .before .before .before .before .before .pre .1 .5)))
 
--- src/matching.rt:184:5
 bin-obstacle-worse-requires : (t : ℕ) → bin-obstacle-lts.Need-worse-requires (
   bin-own-obstacle-reads.Asked,
   bin-own-obstacle-reads.Learnt,
@@ -226,7 +215,6 @@ bin-obstacle-worse-requires : (t : ℕ) → bin-obstacle-lts.Need-worse-requires
 ) (bin-obstacle-at t) bin-obstacle.Post
 bin-obstacle-worse-requires t c κs = tt
 
--- src/matching.rt:158:1
 bin-obstacle-returns : (t : ℕ) → bin-obstacle-lts.Need-returns (
   bin-own-obstacle-reads.Asked,
   bin-own-obstacle-reads.Learnt,
@@ -245,7 +233,6 @@ abbrev bins-obstacle-μ-loop : bins-obstacle-lts.MeasureT-loop
 bins-obstacle-μ-loop table reals counts level w other theirs tallies v n many r c q d fits found₀ i₀ found i =
     n - i
 
--- src/matching.rt:236:19
 bins-obstacle-add-n : (t : ℕ) → bins-obstacle-lts.Need-add-n (
   account-fits-reads.Asked,
   account-fits-reads.Learnt,
@@ -258,7 +245,6 @@ bins-obstacle-add-n : (t : ℕ) → bins-obstacle-lts.Need-add-n (
 ) (bins-obstacle-at t) bins-obstacle.Post bins-obstacle-Inv-loop bins-obstacle-μ-loop
 bins-obstacle-add-n t c = omega (arith, c .before .before .before .before .before .before .pre .1 .0, c .before .before .before .before .before .before .pre .1 .1)
 
--- src/matching.rt:236:13
 bins-obstacle-mul-n : (t : ℕ) → bins-obstacle-lts.Need-mul-n (
   account-fits-reads.Asked,
   account-fits-reads.Learnt,
@@ -271,7 +257,6 @@ bins-obstacle-mul-n : (t : ℕ) → bins-obstacle-lts.Need-mul-n (
 ) (bins-obstacle-at t) bins-obstacle.Post bins-obstacle-Inv-loop bins-obstacle-μ-loop
 bins-obstacle-mul-n t c = omega (arith, c .before .before .before .before .before .before .pre .1 .0, c .before .before .before .before .before .before .pre .1 .1)
 
--- src/matching.rt:236:13
 bins-obstacle-shared-slice-read-n : (t : ℕ) → bins-obstacle-lts.Need-shared-slice-read-n (
   account-fits-reads.Asked,
   account-fits-reads.Learnt,
@@ -284,7 +269,6 @@ bins-obstacle-shared-slice-read-n : (t : ℕ) → bins-obstacle-lts.Need-shared-
 ) (bins-obstacle-at t) bins-obstacle.Post bins-obstacle-Inv-loop bins-obstacle-μ-loop
 bins-obstacle-shared-slice-read-n t c = omega (arith, c .before .before .before .before .before .before .before .pre .1 .0, c .before .before .before .before .before .before .before .pre .1 .1)
 
--- src/matching.rt:237:22
 bins-obstacle-add-many : (t : ℕ) → bins-obstacle-lts.Need-add-many (
   account-fits-reads.Asked,
   account-fits-reads.Learnt,
@@ -297,7 +281,6 @@ bins-obstacle-add-many : (t : ℕ) → bins-obstacle-lts.Need-add-many (
 ) (bins-obstacle-at t) bins-obstacle.Post bins-obstacle-Inv-loop bins-obstacle-μ-loop
 bins-obstacle-add-many t c = omega (arith, c .before .before .before .before .before .before .before .pre .1 .0, c .before .before .before .before .before .before .before .pre .1 .1)
 
--- src/matching.rt:237:16
 bins-obstacle-mul-many : (t : ℕ) → bins-obstacle-lts.Need-mul-many (
   account-fits-reads.Asked,
   account-fits-reads.Learnt,
@@ -310,7 +293,6 @@ bins-obstacle-mul-many : (t : ℕ) → bins-obstacle-lts.Need-mul-many (
 ) (bins-obstacle-at t) bins-obstacle.Post bins-obstacle-Inv-loop bins-obstacle-μ-loop
 bins-obstacle-mul-many t c = omega (arith, c .before .before .before .before .before .before .before .pre .1 .0, c .before .before .before .before .before .before .before .pre .1 .1)
 
--- src/matching.rt:237:16
 bins-obstacle-shared-slice-read-many : (t : ℕ) → bins-obstacle-lts.Need-shared-slice-read-many (
   account-fits-reads.Asked,
   account-fits-reads.Learnt,
@@ -323,7 +305,6 @@ bins-obstacle-shared-slice-read-many : (t : ℕ) → bins-obstacle-lts.Need-shar
 ) (bins-obstacle-at t) bins-obstacle.Post bins-obstacle-Inv-loop bins-obstacle-μ-loop
 bins-obstacle-shared-slice-read-many t c = omega (arith, c .before .before .before .before .before .before .before .before .pre .1 .0, c .before .before .before .before .before .before .before .before .pre .1 .1)
 
--- src/matching.rt:239:9
 bins-obstacle-returns : (t : ℕ) → bins-obstacle-lts.Need-returns (
   account-fits-reads.Asked,
   account-fits-reads.Learnt,
@@ -336,7 +317,6 @@ bins-obstacle-returns : (t : ℕ) → bins-obstacle-lts.Need-returns (
 ) (bins-obstacle-at t) bins-obstacle.Post bins-obstacle-Inv-loop bins-obstacle-μ-loop
 bins-obstacle-returns t c = many-differ (gridAt (c .before .before .before .before .before .before .before .before .before .args .level) (c .before .before .before .before .before .before .before .before .before .args .table .now) (c .before .before .before .before .before .before .before .before .before .args .reals .now) (c .before .before .before .before .before .before .before .before .before .args .counts .now)) (gridAt (c .before .before .before .before .before .before .before .before .before .args .level) (c .before .before .before .before .before .before .before .before .before .args .other .now) (c .before .before .before .before .before .before .before .before .before .args .theirs .now) (c .before .before .before .before .before .before .before .before .before .args .tallies .now)) (c .before .before .before .before .before .before .before .before .before .args .table .now) (c .before .before .before .before .before .before .before .before .before .args .reals .now) (c .before .before .before .before .before .before .before .before .before .args .counts .now) (c .before .before .before .before .before .before .before .before .before .args .w) (c .before .before .before .before .before .before .before .before .before .args .other .now) (c .before .before .before .before .before .before .before .before .before .args .theirs .now) (c .before .before .before .before .before .before .before .before .before .args .tallies .now) (c .before .before .before .before .before .before .before .before .before .args .v) (getD (c .before .before .before .before .before .before .before .before .before .args .table .now) (c .before .before .before .before .before .before .before .before .before .args .w + 2) 0) (getD (c .before .before .before .before .before .before .before .before .before .args .other .now) (c .before .before .before .before .before .before .before .before .before .args .v + 2) 0) (headAt (c .before .before .before .before .before .before .before .before .before .args .table .now) (c .before .before .before .before .before .before .before .before .before .args .reals .now) (c .before .before .before .before .before .before .before .before .before .args .counts .now) (c .before .before .before .before .before .before .before .before .before .args .w)) (headAt (c .before .before .before .before .before .before .before .before .before .args .other .now) (c .before .before .before .before .before .before .before .before .before .args .theirs .now) (c .before .before .before .before .before .before .before .before .before .args .tallies .now) (c .before .before .before .before .before .before .before .before .before .args .v)) (c .if1 .taken)
 
--- src/matching.rt:241:19
 bins-obstacle-add-r : (t : ℕ) → bins-obstacle-lts.Need-add-r (
   account-fits-reads.Asked,
   account-fits-reads.Learnt,
@@ -349,7 +329,6 @@ bins-obstacle-add-r : (t : ℕ) → bins-obstacle-lts.Need-add-r (
 ) (bins-obstacle-at t) bins-obstacle.Post bins-obstacle-Inv-loop bins-obstacle-μ-loop
 bins-obstacle-add-r t c = omega (arith, c .before .before .before .before .before .before .before .before .before .pre .1 .0, c .before .before .before .before .before .before .before .before .before .pre .1 .1)
 
--- src/matching.rt:241:13
 bins-obstacle-mul-r : (t : ℕ) → bins-obstacle-lts.Need-mul-r (
   account-fits-reads.Asked,
   account-fits-reads.Learnt,
@@ -362,7 +341,6 @@ bins-obstacle-mul-r : (t : ℕ) → bins-obstacle-lts.Need-mul-r (
 ) (bins-obstacle-at t) bins-obstacle.Post bins-obstacle-Inv-loop bins-obstacle-μ-loop
 bins-obstacle-mul-r t c = omega (arith, c .before .before .before .before .before .before .before .before .before .pre .1 .0, c .before .before .before .before .before .before .before .before .before .pre .1 .1)
 
--- src/matching.rt:241:13
 bins-obstacle-shared-slice-read-r : (t : ℕ) → bins-obstacle-lts.Need-shared-slice-read-r (
   account-fits-reads.Asked,
   account-fits-reads.Learnt,
@@ -375,7 +353,6 @@ bins-obstacle-shared-slice-read-r : (t : ℕ) → bins-obstacle-lts.Need-shared-
 ) (bins-obstacle-at t) bins-obstacle.Post bins-obstacle-Inv-loop bins-obstacle-μ-loop
 bins-obstacle-shared-slice-read-r t c = omega (arith, c .before .before .before .before .before .before .before .before .before .before .pre .1 .0, c .before .before .before .before .before .before .before .before .before .before .pre .1 .1)
 
--- src/matching.rt:242:19
 bins-obstacle-add-c : (t : ℕ) → bins-obstacle-lts.Need-add-c (
   account-fits-reads.Asked,
   account-fits-reads.Learnt,
@@ -388,7 +365,6 @@ bins-obstacle-add-c : (t : ℕ) → bins-obstacle-lts.Need-add-c (
 ) (bins-obstacle-at t) bins-obstacle.Post bins-obstacle-Inv-loop bins-obstacle-μ-loop
 bins-obstacle-add-c t c = omega (arith, c .before .before .before .before .before .before .before .before .before .before .pre .1 .0, c .before .before .before .before .before .before .before .before .before .before .pre .1 .1)
 
--- src/matching.rt:242:13
 bins-obstacle-mul-c : (t : ℕ) → bins-obstacle-lts.Need-mul-c (
   account-fits-reads.Asked,
   account-fits-reads.Learnt,
@@ -401,7 +377,6 @@ bins-obstacle-mul-c : (t : ℕ) → bins-obstacle-lts.Need-mul-c (
 ) (bins-obstacle-at t) bins-obstacle.Post bins-obstacle-Inv-loop bins-obstacle-μ-loop
 bins-obstacle-mul-c t c = omega (arith, c .before .before .before .before .before .before .before .before .before .before .pre .1 .0, c .before .before .before .before .before .before .before .before .before .before .pre .1 .1)
 
--- src/matching.rt:242:13
 bins-obstacle-shared-slice-read-c : (t : ℕ) → bins-obstacle-lts.Need-shared-slice-read-c (
   account-fits-reads.Asked,
   account-fits-reads.Learnt,
@@ -414,7 +389,6 @@ bins-obstacle-shared-slice-read-c : (t : ℕ) → bins-obstacle-lts.Need-shared-
 ) (bins-obstacle-at t) bins-obstacle.Post bins-obstacle-Inv-loop bins-obstacle-μ-loop
 bins-obstacle-shared-slice-read-c t c = omega (arith, c .before .before .before .before .before .before .before .before .before .before .before .pre .1 .0, c .before .before .before .before .before .before .before .before .before .before .before .pre .1 .1)
 
--- src/matching.rt:243:19
 bins-obstacle-add-q : (t : ℕ) → bins-obstacle-lts.Need-add-q (
   account-fits-reads.Asked,
   account-fits-reads.Learnt,
@@ -427,7 +401,6 @@ bins-obstacle-add-q : (t : ℕ) → bins-obstacle-lts.Need-add-q (
 ) (bins-obstacle-at t) bins-obstacle.Post bins-obstacle-Inv-loop bins-obstacle-μ-loop
 bins-obstacle-add-q t c = omega (arith, c .before .before .before .before .before .before .before .before .before .before .before .pre .1 .0, c .before .before .before .before .before .before .before .before .before .before .before .pre .1 .1)
 
--- src/matching.rt:243:13
 bins-obstacle-mul-q : (t : ℕ) → bins-obstacle-lts.Need-mul-q (
   account-fits-reads.Asked,
   account-fits-reads.Learnt,
@@ -440,7 +413,6 @@ bins-obstacle-mul-q : (t : ℕ) → bins-obstacle-lts.Need-mul-q (
 ) (bins-obstacle-at t) bins-obstacle.Post bins-obstacle-Inv-loop bins-obstacle-μ-loop
 bins-obstacle-mul-q t c = omega (arith, c .before .before .before .before .before .before .before .before .before .before .before .pre .1 .0, c .before .before .before .before .before .before .before .before .before .before .before .pre .1 .1)
 
--- src/matching.rt:243:13
 bins-obstacle-shared-slice-read-q : (t : ℕ) → bins-obstacle-lts.Need-shared-slice-read-q (
   account-fits-reads.Asked,
   account-fits-reads.Learnt,
@@ -453,7 +425,6 @@ bins-obstacle-shared-slice-read-q : (t : ℕ) → bins-obstacle-lts.Need-shared-
 ) (bins-obstacle-at t) bins-obstacle.Post bins-obstacle-Inv-loop bins-obstacle-μ-loop
 bins-obstacle-shared-slice-read-q t c = omega (arith, c .before .before .before .before .before .before .before .before .before .before .before .before .pre .1 .0, c .before .before .before .before .before .before .before .before .before .before .before .before .pre .1 .1)
 
--- src/matching.rt:244:19
 bins-obstacle-add-d : (t : ℕ) → bins-obstacle-lts.Need-add-d (
   account-fits-reads.Asked,
   account-fits-reads.Learnt,
@@ -466,7 +437,6 @@ bins-obstacle-add-d : (t : ℕ) → bins-obstacle-lts.Need-add-d (
 ) (bins-obstacle-at t) bins-obstacle.Post bins-obstacle-Inv-loop bins-obstacle-μ-loop
 bins-obstacle-add-d t c = omega (arith, c .before .before .before .before .before .before .before .before .before .before .before .before .pre .1 .0, c .before .before .before .before .before .before .before .before .before .before .before .before .pre .1 .1)
 
--- src/matching.rt:244:13
 bins-obstacle-mul-d : (t : ℕ) → bins-obstacle-lts.Need-mul-d (
   account-fits-reads.Asked,
   account-fits-reads.Learnt,
@@ -479,7 +449,6 @@ bins-obstacle-mul-d : (t : ℕ) → bins-obstacle-lts.Need-mul-d (
 ) (bins-obstacle-at t) bins-obstacle.Post bins-obstacle-Inv-loop bins-obstacle-μ-loop
 bins-obstacle-mul-d t c = omega (arith, c .before .before .before .before .before .before .before .before .before .before .before .before .pre .1 .0, c .before .before .before .before .before .before .before .before .before .before .before .before .pre .1 .1)
 
--- src/matching.rt:244:13
 bins-obstacle-shared-slice-read-d : (t : ℕ) → bins-obstacle-lts.Need-shared-slice-read-d (
   account-fits-reads.Asked,
   account-fits-reads.Learnt,
@@ -492,7 +461,6 @@ bins-obstacle-shared-slice-read-d : (t : ℕ) → bins-obstacle-lts.Need-shared-
 ) (bins-obstacle-at t) bins-obstacle.Post bins-obstacle-Inv-loop bins-obstacle-μ-loop
 bins-obstacle-shared-slice-read-d t c = omega (arith, c .before .before .before .before .before .before .before .before .before .before .before .before .before .pre .1 .0, c .before .before .before .before .before .before .before .before .before .before .before .before .before .pre .1 .1)
 
--- src/matching.rt:245:9
 bins-obstacle-account-fits-requires : (t : ℕ) → bins-obstacle-lts.Need-account-fits-requires (
   account-fits-reads.Asked,
   account-fits-reads.Learnt,
@@ -506,7 +474,6 @@ bins-obstacle-account-fits-requires : (t : ℕ) → bins-obstacle-lts.Need-accou
 unfolding headAt
 bins-obstacle-account-fits-requires t c κs = (omega (arith, c .before .before .before .before .before .before .before .before .before .before .before .before .before .pre .1 .0, c .before .before .before .before .before .before .before .before .before .before .before .before .before .pre .1 .1), omega (arith, c .before .before .before .before .before .before .before .before .before .before .before .before .before .pre .1 .0, c .before .before .before .before .before .before .before .before .before .before .before .before .before .pre .1 .1), omega (arith, c .before .before .before .before .before .before .before .before .before .before .before .before .before .pre .1 .0, c .before .before .before .before .before .before .before .before .before .before .before .before .before .pre .1 .1), omega (arith, c .before .before .before .before .before .before .before .before .before .before .before .before .before .pre .1 .0, c .before .before .before .before .before .before .before .before .before .before .before .before .before .pre .1 .1), head-sound _ _ (c .before .before .before .before .before .before .before .before .before .before .before .before .before .pre .1 .2), head-sound _ _ (c .before .before .before .before .before .before .before .before .before .before .before .before .before .pre .1 .3))
 
--- src/matching.rt:246:9
 bins-obstacle-found-of-requires : (t : ℕ) → bins-obstacle-lts.Need-found-of-requires (
   account-fits-reads.Asked,
   account-fits-reads.Learnt,
@@ -519,7 +486,6 @@ bins-obstacle-found-of-requires : (t : ℕ) → bins-obstacle-lts.Need-found-of-
 ) (bins-obstacle-at t) bins-obstacle.Post bins-obstacle-Inv-loop bins-obstacle-μ-loop
 bins-obstacle-found-of-requires t c κs = tt
 
--- src/matching.rt:248:5
 bins-obstacle-loop-holds : (t : ℕ) → bins-obstacle-lts.Need-loop-holds (
   account-fits-reads.Asked,
   account-fits-reads.Learnt,
@@ -533,7 +499,6 @@ bins-obstacle-loop-holds : (t : ℕ) → bins-obstacle-lts.Need-loop-holds (
 unfolding headAt
 bins-obstacle-loop-holds t c = (omega arith, going-begin (gridAt (c .before .before .before .before .before .before .before .before .before .before .before .before .before .before .before .args .level) (c .before .before .before .before .before .before .before .before .before .before .before .before .before .before .before .args .table .now) (c .before .before .before .before .before .before .before .before .before .before .before .before .before .before .before .args .reals .now) (c .before .before .before .before .before .before .before .before .before .before .before .before .before .before .before .args .counts .now)) (gridAt (c .before .before .before .before .before .before .before .before .before .before .before .before .before .before .before .args .level) (c .before .before .before .before .before .before .before .before .before .before .before .before .before .before .before .args .other .now) (c .before .before .before .before .before .before .before .before .before .before .before .before .before .before .before .args .theirs .now) (c .before .before .before .before .before .before .before .before .before .before .before .before .before .before .before .args .tallies .now)) (c .before .before .before .before .before .before .before .before .before .before .before .before .before .before .before .args .table .now) (c .before .before .before .before .before .before .before .before .before .before .before .before .before .before .before .args .reals .now) (c .before .before .before .before .before .before .before .before .before .before .before .before .before .before .before .args .counts .now) (c .before .before .before .before .before .before .before .before .before .before .before .before .before .before .before .args .w) (c .before .before .before .before .before .before .before .before .before .before .before .before .before .before .before .args .other .now) (c .before .before .before .before .before .before .before .before .before .before .before .before .before .before .before .args .theirs .now) (c .before .before .before .before .before .before .before .before .before .before .before .before .before .before .before .args .tallies .now) (c .before .before .before .before .before .before .before .before .before .before .before .before .before .before .before .args .v) (getD (c .before .before .before .before .before .before .before .before .before .before .before .before .before .before .before .args .table .now) (c .before .before .before .before .before .before .before .before .before .before .before .before .before .before .before .args .w + 2) 0) (headAt (c .before .before .before .before .before .before .before .before .before .before .before .before .before .before .before .args .table .now) (c .before .before .before .before .before .before .before .before .before .before .before .before .before .before .before .args .reals .now) (c .before .before .before .before .before .before .before .before .before .before .before .before .before .before .before .args .counts .now) (c .before .before .before .before .before .before .before .before .before .before .before .before .before .before .before .args .w)) (headAt (c .before .before .before .before .before .before .before .before .before .before .before .before .before .before .before .args .other .now) (c .before .before .before .before .before .before .before .before .before .before .before .before .before .before .before .args .theirs .now) (c .before .before .before .before .before .before .before .before .before .before .before .before .before .before .before .args .tallies .now) (c .before .before .before .before .before .before .before .before .before .before .before .before .before .before .before .args .v)) (getD (c .before .before .before .before .before .before .before .before .before .before .before .before .before .before .before .args .other .now) (c .before .before .before .before .before .before .before .before .before .before .before .before .before .before .before .args .v + 2) 0) (c .found-of .result) (c .before .before .before .before .before .before .if1 .left) (c .found-of .ensures ∙ ap (obstacle true true) (c .before .account-fits .ensures)))
 
--- src/matching.rt:249:13
 bins-obstacle-bin-obstacle-requires : (t : ℕ) → bins-obstacle-lts.Need-bin-obstacle-requires (
   account-fits-reads.Asked,
   account-fits-reads.Learnt,
@@ -546,7 +511,6 @@ bins-obstacle-bin-obstacle-requires : (t : ℕ) → bins-obstacle-lts.Need-bin-o
 ) (bins-obstacle-at t) bins-obstacle.Post bins-obstacle-Inv-loop bins-obstacle-μ-loop
 bins-obstacle-bin-obstacle-requires t c κs = (omega (arith, c .before .before .before .before .before .before .before .before .before .before .before .before .before .before .before .before .before .pre .0), (c .before .before .before .before .before .before .before .before .before .before .before .before .before .before .before .before .before .pre .1 .0, c .before .before .before .before .before .before .before .before .before .before .before .before .before .before .before .before .before .pre .1 .1, c .loop-test .taken, omega (arith, c .before .before .before .before .before .before .before .before .if1 .left, c .loop-test .taken), sound-in (gridAt (c .before .before .before .before .before .before .before .before .before .before .before .before .before .before .before .before .before .args .level) (c .before .before .before .before .before .before .before .before .before .before .before .before .before .before .before .before .before .args .table .now) (c .before .before .before .before .before .before .before .before .before .before .before .before .before .before .before .before .before .args .reals .now) (c .before .before .before .before .before .before .before .before .before .before .before .before .before .before .before .before .before .args .counts .now)) (c .before .before .before .before .before .before .before .before .before .before .before .before .before .before .before .before .before .args .table .now) (c .before .before .before .before .before .before .before .before .before .before .before .before .before .before .before .before .before .args .reals .now) (c .before .before .before .before .before .before .before .before .before .before .before .before .before .before .before .before .before .args .counts .now) (c .before .before .before .before .before .before .before .before .before .before .before .before .before .before .before .before .before .args .w) (headAt (c .before .before .before .before .before .before .before .before .before .before .before .before .before .before .before .before .before .args .table .now) (c .before .before .before .before .before .before .before .before .before .before .before .before .before .before .before .before .before .args .reals .now) (c .before .before .before .before .before .before .before .before .before .before .before .before .before .before .before .before .before .args .counts .now) (c .before .before .before .before .before .before .before .before .before .before .before .before .before .before .before .before .before .args .w)) (getD (c .before .before .before .before .before .before .before .before .before .before .before .before .before .before .before .before .before .args .table .now) (c .before .before .before .before .before .before .before .before .before .before .before .before .before .before .before .before .before .args .w + 2) 0) (c .before .loop .i) (c .loop-test .taken) (c .before .before .before .before .before .before .before .before .before .before .before .before .before .before .before .before .before .pre .1 .2), sound-in (gridAt (c .before .before .before .before .before .before .before .before .before .before .before .before .before .before .before .before .before .args .level) (c .before .before .before .before .before .before .before .before .before .before .before .before .before .before .before .before .before .args .other .now) (c .before .before .before .before .before .before .before .before .before .before .before .before .before .before .before .before .before .args .theirs .now) (c .before .before .before .before .before .before .before .before .before .before .before .before .before .before .before .before .before .args .tallies .now)) (c .before .before .before .before .before .before .before .before .before .before .before .before .before .before .before .before .before .args .other .now) (c .before .before .before .before .before .before .before .before .before .before .before .before .before .before .before .before .before .args .theirs .now) (c .before .before .before .before .before .before .before .before .before .before .before .before .before .before .before .before .before .args .tallies .now) (c .before .before .before .before .before .before .before .before .before .before .before .before .before .before .before .before .before .args .v) (headAt (c .before .before .before .before .before .before .before .before .before .before .before .before .before .before .before .before .before .args .other .now) (c .before .before .before .before .before .before .before .before .before .before .before .before .before .before .before .before .before .args .theirs .now) (c .before .before .before .before .before .before .before .before .before .before .before .before .before .before .before .before .before .args .tallies .now) (c .before .before .before .before .before .before .before .before .before .before .before .before .before .before .before .before .before .args .v)) (getD (c .before .before .before .before .before .before .before .before .before .before .before .before .before .before .before .before .before .args .other .now) (c .before .before .before .before .before .before .before .before .before .before .before .before .before .before .before .before .before .args .v + 2) 0) (c .before .loop .i) (omega (arith, c .before .before .before .before .before .before .before .before .if1 .left, c .loop-test .taken)) (c .before .before .before .before .before .before .before .before .before .before .before .before .before .before .before .before .before .pre .1 .3)))
 
--- src/matching.rt:252:9
 bins-obstacle-worse-requires : (t : ℕ) → bins-obstacle-lts.Need-worse-requires (
   account-fits-reads.Asked,
   account-fits-reads.Learnt,
@@ -559,7 +523,6 @@ bins-obstacle-worse-requires : (t : ℕ) → bins-obstacle-lts.Need-worse-requir
 ) (bins-obstacle-at t) bins-obstacle.Post bins-obstacle-Inv-loop bins-obstacle-μ-loop
 bins-obstacle-worse-requires t c κs = tt
 
--- src/matching.rt:253:9
 bins-obstacle-add-i : (t : ℕ) → bins-obstacle-lts.Need-add-i (
   account-fits-reads.Asked,
   account-fits-reads.Learnt,
@@ -572,7 +535,6 @@ bins-obstacle-add-i : (t : ℕ) → bins-obstacle-lts.Need-add-i (
 ) (bins-obstacle-at t) bins-obstacle.Post bins-obstacle-Inv-loop bins-obstacle-μ-loop
 bins-obstacle-add-i t c = omega (arith, c .before .before .before .before .before .before .before .before .before .before .before .before .before .before .before .before .before .before .before .pre .1 .0, c .before .before .loop-test .taken)
 
--- src/matching.rt:248:5
 bins-obstacle-loop-less : (t : ℕ) → bins-obstacle-lts.Need-loop-less (
   account-fits-reads.Asked,
   account-fits-reads.Learnt,
@@ -585,7 +547,6 @@ bins-obstacle-loop-less : (t : ℕ) → bins-obstacle-lts.Need-loop-less (
 ) (bins-obstacle-at t) bins-obstacle.Post bins-obstacle-Inv-loop bins-obstacle-μ-loop
 bins-obstacle-loop-less t c = omega (arith, c .before .before .loop-test .taken)
 
--- src/matching.rt:248:5
 bins-obstacle-loop-again : (t : ℕ) → bins-obstacle-lts.Need-loop-again (
   account-fits-reads.Asked,
   account-fits-reads.Learnt,
@@ -598,7 +559,6 @@ bins-obstacle-loop-again : (t : ℕ) → bins-obstacle-lts.Need-loop-again (
 ) (bins-obstacle-at t) bins-obstacle.Post bins-obstacle-Inv-loop bins-obstacle-μ-loop
 bins-obstacle-loop-again t c = (omega (arith, c .before .before .loop-test .taken), going-on (gridAt (c .before .before .before .before .before .before .before .before .before .before .before .before .before .before .before .before .before .before .before .args .level) (c .before .before .before .before .before .before .before .before .before .before .before .before .before .before .before .before .before .before .before .args .table .now) (c .before .before .before .before .before .before .before .before .before .before .before .before .before .before .before .before .before .before .before .args .reals .now) (c .before .before .before .before .before .before .before .before .before .before .before .before .before .before .before .before .before .before .before .args .counts .now)) (gridAt (c .before .before .before .before .before .before .before .before .before .before .before .before .before .before .before .before .before .before .before .args .level) (c .before .before .before .before .before .before .before .before .before .before .before .before .before .before .before .before .before .before .before .args .other .now) (c .before .before .before .before .before .before .before .before .before .before .before .before .before .before .before .before .before .before .before .args .theirs .now) (c .before .before .before .before .before .before .before .before .before .before .before .before .before .before .before .before .before .before .before .args .tallies .now)) (c .before .before .before .before .before .before .before .before .before .before .before .before .before .before .before .before .before .before .before .args .table .now) (c .before .before .before .before .before .before .before .before .before .before .before .before .before .before .before .before .before .before .before .args .reals .now) (c .before .before .before .before .before .before .before .before .before .before .before .before .before .before .before .before .before .before .before .args .counts .now) (c .before .before .before .before .before .before .before .before .before .before .before .before .before .before .before .before .before .before .before .args .w) (c .before .before .before .before .before .before .before .before .before .before .before .before .before .before .before .before .before .before .before .args .other .now) (c .before .before .before .before .before .before .before .before .before .before .before .before .before .before .before .before .before .before .before .args .theirs .now) (c .before .before .before .before .before .before .before .before .before .before .before .before .before .before .before .before .before .before .before .args .tallies .now) (c .before .before .before .before .before .before .before .before .before .before .before .before .before .before .before .before .before .before .before .args .v) (getD (c .before .before .before .before .before .before .before .before .before .before .before .before .before .before .before .before .before .before .before .args .table .now) (c .before .before .before .before .before .before .before .before .before .before .before .before .before .before .before .before .before .before .before .args .w + 2) 0) (c .before .before .before .loop .found) (gridObstacle (bins (headAt (c .before .before .before .before .before .before .before .before .before .before .before .before .before .before .before .before .before .before .before .args .table .now) (c .before .before .before .before .before .before .before .before .before .before .before .before .before .before .before .before .before .before .before .args .reals .now) (c .before .before .before .before .before .before .before .before .before .before .before .before .before .before .before .before .before .before .before .args .counts .now) (c .before .before .before .before .before .before .before .before .before .before .before .before .before .before .before .before .before .before .before .args .w)) (binsIn (gridAt (c .before .before .before .before .before .before .before .before .before .before .before .before .before .before .before .before .before .before .before .args .level) (c .before .before .before .before .before .before .before .before .before .before .before .before .before .before .before .before .before .before .before .args .table .now) (c .before .before .before .before .before .before .before .before .before .before .before .before .before .before .before .before .before .before .before .args .reals .now) (c .before .before .before .before .before .before .before .before .before .before .before .before .before .before .before .before .before .before .before .args .counts .now)) (c .before .before .before .before .before .before .before .before .before .before .before .before .before .before .before .before .before .before .before .args .table .now) (c .before .before .before .before .before .before .before .before .before .before .before .before .before .before .before .before .before .before .before .args .reals .now) (c .before .before .before .before .before .before .before .before .before .before .before .before .before .before .before .before .before .before .before .args .counts .now) (c .before .before .before .before .before .before .before .before .before .before .before .before .before .before .before .before .before .before .before .args .w) 0 (getD (c .before .before .before .before .before .before .before .before .before .before .before .before .before .before .before .before .before .before .before .args .table .now) (c .before .before .before .before .before .before .before .before .before .before .before .before .before .before .before .before .before .before .before .args .w + 2) 0))) (bins (headAt (c .before .before .before .before .before .before .before .before .before .before .before .before .before .before .before .before .before .before .before .args .other .now) (c .before .before .before .before .before .before .before .before .before .before .before .before .before .before .before .before .before .before .before .args .theirs .now) (c .before .before .before .before .before .before .before .before .before .before .before .before .before .before .before .before .before .before .before .args .tallies .now) (c .before .before .before .before .before .before .before .before .before .before .before .before .before .before .before .before .before .before .before .args .v)) (binsIn (gridAt (c .before .before .before .before .before .before .before .before .before .before .before .before .before .before .before .before .before .before .before .args .level) (c .before .before .before .before .before .before .before .before .before .before .before .before .before .before .before .before .before .before .before .args .other .now) (c .before .before .before .before .before .before .before .before .before .before .before .before .before .before .before .before .before .before .before .args .theirs .now) (c .before .before .before .before .before .before .before .before .before .before .before .before .before .before .before .before .before .before .before .args .tallies .now)) (c .before .before .before .before .before .before .before .before .before .before .before .before .before .before .before .before .before .before .before .args .other .now) (c .before .before .before .before .before .before .before .before .before .before .before .before .before .before .before .before .before .before .before .args .theirs .now) (c .before .before .before .before .before .before .before .before .before .before .before .before .before .before .before .before .before .before .before .args .tallies .now) (c .before .before .before .before .before .before .before .before .before .before .before .before .before .before .before .before .before .before .before .args .v) 0 (getD (c .before .before .before .before .before .before .before .before .before .before .before .before .before .before .before .before .before .before .before .args .other .now) (c .before .before .before .before .before .before .before .before .before .before .before .before .before .before .before .before .before .before .before .args .v + 2) 0)))) (c .before .bin-obstacle .result) (c .worse .result) (c .before .before .before .loop .i) (c .before .before .loop-test .taken) (c .before .before .before .loop .inv .1) (c .before .bin-obstacle .ensures) (c .worse .ensures))
 
--- src/matching.rt:217:1
 bins-obstacle-returns-2 : (t : ℕ) → bins-obstacle-lts.Need-returns-2 (
   account-fits-reads.Asked,
   account-fits-reads.Learnt,
@@ -611,28 +571,24 @@ bins-obstacle-returns-2 : (t : ℕ) → bins-obstacle-lts.Need-returns-2 (
 ) (bins-obstacle-at t) bins-obstacle.Post bins-obstacle-Inv-loop bins-obstacle-μ-loop
 bins-obstacle-returns-2 t c = going-out (gridAt (c .before .before .before .before .before .before .before .before .before .before .before .before .before .before .before .before .before .args .level) (c .before .before .before .before .before .before .before .before .before .before .before .before .before .before .before .before .before .args .table .now) (c .before .before .before .before .before .before .before .before .before .before .before .before .before .before .before .before .before .args .reals .now) (c .before .before .before .before .before .before .before .before .before .before .before .before .before .before .before .before .before .args .counts .now)) (gridAt (c .before .before .before .before .before .before .before .before .before .before .before .before .before .before .before .before .before .args .level) (c .before .before .before .before .before .before .before .before .before .before .before .before .before .before .before .before .before .args .other .now) (c .before .before .before .before .before .before .before .before .before .before .before .before .before .before .before .before .before .args .theirs .now) (c .before .before .before .before .before .before .before .before .before .before .before .before .before .before .before .before .before .args .tallies .now)) (c .before .before .before .before .before .before .before .before .before .before .before .before .before .before .before .before .before .args .table .now) (c .before .before .before .before .before .before .before .before .before .before .before .before .before .before .before .before .before .args .reals .now) (c .before .before .before .before .before .before .before .before .before .before .before .before .before .before .before .before .before .args .counts .now) (c .before .before .before .before .before .before .before .before .before .before .before .before .before .before .before .before .before .args .w) (c .before .before .before .before .before .before .before .before .before .before .before .before .before .before .before .before .before .args .other .now) (c .before .before .before .before .before .before .before .before .before .before .before .before .before .before .before .before .before .args .theirs .now) (c .before .before .before .before .before .before .before .before .before .before .before .before .before .before .before .before .before .args .tallies .now) (c .before .before .before .before .before .before .before .before .before .before .before .before .before .before .before .before .before .args .v) (getD (c .before .before .before .before .before .before .before .before .before .before .before .before .before .before .before .before .before .args .table .now) (c .before .before .before .before .before .before .before .before .before .before .before .before .before .before .before .before .before .args .w + 2) 0) (c .before .loop .found) (gridObstacle (bins (headAt (c .before .before .before .before .before .before .before .before .before .before .before .before .before .before .before .before .before .args .table .now) (c .before .before .before .before .before .before .before .before .before .before .before .before .before .before .before .before .before .args .reals .now) (c .before .before .before .before .before .before .before .before .before .before .before .before .before .before .before .before .before .args .counts .now) (c .before .before .before .before .before .before .before .before .before .before .before .before .before .before .before .before .before .args .w)) (binsIn (gridAt (c .before .before .before .before .before .before .before .before .before .before .before .before .before .before .before .before .before .args .level) (c .before .before .before .before .before .before .before .before .before .before .before .before .before .before .before .before .before .args .table .now) (c .before .before .before .before .before .before .before .before .before .before .before .before .before .before .before .before .before .args .reals .now) (c .before .before .before .before .before .before .before .before .before .before .before .before .before .before .before .before .before .args .counts .now)) (c .before .before .before .before .before .before .before .before .before .before .before .before .before .before .before .before .before .args .table .now) (c .before .before .before .before .before .before .before .before .before .before .before .before .before .before .before .before .before .args .reals .now) (c .before .before .before .before .before .before .before .before .before .before .before .before .before .before .before .before .before .args .counts .now) (c .before .before .before .before .before .before .before .before .before .before .before .before .before .before .before .before .before .args .w) 0 (getD (c .before .before .before .before .before .before .before .before .before .before .before .before .before .before .before .before .before .args .table .now) (c .before .before .before .before .before .before .before .before .before .before .before .before .before .before .before .before .before .args .w + 2) 0))) (bins (headAt (c .before .before .before .before .before .before .before .before .before .before .before .before .before .before .before .before .before .args .other .now) (c .before .before .before .before .before .before .before .before .before .before .before .before .before .before .before .before .before .args .theirs .now) (c .before .before .before .before .before .before .before .before .before .before .before .before .before .before .before .before .before .args .tallies .now) (c .before .before .before .before .before .before .before .before .before .before .before .before .before .before .before .before .before .args .v)) (binsIn (gridAt (c .before .before .before .before .before .before .before .before .before .before .before .before .before .before .before .before .before .args .level) (c .before .before .before .before .before .before .before .before .before .before .before .before .before .before .before .before .before .args .other .now) (c .before .before .before .before .before .before .before .before .before .before .before .before .before .before .before .before .before .args .theirs .now) (c .before .before .before .before .before .before .before .before .before .before .before .before .before .before .before .before .before .args .tallies .now)) (c .before .before .before .before .before .before .before .before .before .before .before .before .before .before .before .before .before .args .other .now) (c .before .before .before .before .before .before .before .before .before .before .before .before .before .before .before .before .before .args .theirs .now) (c .before .before .before .before .before .before .before .before .before .before .before .before .before .before .before .before .before .args .tallies .now) (c .before .before .before .before .before .before .before .before .before .before .before .before .before .before .before .before .before .args .v) 0 (getD (c .before .before .before .before .before .before .before .before .before .before .before .before .before .before .before .before .before .args .other .now) (c .before .before .before .before .before .before .before .before .before .before .before .before .before .before .before .before .before .args .v + 2) 0)))) (c .before .loop .i) (c .loop-test .left) (c .before .loop .inv .1)
 
--- src/matching.rt:206:13
 child-obstacle-returns : (t : ℕ) → child-obstacle-lts.Need-returns (
   grid-obstacle-below t,
   grid-obstacle.Post,
 ) (child-obstacle-at t) child-obstacle.Post
 child-obstacle-returns t c = both-none (gridAt (c .before .before .before .before .before .before .before .before .args .level) (c .before .before .before .before .before .before .before .before .args .table .now) (c .before .before .before .before .before .before .before .before .args .reals .now) (c .before .before .before .before .before .before .before .before .args .counts .now)) (gridAt (c .before .before .before .before .before .before .before .before .args .level) (c .before .before .before .before .before .before .before .before .args .other .now) (c .before .before .before .before .before .before .before .before .args .theirs .now) (c .before .before .before .before .before .before .before .before .args .tallies .now)) (c .before .before .before .before .before .before .before .before .args .link) (c .before .before .before .before .before .before .before .before .args .far) (c .before .if1 .taken) (c .if2 .taken)
 
--- src/matching.rt:208:9
 child-obstacle-returns-2 : (t : ℕ) → child-obstacle-lts.Need-returns-2 (
   grid-obstacle-below t,
   grid-obstacle.Post,
 ) (child-obstacle-at t) child-obstacle.Post
 child-obstacle-returns-2 t c = first-none (gridAt (c .before .before .before .before .before .before .before .before .args .level) (c .before .before .before .before .before .before .before .before .args .table .now) (c .before .before .before .before .before .before .before .before .args .reals .now) (c .before .before .before .before .before .before .before .before .args .counts .now)) (gridAt (c .before .before .before .before .before .before .before .before .args .level) (c .before .before .before .before .before .before .before .before .args .other .now) (c .before .before .before .before .before .before .before .before .args .theirs .now) (c .before .before .before .before .before .before .before .before .args .tallies .now)) (c .before .before .before .before .before .before .before .before .args .link) (c .before .before .before .before .before .before .before .before .args .far) (c .before .if1 .taken) (c .if2 .left)
 
--- src/matching.rt:211:9
 child-obstacle-returns-3 : (t : ℕ) → child-obstacle-lts.Need-returns-3 (
   grid-obstacle-below t,
   grid-obstacle.Post,
 ) (child-obstacle-at t) child-obstacle.Post
 child-obstacle-returns-3 t c = second-none (gridAt (c .before .before .before .before .before .before .before .before .args .level) (c .before .before .before .before .before .before .before .before .args .table .now) (c .before .before .before .before .before .before .before .before .args .reals .now) (c .before .before .before .before .before .before .before .before .args .counts .now)) (gridAt (c .before .before .before .before .before .before .before .before .args .level) (c .before .before .before .before .before .before .before .before .args .other .now) (c .before .before .before .before .before .before .before .before .args .theirs .now) (c .before .before .before .before .before .before .before .before .args .tallies .now)) (c .before .before .before .before .before .before .before .before .args .link) (c .before .before .before .before .before .before .before .before .args .far) (c .before .if1 .left) (c .if3 .taken)
 
--- src/matching.rt:213:5
 child-obstacle-grid-obstacle-requires : (t : ℕ) → child-obstacle-lts.Need-grid-obstacle-requires (
   grid-obstacle-below t,
   grid-obstacle.Post,
@@ -640,14 +596,12 @@ child-obstacle-grid-obstacle-requires : (t : ℕ) → child-obstacle-lts.Need-gr
 unfolding ChildLaid
 child-obstacle-grid-obstacle-requires t c κs = (omega (arith, c .before .before .before .before .before .before .before .before .pre .0), (c .before .before .before .before .before .before .before .before .pre .1 .0 (c .before .if1 .left), c .before .before .before .before .before .before .before .before .pre .1 .1 (c .if3 .left), child-sound (gridAt (c .before .before .before .before .before .before .before .before .args .level) (c .before .before .before .before .before .before .before .before .args .table .now) (c .before .before .before .before .before .before .before .before .args .reals .now) (c .before .before .before .before .before .before .before .before .args .counts .now)) (c .before .before .before .before .before .before .before .before .args .link) (c .before .if1 .left) (c .before .before .before .before .before .before .before .before .pre .1 .2), child-sound (gridAt (c .before .before .before .before .before .before .before .before .args .level) (c .before .before .before .before .before .before .before .before .args .other .now) (c .before .before .before .before .before .before .before .before .args .theirs .now) (c .before .before .before .before .before .before .before .before .args .tallies .now)) (c .before .before .before .before .before .before .before .before .args .far) (c .if3 .left) (c .before .before .before .before .before .before .before .before .pre .1 .3)))
 
--- src/matching.rt:188:1
 child-obstacle-returns-4 : (t : ℕ) → child-obstacle-lts.Need-returns-4 (
   grid-obstacle-below t,
   grid-obstacle.Post,
 ) (child-obstacle-at t) child-obstacle.Post
 child-obstacle-returns-4 t c = c .grid-obstacle .ensures ∙ both-there (gridAt (c .before .before .before .before .before .before .before .before .before .args .level) (c .before .before .before .before .before .before .before .before .before .args .table .now) (c .before .before .before .before .before .before .before .before .before .args .reals .now) (c .before .before .before .before .before .before .before .before .before .args .counts .now)) (gridAt (c .before .before .before .before .before .before .before .before .before .args .level) (c .before .before .before .before .before .before .before .before .before .args .other .now) (c .before .before .before .before .before .before .before .before .before .args .theirs .now) (c .before .before .before .before .before .before .before .before .before .args .tallies .now)) (c .before .before .before .before .before .before .before .before .before .args .link) (c .before .before .before .before .before .before .before .before .before .args .far) (c .before .before .if1 .left) (c .before .if3 .left)
 
--- src/matching.rt:274:8
 grid-obstacle-mul-if1 : (t : ℕ) → grid-obstacle-lts.Need-mul-if1 (
   axes-obstacle-reads.Asked,
   axes-obstacle-reads.Learnt,
@@ -656,7 +610,6 @@ grid-obstacle-mul-if1 : (t : ℕ) → grid-obstacle-lts.Need-mul-if1 (
 ) (grid-obstacle-at t) grid-obstacle.Post
 grid-obstacle-mul-if1 t c = omega (arith, laid-head (c .before .before .before .before .before .before .args .level) (c .before .before .before .before .before .before .args .table .now) (length (c .before .before .before .before .before .before .args .reals .now)) (length (c .before .before .before .before .before .before .args .counts .now)) (c .before .before .before .before .before .before .args .w) (c .before .before .before .before .before .before .pre .1 .0))
 
--- src/matching.rt:274:8
 grid-obstacle-shared-slice-read-if1 : (t : ℕ) → grid-obstacle-lts.Need-shared-slice-read-if1 (
   axes-obstacle-reads.Asked,
   axes-obstacle-reads.Learnt,
@@ -665,7 +618,6 @@ grid-obstacle-shared-slice-read-if1 : (t : ℕ) → grid-obstacle-lts.Need-share
 ) (grid-obstacle-at t) grid-obstacle.Post
 grid-obstacle-shared-slice-read-if1 t c = omega (arith, laid-head (c .before .before .before .before .before .before .before .args .level) (c .before .before .before .before .before .before .before .args .table .now) (length (c .before .before .before .before .before .before .before .args .reals .now)) (length (c .before .before .before .before .before .before .before .args .counts .now)) (c .before .before .before .before .before .before .before .args .w) (c .before .before .before .before .before .before .before .pre .1 .0))
 
--- src/matching.rt:275:12
 grid-obstacle-mul-if2 : (t : ℕ) → grid-obstacle-lts.Need-mul-if2 (
   axes-obstacle-reads.Asked,
   axes-obstacle-reads.Learnt,
@@ -674,7 +626,6 @@ grid-obstacle-mul-if2 : (t : ℕ) → grid-obstacle-lts.Need-mul-if2 (
 ) (grid-obstacle-at t) grid-obstacle.Post
 grid-obstacle-mul-if2 t c = omega (arith, laid-head (c .before .before .before .before .before .before .before .before .args .level) (c .before .before .before .before .before .before .before .before .args .other .now) (length (c .before .before .before .before .before .before .before .before .args .theirs .now)) (length (c .before .before .before .before .before .before .before .before .args .tallies .now)) (c .before .before .before .before .before .before .before .before .args .v) (c .before .before .before .before .before .before .before .before .pre .1 .1))
 
--- src/matching.rt:275:12
 grid-obstacle-shared-slice-read-if2 : (t : ℕ) → grid-obstacle-lts.Need-shared-slice-read-if2 (
   axes-obstacle-reads.Asked,
   axes-obstacle-reads.Learnt,
@@ -683,7 +634,6 @@ grid-obstacle-shared-slice-read-if2 : (t : ℕ) → grid-obstacle-lts.Need-share
 ) (grid-obstacle-at t) grid-obstacle.Post
 grid-obstacle-shared-slice-read-if2 t c = omega (arith, laid-head (c .before .before .before .before .before .before .before .before .before .args .level) (c .before .before .before .before .before .before .before .before .before .args .other .now) (length (c .before .before .before .before .before .before .before .before .before .args .theirs .now)) (length (c .before .before .before .before .before .before .before .before .before .args .tallies .now)) (c .before .before .before .before .before .before .before .before .before .args .v) (c .before .before .before .before .before .before .before .before .before .pre .1 .1))
 
--- src/matching.rt:276:13
 grid-obstacle-axes-obstacle-requires : (t : ℕ) → grid-obstacle-lts.Need-axes-obstacle-requires (
   axes-obstacle-reads.Asked,
   axes-obstacle-reads.Learnt,
@@ -692,7 +642,6 @@ grid-obstacle-axes-obstacle-requires : (t : ℕ) → grid-obstacle-lts.Need-axes
 ) (grid-obstacle-at t) grid-obstacle.Post
 grid-obstacle-axes-obstacle-requires t c κs = (laid-axes (c .before .before .before .before .before .before .before .before .before .before .args .level) (c .before .before .before .before .before .before .before .before .before .before .args .table .now) (length (c .before .before .before .before .before .before .before .before .before .before .args .reals .now)) (length (c .before .before .before .before .before .before .before .before .before .before .args .counts .now)) (c .before .before .before .before .before .before .before .before .before .before .args .w) (c .before .before .before .before .before .before .before .before .before .before .pre .1 .0) (c .before .before .if1 .taken), laid-axes (c .before .before .before .before .before .before .before .before .before .before .args .level) (c .before .before .before .before .before .before .before .before .before .before .args .other .now) (length (c .before .before .before .before .before .before .before .before .before .before .args .theirs .now)) (length (c .before .before .before .before .before .before .before .before .before .before .args .tallies .now)) (c .before .before .before .before .before .before .before .before .before .before .args .v) (c .before .before .before .before .before .before .before .before .before .before .pre .1 .1) (c .if2 .taken), sym (ap sound (node-axes (c .before .before .before .before .before .before .before .before .before .before .args .level) (c .before .before .before .before .before .before .before .before .before .before .args .table .now) (c .before .before .before .before .before .before .before .before .before .before .args .reals .now) (c .before .before .before .before .before .before .before .before .before .before .args .counts .now) (c .before .before .before .before .before .before .before .before .before .before .args .w) (c .before .before .if1 .taken))) ∙ c .before .before .before .before .before .before .before .before .before .before .pre .1 .2, sym (ap sound (node-axes (c .before .before .before .before .before .before .before .before .before .before .args .level) (c .before .before .before .before .before .before .before .before .before .before .args .other .now) (c .before .before .before .before .before .before .before .before .before .before .args .theirs .now) (c .before .before .before .before .before .before .before .before .before .before .args .tallies .now) (c .before .before .before .before .before .before .before .before .before .before .args .v) (c .if2 .taken))) ∙ c .before .before .before .before .before .before .before .before .before .before .pre .1 .3)
 
--- src/matching.rt:276:13
 grid-obstacle-returns : (t : ℕ) → grid-obstacle-lts.Need-returns (
   axes-obstacle-reads.Asked,
   axes-obstacle-reads.Learnt,
@@ -701,7 +650,6 @@ grid-obstacle-returns : (t : ℕ) → grid-obstacle-lts.Need-returns (
 ) (grid-obstacle-at t) grid-obstacle.Post
 grid-obstacle-returns t c = c .axes-obstacle .ensures ∙ sym (ap₂ gridObstacle (node-axes (c .before .before .before .before .before .before .before .before .before .before .before .args .level) (c .before .before .before .before .before .before .before .before .before .before .before .args .table .now) (c .before .before .before .before .before .before .before .before .before .before .before .args .reals .now) (c .before .before .before .before .before .before .before .before .before .before .before .args .counts .now) (c .before .before .before .before .before .before .before .before .before .before .before .args .w) (c .before .before .before .if1 .taken)) (node-axes (c .before .before .before .before .before .before .before .before .before .before .before .args .level) (c .before .before .before .before .before .before .before .before .before .before .before .args .other .now) (c .before .before .before .before .before .before .before .before .before .before .before .args .theirs .now) (c .before .before .before .before .before .before .before .before .before .before .before .args .tallies .now) (c .before .before .before .before .before .before .before .before .before .before .before .args .v) (c .before .if2 .taken)))
 
--- src/matching.rt:278:9
 grid-obstacle-returns-2 : (t : ℕ) → grid-obstacle-lts.Need-returns-2 (
   axes-obstacle-reads.Asked,
   axes-obstacle-reads.Learnt,
@@ -710,7 +658,6 @@ grid-obstacle-returns-2 : (t : ℕ) → grid-obstacle-lts.Need-returns-2 (
 ) (grid-obstacle-at t) grid-obstacle.Post
 grid-obstacle-returns-2 t c = first-axes (c .before .before .before .before .before .before .before .before .before .before .args .level) (c .before .before .before .before .before .before .before .before .before .before .args .table .now) (c .before .before .before .before .before .before .before .before .before .before .args .reals .now) (c .before .before .before .before .before .before .before .before .before .before .args .counts .now) (c .before .before .before .before .before .before .before .before .before .before .args .w) (c .before .before .before .before .before .before .before .before .before .before .args .other .now) (c .before .before .before .before .before .before .before .before .before .before .args .theirs .now) (c .before .before .before .before .before .before .before .before .before .before .args .tallies .now) (c .before .before .before .before .before .before .before .before .before .before .args .v) (c .before .before .if1 .taken) (c .if2 .left) (laid-bins (c .before .before .before .before .before .before .before .before .before .before .args .level) (c .before .before .before .before .before .before .before .before .before .before .args .other .now) (length (c .before .before .before .before .before .before .before .before .before .before .args .theirs .now)) (length (c .before .before .before .before .before .before .before .before .before .before .args .tallies .now)) (c .before .before .before .before .before .before .before .before .before .before .args .v) (c .before .before .before .before .before .before .before .before .before .before .pre .1 .1) (c .if2 .left) .level)
 
--- src/matching.rt:280:8
 grid-obstacle-mul-if3 : (t : ℕ) → grid-obstacle-lts.Need-mul-if3 (
   axes-obstacle-reads.Asked,
   axes-obstacle-reads.Learnt,
@@ -719,7 +666,6 @@ grid-obstacle-mul-if3 : (t : ℕ) → grid-obstacle-lts.Need-mul-if3 (
 ) (grid-obstacle-at t) grid-obstacle.Post
 grid-obstacle-mul-if3 t c = omega (arith, laid-head (c .before .before .before .before .before .before .before .before .args .level) (c .before .before .before .before .before .before .before .before .args .other .now) (length (c .before .before .before .before .before .before .before .before .args .theirs .now)) (length (c .before .before .before .before .before .before .before .before .args .tallies .now)) (c .before .before .before .before .before .before .before .before .args .v) (c .before .before .before .before .before .before .before .before .pre .1 .1))
 
--- src/matching.rt:280:8
 grid-obstacle-shared-slice-read-if3 : (t : ℕ) → grid-obstacle-lts.Need-shared-slice-read-if3 (
   axes-obstacle-reads.Asked,
   axes-obstacle-reads.Learnt,
@@ -728,7 +674,6 @@ grid-obstacle-shared-slice-read-if3 : (t : ℕ) → grid-obstacle-lts.Need-share
 ) (grid-obstacle-at t) grid-obstacle.Post
 grid-obstacle-shared-slice-read-if3 t c = omega (arith, laid-head (c .before .before .before .before .before .before .before .before .before .args .level) (c .before .before .before .before .before .before .before .before .before .args .other .now) (length (c .before .before .before .before .before .before .before .before .before .args .theirs .now)) (length (c .before .before .before .before .before .before .before .before .before .args .tallies .now)) (c .before .before .before .before .before .before .before .before .before .args .v) (c .before .before .before .before .before .before .before .before .before .pre .1 .1))
 
--- src/matching.rt:281:9
 grid-obstacle-returns-3 : (t : ℕ) → grid-obstacle-lts.Need-returns-3 (
   axes-obstacle-reads.Asked,
   axes-obstacle-reads.Learnt,
@@ -737,7 +682,6 @@ grid-obstacle-returns-3 : (t : ℕ) → grid-obstacle-lts.Need-returns-3 (
 ) (grid-obstacle-at t) grid-obstacle.Post
 grid-obstacle-returns-3 t c = second-axes (c .before .before .before .before .before .before .before .before .before .before .args .level) (c .before .before .before .before .before .before .before .before .before .before .args .table .now) (c .before .before .before .before .before .before .before .before .before .before .args .reals .now) (c .before .before .before .before .before .before .before .before .before .before .args .counts .now) (c .before .before .before .before .before .before .before .before .before .before .args .w) (c .before .before .before .before .before .before .before .before .before .before .args .other .now) (c .before .before .before .before .before .before .before .before .before .before .args .theirs .now) (c .before .before .before .before .before .before .before .before .before .before .args .tallies .now) (c .before .before .before .before .before .before .before .before .before .before .args .v) (c .before .before .if1 .left) (c .if3 .taken) ((laid-bins (c .before .before .before .before .before .before .before .before .before .before .args .level) (c .before .before .before .before .before .before .before .before .before .before .args .table .now) (length (c .before .before .before .before .before .before .before .before .before .before .args .reals .now)) (length (c .before .before .before .before .before .before .before .before .before .before .args .counts .now)) (c .before .before .before .before .before .before .before .before .before .before .args .w) (c .before .before .before .before .before .before .before .before .before .before .pre .1 .0) (c .before .before .if1 .left)) .level)
 
--- src/matching.rt:283:41
 grid-obstacle-sub-bins-obstacle : (t : ℕ) → grid-obstacle-lts.Need-sub-bins-obstacle (
   axes-obstacle-reads.Asked,
   axes-obstacle-reads.Learnt,
@@ -746,7 +690,6 @@ grid-obstacle-sub-bins-obstacle : (t : ℕ) → grid-obstacle-lts.Need-sub-bins-
 ) (grid-obstacle-at t) grid-obstacle.Post
 grid-obstacle-sub-bins-obstacle t c = omega (arith, (laid-bins (c .before .before .before .before .before .before .before .before .before .before .args .level) (c .before .before .before .before .before .before .before .before .before .before .args .table .now) (length (c .before .before .before .before .before .before .before .before .before .before .args .reals .now)) (length (c .before .before .before .before .before .before .before .before .before .before .args .counts .now)) (c .before .before .before .before .before .before .before .before .before .before .args .w) (c .before .before .before .before .before .before .before .before .before .before .pre .1 .0) (c .before .before .if1 .left)) .level)
 
--- src/matching.rt:283:5
 grid-obstacle-bins-obstacle-requires : (t : ℕ) → grid-obstacle-lts.Need-bins-obstacle-requires (
   axes-obstacle-reads.Asked,
   axes-obstacle-reads.Learnt,
@@ -755,7 +698,6 @@ grid-obstacle-bins-obstacle-requires : (t : ℕ) → grid-obstacle-lts.Need-bins
 ) (grid-obstacle-at t) grid-obstacle.Post
 grid-obstacle-bins-obstacle-requires t c κs = let d = (laid-bins (c .before .before .before .before .before .before .before .before .before .before .args .level) (c .before .before .before .before .before .before .before .before .before .before .args .table .now) (length (c .before .before .before .before .before .before .before .before .before .before .args .reals .now)) (length (c .before .before .before .before .before .before .before .before .before .before .args .counts .now)) (c .before .before .before .before .before .before .before .before .before .before .args .w) (c .before .before .before .before .before .before .before .before .before .before .pre .1 .0) (c .before .before .if1 .left)) in let e = laid-bins (c .before .before .before .before .before .before .before .before .before .before .args .level) (c .before .before .before .before .before .before .before .before .before .before .args .other .now) (length (c .before .before .before .before .before .before .before .before .before .before .args .theirs .now)) (length (c .before .before .before .before .before .before .before .before .before .before .args .tallies .now)) (c .before .before .before .before .before .before .before .before .before .before .args .v) (c .before .before .before .before .before .before .before .before .before .before .pre .1 .1) (c .if3 .left) in (omega (arith, c .before .before .before .before .before .before .before .before .before .before .pre .0, d .level), (d .bins, e .bins, sym (ap sound (node-bins (c .before .before .before .before .before .before .before .before .before .before .args .level) (c .before .before .before .before .before .before .before .before .before .before .args .table .now) (c .before .before .before .before .before .before .before .before .before .before .args .reals .now) (c .before .before .before .before .before .before .before .before .before .before .args .counts .now) (c .before .before .before .before .before .before .before .before .before .before .args .w) (c .before .before .if1 .left) ((laid-bins (c .before .before .before .before .before .before .before .before .before .before .args .level) (c .before .before .before .before .before .before .before .before .before .before .args .table .now) (length (c .before .before .before .before .before .before .before .before .before .before .args .reals .now)) (length (c .before .before .before .before .before .before .before .before .before .before .args .counts .now)) (c .before .before .before .before .before .before .before .before .before .before .args .w) (c .before .before .before .before .before .before .before .before .before .before .pre .1 .0) (c .before .before .if1 .left)) .level))) ∙ c .before .before .before .before .before .before .before .before .before .before .pre .1 .2, sym (ap sound (node-bins (c .before .before .before .before .before .before .before .before .before .before .args .level) (c .before .before .before .before .before .before .before .before .before .before .args .other .now) (c .before .before .before .before .before .before .before .before .before .before .args .theirs .now) (c .before .before .before .before .before .before .before .before .before .before .args .tallies .now) (c .before .before .before .before .before .before .before .before .before .before .args .v) (c .if3 .left) (e .level))) ∙ c .before .before .before .before .before .before .before .before .before .before .pre .1 .3))
 
--- src/matching.rt:259:1
 grid-obstacle-returns-4 : (t : ℕ) → grid-obstacle-lts.Need-returns-4 (
   axes-obstacle-reads.Asked,
   axes-obstacle-reads.Learnt,

@@ -7,36 +7,25 @@ use Rattle.lent.proofs.Matches.{account-taken, account-refused}
 use borrow.Author.Needs.{needs}
 use Rattle.merges.proofs.matching.account_fits.Statement.{statement}
 use Rattle.merges.proofs.matching.account_fits.Tie as tie
-use Rattle.merges.proofs.matching.account_fits.Reads as reads
-use Rattle.merges.proofs.matching.account_fits.Lts as lts
-use Rattle.accumulator.proofs.StatisticsAccumulator.merge_samples_no_reset.Reads as merge-samples-no-reset-reads
-use Rattle.ground.proofs.accounts.load.Reads as load-reads
 
--- src/matching.rt:71:9
 load-requires : tie.Need-load-requires
 load-requires c κs = tt
 
--- src/matching.rt:72:9
 load-requires-2 : tie.Need-load-requires-2
 load-requires-2 c κs = tt
 
--- src/matching.rt:73:11
 merge-samples-no-reset-requires : tie.Need-merge-samples-no-reset-requires
 merge-samples-no-reset-requires c κs = search needs
 
--- src/matching.rt:74:31
 enum-told : tie.Need-enum-told
 enum-told c = search needs
 
--- src/matching.rt:75:32
 enum-told-2 : tie.Need-enum-told-2
 enum-told-2 c = search needs
 
--- src/matching.rt:57:1
 returns : tie.Need-returns
 returns c = account-taken (c .before .before .merge-samples-no-reset .result) (c .before .before .before .before .load .result) (c .before .before .before .load2 .result) (c .enum-told .given .0 .0) (ap wellFormed (c .before .before .before .before .load .ensures) ∙ c .before .before .before .before .before .before .before .before .before .pre .4) (ap wellFormed (c .before .before .before .load2 .ensures) ∙ c .before .before .before .before .before .before .before .before .before .pre .5) (c .before .before .merge-samples-no-reset .ensures) (sym (c .enum-told .given .1)) ∙ ap₂ (λ (a b : StatisticsAccumulator). wellFormed (mergedOf a b)) (c .before .before .before .before .load .ensures) (c .before .before .before .load2 .ensures)
 
--- src/matching.rt:57:1
 returns-2 : tie.Need-returns-2
 returns-2 c = account-refused (c .before .before .merge-samples-no-reset .result) (c .before .before .before .before .load .result) (c .before .before .before .load2 .result) (c .enum-told2 .given .0 .0) (ap wellFormed (c .before .before .before .before .load .ensures) ∙ c .before .before .before .before .before .before .before .before .before .pre .4) (ap wellFormed (c .before .before .before .load2 .ensures) ∙ c .before .before .before .before .before .before .before .before .before .pre .5) (c .before .before .merge-samples-no-reset .ensures) (sym (c .enum-told2 .given .1)) ∙ ap₂ (λ (a b : StatisticsAccumulator). wellFormed (mergedOf a b)) (c .before .before .before .before .load .ensures) (c .before .before .before .load2 .ensures)
 

@@ -15,13 +15,6 @@ use Rattle.lent.proofs.Matches.{axes-asked, shapes-differ, floors-differ, edges
 use borrow.Author.Needs.{needs}
 use Rattle.merges.proofs.matching.axes_obstacle.Statement.{statement}
 use Rattle.merges.proofs.matching.axes_obstacle.Tie as tie
-use Rattle.merges.proofs.matching.axes_obstacle.Reads as reads
-use Rattle.merges.proofs.matching.axes_obstacle.Lts as lts
-use Rattle.lent.proofs.layout.axes_place.Reads as axes-place-reads
-use Rattle.merges.proofs.matching.account_fits.Reads as account-fits-reads
-use Rattle.merges.proofs.merging.equal_edges.Reads as equal-edges-reads
-use Rattle.merges.proofs.merging.merged_fit.Reads as merged-fit-reads
-use Rattle.merges.proofs.merging.same_lengths.Reads as same-lengths-reads
 
 -- where the axes of both stand
 mine : (c : tie.After-axes-place) → c .axes-place .result ≡ axesPlace (c .before .before .before .before .before .before .before .args .table .now) (c .before .before .before .before .before .before .before .args .w)
@@ -30,99 +23,75 @@ mine c = placed (c .before .before .before .before .before .before .before .args
 theirs : (c : tie.After-axes-place2) → c .axes-place2 .result ≡ axesPlace (c .before .before .before .before .before .before .before .before .args .other .now) (c .before .before .before .before .before .before .before .before .args .v)
 theirs c = placed (c .before .before .before .before .before .before .before .before .args .other .now) (c .before .before .before .before .before .before .before .before .args .v) (c .axes-place2 .ensures) (search needs)
 
--- src/matching.rt:94:9
 axes-place-requires : tie.Need-axes-place-requires
 axes-place-requires c κs = tt
 
--- src/matching.rt:95:9
 axes-place-requires-2 : tie.Need-axes-place-requires-2
 axes-place-requires-2 c κs = tt
 
--- src/matching.rt:96:9
 same-lengths-requires : tie.Need-same-lengths-requires
 same-lengths-requires c κs = (stands-at (c .before .before .before .before .before .before .before .before .args .table .now) (c .before .before .before .before .before .before .before .before .args .reals .now) (c .before .before .before .before .before .before .before .before .args .counts .now) (c .before .before .before .before .before .before .before .before .args .w) (c .before .axes-place .result) (mine (c .before)) (c .before .before .before .before .before .before .before .before .pre .0) (c .before .before .before .before .before .before .before .before .pre .2), stands-at (c .before .before .before .before .before .before .before .before .args .other .now) (c .before .before .before .before .before .before .before .before .args .theirs .now) (c .before .before .before .before .before .before .before .before .args .tallies .now) (c .before .before .before .before .before .before .before .before .args .v) (c .axes-place2 .result) (theirs c) (c .before .before .before .before .before .before .before .before .pre .1) (c .before .before .before .before .before .before .before .before .pre .3))
 
--- src/matching.rt:97:9
 returns : tie.Need-returns
 returns c = shapes-differ (sameAt (c .before .before .before .before .before .before .before .before .before .before .args .reals .now) (c .before .before .before .before .before .before .before .before .before .before .args .counts .now) (c .before .before .before .before .before .before .before .before .before .before .args .theirs .now) (c .before .before .before .before .before .before .before .before .before .before .args .tallies .now) (c .before .before .before .axes-place .result) (c .before .before .axes-place2 .result)) (eq (c .before .before .before .axes-place .result .floor) (c .before .before .axes-place2 .result .floor)) (equalAt (c .before .before .before .before .before .before .before .before .before .before .args .reals .now) (c .before .before .before .before .before .before .before .before .before .before .args .counts .now) (c .before .before .before .before .before .before .before .before .before .before .args .theirs .now) (c .before .before .before .before .before .before .before .before .before .before .args .tallies .now) (c .before .before .before .axes-place .result) (c .before .before .axes-place2 .result)) (wellFormed (mergedOf (recordAt (c .before .before .before .before .before .before .before .before .before .before .args .reals .now) (c .before .before .before .before .before .before .before .before .before .before .args .counts .now) (getD (c .before .before .before .before .before .before .before .before .before .before .args .table .now) (c .before .before .before .before .before .before .before .before .before .before .args .w + 9) 0) (getD (c .before .before .before .before .before .before .before .before .before .before .args .table .now) (c .before .before .before .before .before .before .before .before .before .before .args .w + 10) 0)) (recordAt (c .before .before .before .before .before .before .before .before .before .before .args .theirs .now) (c .before .before .before .before .before .before .before .before .before .before .args .tallies .now) (getD (c .before .before .before .before .before .before .before .before .before .before .args .other .now) (c .before .before .before .before .before .before .before .before .before .before .args .v + 9) 0) (getD (c .before .before .before .before .before .before .before .before .before .before .args .other .now) (c .before .before .before .before .before .before .before .before .before .before .args .v + 10) 0)))) (fitAt (c .before .before .before .before .before .before .before .before .before .before .args .reals .now) (c .before .before .before .before .before .before .before .before .before .before .args .counts .now) (c .before .before .before .before .before .before .before .before .before .before .args .theirs .now) (c .before .before .before .before .before .before .before .before .before .before .args .tallies .now) (c .before .before .before .axes-place .result) (c .before .before .axes-place2 .result)) (sym (c .before .same-lengths .ensures) ∙ not-true (c .before .same-lengths .result) (c .if1 .taken)) ∙ axes-asked (c .before .before .before .before .before .before .before .before .before .before .args .table .now) (c .before .before .before .before .before .before .before .before .before .before .args .reals .now) (c .before .before .before .before .before .before .before .before .before .before .args .counts .now) (c .before .before .before .before .before .before .before .before .before .before .args .w) (c .before .before .before .before .before .before .before .before .before .before .args .other .now) (c .before .before .before .before .before .before .before .before .before .before .args .theirs .now) (c .before .before .before .before .before .before .before .before .before .before .args .tallies .now) (c .before .before .before .before .before .before .before .before .before .before .args .v) (c .before .before .before .axes-place .result) (c .before .before .axes-place2 .result) (mine (c .before .before .before)) (theirs (c .before .before))
 
--- src/matching.rt:101:9
 returns-2 : tie.Need-returns-2
 returns-2 c = floors-differ (sameAt (c .before .before .before .before .before .before .before .before .before .before .before .before .before .args .reals .now) (c .before .before .before .before .before .before .before .before .before .before .before .before .before .args .counts .now) (c .before .before .before .before .before .before .before .before .before .before .before .before .before .args .theirs .now) (c .before .before .before .before .before .before .before .before .before .before .before .before .before .args .tallies .now) (c .before .before .before .before .before .before .axes-place .result) (c .before .before .before .before .before .axes-place2 .result)) (eq (c .before .before .before .before .before .before .axes-place .result .floor) (c .before .before .before .before .before .axes-place2 .result .floor)) (equalAt (c .before .before .before .before .before .before .before .before .before .before .before .before .before .args .reals .now) (c .before .before .before .before .before .before .before .before .before .before .before .before .before .args .counts .now) (c .before .before .before .before .before .before .before .before .before .before .before .before .before .args .theirs .now) (c .before .before .before .before .before .before .before .before .before .before .before .before .before .args .tallies .now) (c .before .before .before .before .before .before .axes-place .result) (c .before .before .before .before .before .axes-place2 .result)) (wellFormed (mergedOf (recordAt (c .before .before .before .before .before .before .before .before .before .before .before .before .before .args .reals .now) (c .before .before .before .before .before .before .before .before .before .before .before .before .before .args .counts .now) (getD (c .before .before .before .before .before .before .before .before .before .before .before .before .before .args .table .now) (c .before .before .before .before .before .before .before .before .before .before .before .before .before .args .w + 9) 0) (getD (c .before .before .before .before .before .before .before .before .before .before .before .before .before .args .table .now) (c .before .before .before .before .before .before .before .before .before .before .before .before .before .args .w + 10) 0)) (recordAt (c .before .before .before .before .before .before .before .before .before .before .before .before .before .args .theirs .now) (c .before .before .before .before .before .before .before .before .before .before .before .before .before .args .tallies .now) (getD (c .before .before .before .before .before .before .before .before .before .before .before .before .before .args .other .now) (c .before .before .before .before .before .before .before .before .before .before .before .before .before .args .v + 9) 0) (getD (c .before .before .before .before .before .before .before .before .before .before .before .before .before .args .other .now) (c .before .before .before .before .before .before .before .before .before .before .before .before .before .args .v + 10) 0)))) (fitAt (c .before .before .before .before .before .before .before .before .before .before .before .before .before .args .reals .now) (c .before .before .before .before .before .before .before .before .before .before .before .before .before .args .counts .now) (c .before .before .before .before .before .before .before .before .before .before .before .before .before .args .theirs .now) (c .before .before .before .before .before .before .before .before .before .before .before .before .before .args .tallies .now) (c .before .before .before .before .before .before .axes-place .result) (c .before .before .before .before .before .axes-place2 .result)) (sym (c .before .before .before .before .same-lengths .ensures) ∙ not-false (c .before .before .before .before .same-lengths .result) (c .before .before .before .if1 .left)) (not-true (eq (c .before .before .before .before .before .before .axes-place .result .floor) (c .before .before .before .before .before .axes-place2 .result .floor)) (c .if2 .taken)) ∙ axes-asked (c .before .before .before .before .before .before .before .before .before .before .before .before .before .args .table .now) (c .before .before .before .before .before .before .before .before .before .before .before .before .before .args .reals .now) (c .before .before .before .before .before .before .before .before .before .before .before .before .before .args .counts .now) (c .before .before .before .before .before .before .before .before .before .before .before .before .before .args .w) (c .before .before .before .before .before .before .before .before .before .before .before .before .before .args .other .now) (c .before .before .before .before .before .before .before .before .before .before .before .before .before .args .theirs .now) (c .before .before .before .before .before .before .before .before .before .before .before .before .before .args .tallies .now) (c .before .before .before .before .before .before .before .before .before .before .before .before .before .args .v) (c .before .before .before .before .before .before .axes-place .result) (c .before .before .before .before .before .axes-place2 .result) (mine (c .before .before .before .before .before .before)) (theirs (c .before .before .before .before .before))
 
--- src/matching.rt:103:9
 equal-edges-requires : tie.Need-equal-edges-requires
 equal-edges-requires c κs = (stands-at (c .before .before .before .before .before .before .before .before .before .before .before .before .before .args .table .now) (c .before .before .before .before .before .before .before .before .before .before .before .before .before .args .reals .now) (c .before .before .before .before .before .before .before .before .before .before .before .before .before .args .counts .now) (c .before .before .before .before .before .before .before .before .before .before .before .before .before .args .w) (c .before .before .before .before .before .before .axes-place .result) (mine (c .before .before .before .before .before .before)) (c .before .before .before .before .before .before .before .before .before .before .before .before .before .pre .0) (c .before .before .before .before .before .before .before .before .before .before .before .before .before .pre .2), stands-at (c .before .before .before .before .before .before .before .before .before .before .before .before .before .args .other .now) (c .before .before .before .before .before .before .before .before .before .before .before .before .before .args .theirs .now) (c .before .before .before .before .before .before .before .before .before .before .before .before .before .args .tallies .now) (c .before .before .before .before .before .before .before .before .before .before .before .before .before .args .v) (c .before .before .before .before .before .axes-place2 .result) (theirs (c .before .before .before .before .before)) (c .before .before .before .before .before .before .before .before .before .before .before .before .before .pre .1) (c .before .before .before .before .before .before .before .before .before .before .before .before .before .pre .3), (sym (c .before .before .before .before .same-lengths .ensures) ∙ not-false (c .before .before .before .before .same-lengths .result) (c .before .before .before .if1 .left)))
 
--- src/matching.rt:104:9
 returns-3 : tie.Need-returns-3
 returns-3 c = edges-differ (sameAt (c .before .before .before .before .before .before .before .before .before .before .before .before .before .before .before .args .reals .now) (c .before .before .before .before .before .before .before .before .before .before .before .before .before .before .before .args .counts .now) (c .before .before .before .before .before .before .before .before .before .before .before .before .before .before .before .args .theirs .now) (c .before .before .before .before .before .before .before .before .before .before .before .before .before .before .before .args .tallies .now) (c .before .before .before .before .before .before .before .before .axes-place .result) (c .before .before .before .before .before .before .before .axes-place2 .result)) (eq (c .before .before .before .before .before .before .before .before .axes-place .result .floor) (c .before .before .before .before .before .before .before .axes-place2 .result .floor)) (equalAt (c .before .before .before .before .before .before .before .before .before .before .before .before .before .before .before .args .reals .now) (c .before .before .before .before .before .before .before .before .before .before .before .before .before .before .before .args .counts .now) (c .before .before .before .before .before .before .before .before .before .before .before .before .before .before .before .args .theirs .now) (c .before .before .before .before .before .before .before .before .before .before .before .before .before .before .before .args .tallies .now) (c .before .before .before .before .before .before .before .before .axes-place .result) (c .before .before .before .before .before .before .before .axes-place2 .result)) (wellFormed (mergedOf (recordAt (c .before .before .before .before .before .before .before .before .before .before .before .before .before .before .before .args .reals .now) (c .before .before .before .before .before .before .before .before .before .before .before .before .before .before .before .args .counts .now) (getD (c .before .before .before .before .before .before .before .before .before .before .before .before .before .before .before .args .table .now) (c .before .before .before .before .before .before .before .before .before .before .before .before .before .before .before .args .w + 9) 0) (getD (c .before .before .before .before .before .before .before .before .before .before .before .before .before .before .before .args .table .now) (c .before .before .before .before .before .before .before .before .before .before .before .before .before .before .before .args .w + 10) 0)) (recordAt (c .before .before .before .before .before .before .before .before .before .before .before .before .before .before .before .args .theirs .now) (c .before .before .before .before .before .before .before .before .before .before .before .before .before .before .before .args .tallies .now) (getD (c .before .before .before .before .before .before .before .before .before .before .before .before .before .before .before .args .other .now) (c .before .before .before .before .before .before .before .before .before .before .before .before .before .before .before .args .v + 9) 0) (getD (c .before .before .before .before .before .before .before .before .before .before .before .before .before .before .before .args .other .now) (c .before .before .before .before .before .before .before .before .before .before .before .before .before .before .before .args .v + 10) 0)))) (fitAt (c .before .before .before .before .before .before .before .before .before .before .before .before .before .before .before .args .reals .now) (c .before .before .before .before .before .before .before .before .before .before .before .before .before .before .before .args .counts .now) (c .before .before .before .before .before .before .before .before .before .before .before .before .before .before .before .args .theirs .now) (c .before .before .before .before .before .before .before .before .before .before .before .before .before .before .before .args .tallies .now) (c .before .before .before .before .before .before .before .before .axes-place .result) (c .before .before .before .before .before .before .before .axes-place2 .result)) (sym (c .before .before .before .before .before .before .same-lengths .ensures) ∙ not-false (c .before .before .before .before .before .before .same-lengths .result) (c .before .before .before .before .before .if1 .left)) (not-false (eq (c .before .before .before .before .before .before .before .before .axes-place .result .floor) (c .before .before .before .before .before .before .before .axes-place2 .result .floor)) (c .before .before .if2 .left)) (sym (c .before .equal-edges .ensures) ∙ not-true (c .before .equal-edges .result) (c .if3 .taken)) ∙ axes-asked (c .before .before .before .before .before .before .before .before .before .before .before .before .before .before .before .args .table .now) (c .before .before .before .before .before .before .before .before .before .before .before .before .before .before .before .args .reals .now) (c .before .before .before .before .before .before .before .before .before .before .before .before .before .before .before .args .counts .now) (c .before .before .before .before .before .before .before .before .before .before .before .before .before .before .before .args .w) (c .before .before .before .before .before .before .before .before .before .before .before .before .before .before .before .args .other .now) (c .before .before .before .before .before .before .before .before .before .before .before .before .before .before .before .args .theirs .now) (c .before .before .before .before .before .before .before .before .before .before .before .before .before .before .before .args .tallies .now) (c .before .before .before .before .before .before .before .before .before .before .before .before .before .before .before .args .v) (c .before .before .before .before .before .before .before .before .axes-place .result) (c .before .before .before .before .before .before .before .axes-place2 .result) (mine (c .before .before .before .before .before .before .before .before)) (theirs (c .before .before .before .before .before .before .before))
 
--- src/matching.rt:106:19
 add-r : tie.Need-add-r
 add-r c = omega (arith, c .before .before .before .before .before .before .before .before .before .before .before .before .before .before .before .pre .0, c .before .before .before .before .before .before .before .before .before .before .before .before .before .before .before .pre .1, c .before .before .before .before .before .before .before .before .before .before .before .before .before .before .before .good .0, c .before .before .before .before .before .before .before .before .before .before .before .before .before .before .before .good .1 .1 .1 .1 .0)
 
--- src/matching.rt:106:13
 mul-r : tie.Need-mul-r
 mul-r c = omega (arith, c .before .before .before .before .before .before .before .before .before .before .before .before .before .before .before .pre .0, c .before .before .before .before .before .before .before .before .before .before .before .before .before .before .before .pre .1, c .before .before .before .before .before .before .before .before .before .before .before .before .before .before .before .good .0, c .before .before .before .before .before .before .before .before .before .before .before .before .before .before .before .good .1 .1 .1 .1 .0)
 
--- src/matching.rt:106:13
 shared-slice-read-r : tie.Need-shared-slice-read-r
 shared-slice-read-r c = omega (arith, c .before .before .before .before .before .before .before .before .before .before .before .before .before .before .before .before .pre .0, c .before .before .before .before .before .before .before .before .before .before .before .before .before .before .before .before .pre .1, c .before .before .before .before .before .before .before .before .before .before .before .before .before .before .before .before .good .0, c .before .before .before .before .before .before .before .before .before .before .before .before .before .before .before .before .good .1 .1 .1 .1 .0)
 
--- src/matching.rt:107:19
 add-c : tie.Need-add-c
 add-c c = omega (arith, c .before .before .before .before .before .before .before .before .before .before .before .before .before .before .before .before .pre .0, c .before .before .before .before .before .before .before .before .before .before .before .before .before .before .before .before .pre .1, c .before .before .before .before .before .before .before .before .before .before .before .before .before .before .before .before .good .0, c .before .before .before .before .before .before .before .before .before .before .before .before .before .before .before .before .good .1 .1 .1 .1 .0)
 
--- src/matching.rt:107:13
 mul-c : tie.Need-mul-c
 mul-c c = omega (arith, c .before .before .before .before .before .before .before .before .before .before .before .before .before .before .before .before .pre .0, c .before .before .before .before .before .before .before .before .before .before .before .before .before .before .before .before .pre .1, c .before .before .before .before .before .before .before .before .before .before .before .before .before .before .before .before .good .0, c .before .before .before .before .before .before .before .before .before .before .before .before .before .before .before .before .good .1 .1 .1 .1 .0)
 
--- src/matching.rt:107:13
 shared-slice-read-c : tie.Need-shared-slice-read-c
 shared-slice-read-c c = omega (arith, c .before .before .before .before .before .before .before .before .before .before .before .before .before .before .before .before .before .pre .0, c .before .before .before .before .before .before .before .before .before .before .before .before .before .before .before .before .before .pre .1, c .before .before .before .before .before .before .before .before .before .before .before .before .before .before .before .before .before .good .0, c .before .before .before .before .before .before .before .before .before .before .before .before .before .before .before .before .before .good .1 .1 .1 .1 .0)
 
--- src/matching.rt:108:19
 add-q : tie.Need-add-q
 add-q c = omega (arith, c .before .before .before .before .before .before .before .before .before .before .before .before .before .before .before .before .before .pre .0, c .before .before .before .before .before .before .before .before .before .before .before .before .before .before .before .before .before .pre .1, c .before .before .before .before .before .before .before .before .before .before .before .before .before .before .before .before .before .good .0, c .before .before .before .before .before .before .before .before .before .before .before .before .before .before .before .before .before .good .1 .1 .1 .1 .0)
 
--- src/matching.rt:108:13
 mul-q : tie.Need-mul-q
 mul-q c = omega (arith, c .before .before .before .before .before .before .before .before .before .before .before .before .before .before .before .before .before .pre .0, c .before .before .before .before .before .before .before .before .before .before .before .before .before .before .before .before .before .pre .1, c .before .before .before .before .before .before .before .before .before .before .before .before .before .before .before .before .before .good .0, c .before .before .before .before .before .before .before .before .before .before .before .before .before .before .before .before .before .good .1 .1 .1 .1 .0)
 
--- src/matching.rt:108:13
 shared-slice-read-q : tie.Need-shared-slice-read-q
 shared-slice-read-q c = omega (arith, c .before .before .before .before .before .before .before .before .before .before .before .before .before .before .before .before .before .before .pre .0, c .before .before .before .before .before .before .before .before .before .before .before .before .before .before .before .before .before .before .pre .1, c .before .before .before .before .before .before .before .before .before .before .before .before .before .before .before .before .before .before .good .0, c .before .before .before .before .before .before .before .before .before .before .before .before .before .before .before .before .before .before .good .1 .1 .1 .1 .0)
 
--- src/matching.rt:109:19
 add-d : tie.Need-add-d
 add-d c = omega (arith, c .before .before .before .before .before .before .before .before .before .before .before .before .before .before .before .before .before .before .pre .0, c .before .before .before .before .before .before .before .before .before .before .before .before .before .before .before .before .before .before .pre .1, c .before .before .before .before .before .before .before .before .before .before .before .before .before .before .before .before .before .before .good .0, c .before .before .before .before .before .before .before .before .before .before .before .before .before .before .before .before .before .before .good .1 .1 .1 .1 .0)
 
--- src/matching.rt:109:13
 mul-d : tie.Need-mul-d
 mul-d c = omega (arith, c .before .before .before .before .before .before .before .before .before .before .before .before .before .before .before .before .before .before .pre .0, c .before .before .before .before .before .before .before .before .before .before .before .before .before .before .before .before .before .before .pre .1, c .before .before .before .before .before .before .before .before .before .before .before .before .before .before .before .before .before .before .good .0, c .before .before .before .before .before .before .before .before .before .before .before .before .before .before .before .before .before .before .good .1 .1 .1 .1 .0)
 
--- src/matching.rt:109:13
 shared-slice-read-d : tie.Need-shared-slice-read-d
 shared-slice-read-d c = omega (arith, c .before .before .before .before .before .before .before .before .before .before .before .before .before .before .before .before .before .before .before .pre .0, c .before .before .before .before .before .before .before .before .before .before .before .before .before .before .before .before .before .before .before .pre .1, c .before .before .before .before .before .before .before .before .before .before .before .before .before .before .before .before .before .before .before .good .0, c .before .before .before .before .before .before .before .before .before .before .before .before .before .before .before .before .before .before .before .good .1 .1 .1 .1 .0)
 
--- src/matching.rt:110:9
 account-fits-requires : tie.Need-account-fits-requires
 account-fits-requires c κs = (omega (arith, c .before .before .before .before .before .before .before .before .before .before .before .before .before .before .before .before .before .before .before .pre .0, c .before .before .before .before .before .before .before .before .before .before .before .before .before .before .before .before .before .before .before .pre .1, c .before .before .before .before .before .before .before .before .before .before .before .before .before .before .before .before .before .before .before .good .0, c .before .before .before .before .before .before .before .before .before .before .before .before .before .before .before .before .before .before .before .good .1 .1 .1 .1 .0), omega (arith, c .before .before .before .before .before .before .before .before .before .before .before .before .before .before .before .before .before .before .before .pre .0, c .before .before .before .before .before .before .before .before .before .before .before .before .before .before .before .before .before .before .before .pre .1, c .before .before .before .before .before .before .before .before .before .before .before .before .before .before .before .before .before .before .before .good .0, c .before .before .before .before .before .before .before .before .before .before .before .before .before .before .before .before .before .before .before .good .1 .1 .1 .1 .0), omega (arith, c .before .before .before .before .before .before .before .before .before .before .before .before .before .before .before .before .before .before .before .pre .0, c .before .before .before .before .before .before .before .before .before .before .before .before .before .before .before .before .before .before .before .pre .1, c .before .before .before .before .before .before .before .before .before .before .before .before .before .before .before .before .before .before .before .good .0, c .before .before .before .before .before .before .before .before .before .before .before .before .before .before .before .before .before .before .before .good .1 .1 .1 .1 .0), omega (arith, c .before .before .before .before .before .before .before .before .before .before .before .before .before .before .before .before .before .before .before .pre .0, c .before .before .before .before .before .before .before .before .before .before .before .before .before .before .before .before .before .before .before .pre .1, c .before .before .before .before .before .before .before .before .before .before .before .before .before .before .before .before .before .before .before .good .0, c .before .before .before .before .before .before .before .before .before .before .before .before .before .before .before .before .before .before .before .good .1 .1 .1 .1 .0), sound-kept (c .before .before .before .before .before .before .before .before .before .before .before .before .before .before .before .before .before .before .before .args .table .now) (c .before .before .before .before .before .before .before .before .before .before .before .before .before .before .before .before .before .before .before .args .reals .now) (c .before .before .before .before .before .before .before .before .before .before .before .before .before .before .before .before .before .before .before .args .counts .now) (c .before .before .before .before .before .before .before .before .before .before .before .before .before .before .before .before .before .before .before .args .w) (c .before .before .before .before .before .before .before .before .before .before .before .before .axes-place .result) (mine (c .before .before .before .before .before .before .before .before .before .before .before .before)) (c .before .before .before .before .before .before .before .before .before .before .before .before .before .before .before .before .before .before .before .pre .2) .0, sound-kept (c .before .before .before .before .before .before .before .before .before .before .before .before .before .before .before .before .before .before .before .args .other .now) (c .before .before .before .before .before .before .before .before .before .before .before .before .before .before .before .before .before .before .before .args .theirs .now) (c .before .before .before .before .before .before .before .before .before .before .before .before .before .before .before .before .before .before .before .args .tallies .now) (c .before .before .before .before .before .before .before .before .before .before .before .before .before .before .before .before .before .before .before .args .v) (c .before .before .before .before .before .before .before .before .before .before .before .axes-place2 .result) (theirs (c .before .before .before .before .before .before .before .before .before .before .before)) (c .before .before .before .before .before .before .before .before .before .before .before .before .before .before .before .before .before .before .before .pre .3) .0)
 
--- src/matching.rt:111:9
 returns-4 : tie.Need-returns-4
 returns-4 c = own-passes (sameAt (c .before .before .before .before .before .before .before .before .before .before .before .before .before .before .before .before .before .before .before .before .before .args .reals .now) (c .before .before .before .before .before .before .before .before .before .before .before .before .before .before .before .before .before .before .before .before .before .args .counts .now) (c .before .before .before .before .before .before .before .before .before .before .before .before .before .before .before .before .before .before .before .before .before .args .theirs .now) (c .before .before .before .before .before .before .before .before .before .before .before .before .before .before .before .before .before .before .before .before .before .args .tallies .now) (c .before .before .before .before .before .before .before .before .before .before .before .before .before .before .axes-place .result) (c .before .before .before .before .before .before .before .before .before .before .before .before .before .axes-place2 .result)) (eq (c .before .before .before .before .before .before .before .before .before .before .before .before .before .before .axes-place .result .floor) (c .before .before .before .before .before .before .before .before .before .before .before .before .before .axes-place2 .result .floor)) (equalAt (c .before .before .before .before .before .before .before .before .before .before .before .before .before .before .before .before .before .before .before .before .before .args .reals .now) (c .before .before .before .before .before .before .before .before .before .before .before .before .before .before .before .before .before .before .before .before .before .args .counts .now) (c .before .before .before .before .before .before .before .before .before .before .before .before .before .before .before .before .before .before .before .before .before .args .theirs .now) (c .before .before .before .before .before .before .before .before .before .before .before .before .before .before .before .before .before .before .before .before .before .args .tallies .now) (c .before .before .before .before .before .before .before .before .before .before .before .before .before .before .axes-place .result) (c .before .before .before .before .before .before .before .before .before .before .before .before .before .axes-place2 .result)) (wellFormed (mergedOf (recordAt (c .before .before .before .before .before .before .before .before .before .before .before .before .before .before .before .before .before .before .before .before .before .args .reals .now) (c .before .before .before .before .before .before .before .before .before .before .before .before .before .before .before .before .before .before .before .before .before .args .counts .now) (getD (c .before .before .before .before .before .before .before .before .before .before .before .before .before .before .before .before .before .before .before .before .before .args .table .now) (c .before .before .before .before .before .before .before .before .before .before .before .before .before .before .before .before .before .before .before .before .before .args .w + 9) 0) (getD (c .before .before .before .before .before .before .before .before .before .before .before .before .before .before .before .before .before .before .before .before .before .args .table .now) (c .before .before .before .before .before .before .before .before .before .before .before .before .before .before .before .before .before .before .before .before .before .args .w + 10) 0)) (recordAt (c .before .before .before .before .before .before .before .before .before .before .before .before .before .before .before .before .before .before .before .before .before .args .theirs .now) (c .before .before .before .before .before .before .before .before .before .before .before .before .before .before .before .before .before .before .before .before .before .args .tallies .now) (getD (c .before .before .before .before .before .before .before .before .before .before .before .before .before .before .before .before .before .before .before .before .before .args .other .now) (c .before .before .before .before .before .before .before .before .before .before .before .before .before .before .before .before .before .before .before .before .before .args .v + 9) 0) (getD (c .before .before .before .before .before .before .before .before .before .before .before .before .before .before .before .before .before .before .before .before .before .args .other .now) (c .before .before .before .before .before .before .before .before .before .before .before .before .before .before .before .before .before .before .before .before .before .args .v + 10) 0)))) (fitAt (c .before .before .before .before .before .before .before .before .before .before .before .before .before .before .before .before .before .before .before .before .before .args .reals .now) (c .before .before .before .before .before .before .before .before .before .before .before .before .before .before .before .before .before .before .before .before .before .args .counts .now) (c .before .before .before .before .before .before .before .before .before .before .before .before .before .before .before .before .before .before .before .before .before .args .theirs .now) (c .before .before .before .before .before .before .before .before .before .before .before .before .before .before .before .before .before .before .before .before .before .args .tallies .now) (c .before .before .before .before .before .before .before .before .before .before .before .before .before .before .axes-place .result) (c .before .before .before .before .before .before .before .before .before .before .before .before .before .axes-place2 .result)) (sym (c .before .before .before .before .before .before .before .before .before .before .before .before .same-lengths .ensures) ∙ not-false (c .before .before .before .before .before .before .before .before .before .before .before .before .same-lengths .result) (c .before .before .before .before .before .before .before .before .before .before .before .if1 .left)) (not-false (eq (c .before .before .before .before .before .before .before .before .before .before .before .before .before .before .axes-place .result .floor) (c .before .before .before .before .before .before .before .before .before .before .before .before .before .axes-place2 .result .floor)) (c .before .before .before .before .before .before .before .before .if2 .left)) (sym (c .before .before .before .before .before .before .before .equal-edges .ensures) ∙ not-false (c .before .before .before .before .before .before .before .equal-edges .result) (c .before .before .before .before .before .before .if3 .left)) (sym (c .before .account-fits .ensures) ∙ not-true (c .before .account-fits .result) (c .if4 .taken)) ∙ axes-asked (c .before .before .before .before .before .before .before .before .before .before .before .before .before .before .before .before .before .before .before .before .before .args .table .now) (c .before .before .before .before .before .before .before .before .before .before .before .before .before .before .before .before .before .before .before .before .before .args .reals .now) (c .before .before .before .before .before .before .before .before .before .before .before .before .before .before .before .before .before .before .before .before .before .args .counts .now) (c .before .before .before .before .before .before .before .before .before .before .before .before .before .before .before .before .before .before .before .before .before .args .w) (c .before .before .before .before .before .before .before .before .before .before .before .before .before .before .before .before .before .before .before .before .before .args .other .now) (c .before .before .before .before .before .before .before .before .before .before .before .before .before .before .before .before .before .before .before .before .before .args .theirs .now) (c .before .before .before .before .before .before .before .before .before .before .before .before .before .before .before .before .before .before .before .before .before .args .tallies .now) (c .before .before .before .before .before .before .before .before .before .before .before .before .before .before .before .before .before .before .before .before .before .args .v) (c .before .before .before .before .before .before .before .before .before .before .before .before .before .before .axes-place .result) (c .before .before .before .before .before .before .before .before .before .before .before .before .before .axes-place2 .result) (mine (c .before .before .before .before .before .before .before .before .before .before .before .before .before .before)) (theirs (c .before .before .before .before .before .before .before .before .before .before .before .before .before))
 
--- src/matching.rt:113:9
 merged-fit-requires : tie.Need-merged-fit-requires
 merged-fit-requires c κs = (stands-at (c .before .before .before .before .before .before .before .before .before .before .before .before .before .before .before .before .before .before .before .before .before .args .table .now) (c .before .before .before .before .before .before .before .before .before .before .before .before .before .before .before .before .before .before .before .before .before .args .reals .now) (c .before .before .before .before .before .before .before .before .before .before .before .before .before .before .before .before .before .before .before .before .before .args .counts .now) (c .before .before .before .before .before .before .before .before .before .before .before .before .before .before .before .before .before .before .before .before .before .args .w) (c .before .before .before .before .before .before .before .before .before .before .before .before .before .before .axes-place .result) (mine (c .before .before .before .before .before .before .before .before .before .before .before .before .before .before)) (c .before .before .before .before .before .before .before .before .before .before .before .before .before .before .before .before .before .before .before .before .before .pre .0) (c .before .before .before .before .before .before .before .before .before .before .before .before .before .before .before .before .before .before .before .before .before .pre .2), stands-at (c .before .before .before .before .before .before .before .before .before .before .before .before .before .before .before .before .before .before .before .before .before .args .other .now) (c .before .before .before .before .before .before .before .before .before .before .before .before .before .before .before .before .before .before .before .before .before .args .theirs .now) (c .before .before .before .before .before .before .before .before .before .before .before .before .before .before .before .before .before .before .before .before .before .args .tallies .now) (c .before .before .before .before .before .before .before .before .before .before .before .before .before .before .before .before .before .before .before .before .before .args .v) (c .before .before .before .before .before .before .before .before .before .before .before .before .before .axes-place2 .result) (theirs (c .before .before .before .before .before .before .before .before .before .before .before .before .before)) (c .before .before .before .before .before .before .before .before .before .before .before .before .before .before .before .before .before .before .before .before .before .pre .1) (c .before .before .before .before .before .before .before .before .before .before .before .before .before .before .before .before .before .before .before .before .before .pre .3), (sym (c .before .before .before .before .before .before .before .before .before .before .before .before .same-lengths .ensures) ∙ not-false (c .before .before .before .before .before .before .before .before .before .before .before .before .same-lengths .result) (c .before .before .before .before .before .before .before .before .before .before .before .if1 .left)), sound-kept (c .before .before .before .before .before .before .before .before .before .before .before .before .before .before .before .before .before .before .before .before .before .args .table .now) (c .before .before .before .before .before .before .before .before .before .before .before .before .before .before .before .before .before .before .before .before .before .args .reals .now) (c .before .before .before .before .before .before .before .before .before .before .before .before .before .before .before .before .before .before .before .before .before .args .counts .now) (c .before .before .before .before .before .before .before .before .before .before .before .before .before .before .before .before .before .before .before .before .before .args .w) (c .before .before .before .before .before .before .before .before .before .before .before .before .before .before .axes-place .result) (mine (c .before .before .before .before .before .before .before .before .before .before .before .before .before .before)) (c .before .before .before .before .before .before .before .before .before .before .before .before .before .before .before .before .before .before .before .before .before .pre .2) .1, sound-kept (c .before .before .before .before .before .before .before .before .before .before .before .before .before .before .before .before .before .before .before .before .before .args .other .now) (c .before .before .before .before .before .before .before .before .before .before .before .before .before .before .before .before .before .before .before .before .before .args .theirs .now) (c .before .before .before .before .before .before .before .before .before .before .before .before .before .before .before .before .before .before .before .before .before .args .tallies .now) (c .before .before .before .before .before .before .before .before .before .before .before .before .before .before .before .before .before .before .before .before .before .args .v) (c .before .before .before .before .before .before .before .before .before .before .before .before .before .axes-place2 .result) (theirs (c .before .before .before .before .before .before .before .before .before .before .before .before .before)) (c .before .before .before .before .before .before .before .before .before .before .before .before .before .before .before .before .before .before .before .before .before .pre .3) .1)
 
--- src/matching.rt:114:9
 returns-5 : tie.Need-returns-5
 returns-5 c = axes-pass (sameAt (c .before .before .before .before .before .before .before .before .before .before .before .before .before .before .before .before .before .before .before .before .before .before .before .args .reals .now) (c .before .before .before .before .before .before .before .before .before .before .before .before .before .before .before .before .before .before .before .before .before .before .before .args .counts .now) (c .before .before .before .before .before .before .before .before .before .before .before .before .before .before .before .before .before .before .before .before .before .before .before .args .theirs .now) (c .before .before .before .before .before .before .before .before .before .before .before .before .before .before .before .before .before .before .before .before .before .before .before .args .tallies .now) (c .before .before .before .before .before .before .before .before .before .before .before .before .before .before .before .before .axes-place .result) (c .before .before .before .before .before .before .before .before .before .before .before .before .before .before .before .axes-place2 .result)) (eq (c .before .before .before .before .before .before .before .before .before .before .before .before .before .before .before .before .axes-place .result .floor) (c .before .before .before .before .before .before .before .before .before .before .before .before .before .before .before .axes-place2 .result .floor)) (equalAt (c .before .before .before .before .before .before .before .before .before .before .before .before .before .before .before .before .before .before .before .before .before .before .before .args .reals .now) (c .before .before .before .before .before .before .before .before .before .before .before .before .before .before .before .before .before .before .before .before .before .before .before .args .counts .now) (c .before .before .before .before .before .before .before .before .before .before .before .before .before .before .before .before .before .before .before .before .before .before .before .args .theirs .now) (c .before .before .before .before .before .before .before .before .before .before .before .before .before .before .before .before .before .before .before .before .before .before .before .args .tallies .now) (c .before .before .before .before .before .before .before .before .before .before .before .before .before .before .before .before .axes-place .result) (c .before .before .before .before .before .before .before .before .before .before .before .before .before .before .before .axes-place2 .result)) (wellFormed (mergedOf (recordAt (c .before .before .before .before .before .before .before .before .before .before .before .before .before .before .before .before .before .before .before .before .before .before .before .args .reals .now) (c .before .before .before .before .before .before .before .before .before .before .before .before .before .before .before .before .before .before .before .before .before .before .before .args .counts .now) (getD (c .before .before .before .before .before .before .before .before .before .before .before .before .before .before .before .before .before .before .before .before .before .before .before .args .table .now) (c .before .before .before .before .before .before .before .before .before .before .before .before .before .before .before .before .before .before .before .before .before .before .before .args .w + 9) 0) (getD (c .before .before .before .before .before .before .before .before .before .before .before .before .before .before .before .before .before .before .before .before .before .before .before .args .table .now) (c .before .before .before .before .before .before .before .before .before .before .before .before .before .before .before .before .before .before .before .before .before .before .before .args .w + 10) 0)) (recordAt (c .before .before .before .before .before .before .before .before .before .before .before .before .before .before .before .before .before .before .before .before .before .before .before .args .theirs .now) (c .before .before .before .before .before .before .before .before .before .before .before .before .before .before .before .before .before .before .before .before .before .before .before .args .tallies .now) (getD (c .before .before .before .before .before .before .before .before .before .before .before .before .before .before .before .before .before .before .before .before .before .before .before .args .other .now) (c .before .before .before .before .before .before .before .before .before .before .before .before .before .before .before .before .before .before .before .before .before .before .before .args .v + 9) 0) (getD (c .before .before .before .before .before .before .before .before .before .before .before .before .before .before .before .before .before .before .before .before .before .before .before .args .other .now) (c .before .before .before .before .before .before .before .before .before .before .before .before .before .before .before .before .before .before .before .before .before .before .before .args .v + 10) 0)))) (fitAt (c .before .before .before .before .before .before .before .before .before .before .before .before .before .before .before .before .before .before .before .before .before .before .before .args .reals .now) (c .before .before .before .before .before .before .before .before .before .before .before .before .before .before .before .before .before .before .before .before .before .before .before .args .counts .now) (c .before .before .before .before .before .before .before .before .before .before .before .before .before .before .before .before .before .before .before .before .before .before .before .args .theirs .now) (c .before .before .before .before .before .before .before .before .before .before .before .before .before .before .before .before .before .before .before .before .before .before .before .args .tallies .now) (c .before .before .before .before .before .before .before .before .before .before .before .before .before .before .before .before .axes-place .result) (c .before .before .before .before .before .before .before .before .before .before .before .before .before .before .before .axes-place2 .result)) (sym (c .before .before .before .before .before .before .before .before .before .before .before .before .before .before .same-lengths .ensures) ∙ not-false (c .before .before .before .before .before .before .before .before .before .before .before .before .before .before .same-lengths .result) (c .before .before .before .before .before .before .before .before .before .before .before .before .before .if1 .left)) (not-false (eq (c .before .before .before .before .before .before .before .before .before .before .before .before .before .before .before .before .axes-place .result .floor) (c .before .before .before .before .before .before .before .before .before .before .before .before .before .before .before .axes-place2 .result .floor)) (c .before .before .before .before .before .before .before .before .before .before .if2 .left)) (sym (c .before .before .before .before .before .before .before .before .before .equal-edges .ensures) ∙ not-false (c .before .before .before .before .before .before .before .before .before .equal-edges .result) (c .before .before .before .before .before .before .before .before .if3 .left)) (sym (c .before .before .before .account-fits .ensures) ∙ not-false (c .before .before .before .account-fits .result) (c .before .before .if4 .left)) (sym (c .before .merged-fit .ensures) ∙ not-true (c .before .merged-fit .result) (c .if5 .taken)) ∙ axes-asked (c .before .before .before .before .before .before .before .before .before .before .before .before .before .before .before .before .before .before .before .before .before .before .before .args .table .now) (c .before .before .before .before .before .before .before .before .before .before .before .before .before .before .before .before .before .before .before .before .before .before .before .args .reals .now) (c .before .before .before .before .before .before .before .before .before .before .before .before .before .before .before .before .before .before .before .before .before .before .before .args .counts .now) (c .before .before .before .before .before .before .before .before .before .before .before .before .before .before .before .before .before .before .before .before .before .before .before .args .w) (c .before .before .before .before .before .before .before .before .before .before .before .before .before .before .before .before .before .before .before .before .before .before .before .args .other .now) (c .before .before .before .before .before .before .before .before .before .before .before .before .before .before .before .before .before .before .before .before .before .before .before .args .theirs .now) (c .before .before .before .before .before .before .before .before .before .before .before .before .before .before .before .before .before .before .before .before .before .before .before .args .tallies .now) (c .before .before .before .before .before .before .before .before .before .before .before .before .before .before .before .before .before .before .before .before .before .before .before .args .v) (c .before .before .before .before .before .before .before .before .before .before .before .before .before .before .before .before .axes-place .result) (c .before .before .before .before .before .before .before .before .before .before .before .before .before .before .before .axes-place2 .result) (mine (c .before .before .before .before .before .before .before .before .before .before .before .before .before .before .before .before)) (theirs (c .before .before .before .before .before .before .before .before .before .before .before .before .before .before .before))
 
--- src/matching.rt:80:1
 returns-6 : tie.Need-returns-6
 returns-6 c = none-differs (sameAt (c .before .before .before .before .before .before .before .before .before .before .before .before .before .before .before .before .before .before .before .before .before .before .before .args .reals .now) (c .before .before .before .before .before .before .before .before .before .before .before .before .before .before .before .before .before .before .before .before .before .before .before .args .counts .now) (c .before .before .before .before .before .before .before .before .before .before .before .before .before .before .before .before .before .before .before .before .before .before .before .args .theirs .now) (c .before .before .before .before .before .before .before .before .before .before .before .before .before .before .before .before .before .before .before .before .before .before .before .args .tallies .now) (c .before .before .before .before .before .before .before .before .before .before .before .before .before .before .before .before .axes-place .result) (c .before .before .before .before .before .before .before .before .before .before .before .before .before .before .before .axes-place2 .result)) (eq (c .before .before .before .before .before .before .before .before .before .before .before .before .before .before .before .before .axes-place .result .floor) (c .before .before .before .before .before .before .before .before .before .before .before .before .before .before .before .axes-place2 .result .floor)) (equalAt (c .before .before .before .before .before .before .before .before .before .before .before .before .before .before .before .before .before .before .before .before .before .before .before .args .reals .now) (c .before .before .before .before .before .before .before .before .before .before .before .before .before .before .before .before .before .before .before .before .before .before .before .args .counts .now) (c .before .before .before .before .before .before .before .before .before .before .before .before .before .before .before .before .before .before .before .before .before .before .before .args .theirs .now) (c .before .before .before .before .before .before .before .before .before .before .before .before .before .before .before .before .before .before .before .before .before .before .before .args .tallies .now) (c .before .before .before .before .before .before .before .before .before .before .before .before .before .before .before .before .axes-place .result) (c .before .before .before .before .before .before .before .before .before .before .before .before .before .before .before .axes-place2 .result)) (wellFormed (mergedOf (recordAt (c .before .before .before .before .before .before .before .before .before .before .before .before .before .before .before .before .before .before .before .before .before .before .before .args .reals .now) (c .before .before .before .before .before .before .before .before .before .before .before .before .before .before .before .before .before .before .before .before .before .before .before .args .counts .now) (getD (c .before .before .before .before .before .before .before .before .before .before .before .before .before .before .before .before .before .before .before .before .before .before .before .args .table .now) (c .before .before .before .before .before .before .before .before .before .before .before .before .before .before .before .before .before .before .before .before .before .before .before .args .w + 9) 0) (getD (c .before .before .before .before .before .before .before .before .before .before .before .before .before .before .before .before .before .before .before .before .before .before .before .args .table .now) (c .before .before .before .before .before .before .before .before .before .before .before .before .before .before .before .before .before .before .before .before .before .before .before .args .w + 10) 0)) (recordAt (c .before .before .before .before .before .before .before .before .before .before .before .before .before .before .before .before .before .before .before .before .before .before .before .args .theirs .now) (c .before .before .before .before .before .before .before .before .before .before .before .before .before .before .before .before .before .before .before .before .before .before .before .args .tallies .now) (getD (c .before .before .before .before .before .before .before .before .before .before .before .before .before .before .before .before .before .before .before .before .before .before .before .args .other .now) (c .before .before .before .before .before .before .before .before .before .before .before .before .before .before .before .before .before .before .before .before .before .before .before .args .v + 9) 0) (getD (c .before .before .before .before .before .before .before .before .before .before .before .before .before .before .before .before .before .before .before .before .before .before .before .args .other .now) (c .before .before .before .before .before .before .before .before .before .before .before .before .before .before .before .before .before .before .before .before .before .before .before .args .v + 10) 0)))) (fitAt (c .before .before .before .before .before .before .before .before .before .before .before .before .before .before .before .before .before .before .before .before .before .before .before .args .reals .now) (c .before .before .before .before .before .before .before .before .before .before .before .before .before .before .before .before .before .before .before .before .before .before .before .args .counts .now) (c .before .before .before .before .before .before .before .before .before .before .before .before .before .before .before .before .before .before .before .before .before .before .before .args .theirs .now) (c .before .before .before .before .before .before .before .before .before .before .before .before .before .before .before .before .before .before .before .before .before .before .before .args .tallies .now) (c .before .before .before .before .before .before .before .before .before .before .before .before .before .before .before .before .axes-place .result) (c .before .before .before .before .before .before .before .before .before .before .before .before .before .before .before .axes-place2 .result)) (sym (c .before .before .before .before .before .before .before .before .before .before .before .before .before .before .same-lengths .ensures) ∙ not-false (c .before .before .before .before .before .before .before .before .before .before .before .before .before .before .same-lengths .result) (c .before .before .before .before .before .before .before .before .before .before .before .before .before .if1 .left)) (not-false (eq (c .before .before .before .before .before .before .before .before .before .before .before .before .before .before .before .before .axes-place .result .floor) (c .before .before .before .before .before .before .before .before .before .before .before .before .before .before .before .axes-place2 .result .floor)) (c .before .before .before .before .before .before .before .before .before .before .if2 .left)) (sym (c .before .before .before .before .before .before .before .before .before .equal-edges .ensures) ∙ not-false (c .before .before .before .before .before .before .before .before .before .equal-edges .result) (c .before .before .before .before .before .before .before .before .if3 .left)) (sym (c .before .before .before .account-fits .ensures) ∙ not-false (c .before .before .before .account-fits .result) (c .before .before .if4 .left)) (sym (c .before .merged-fit .ensures) ∙ not-false (c .before .merged-fit .result) (c .if5 .left)) ∙ axes-asked (c .before .before .before .before .before .before .before .before .before .before .before .before .before .before .before .before .before .before .before .before .before .before .before .args .table .now) (c .before .before .before .before .before .before .before .before .before .before .before .before .before .before .before .before .before .before .before .before .before .before .before .args .reals .now) (c .before .before .before .before .before .before .before .before .before .before .before .before .before .before .before .before .before .before .before .before .before .before .before .args .counts .now) (c .before .before .before .before .before .before .before .before .before .before .before .before .before .before .before .before .before .before .before .before .before .before .before .args .w) (c .before .before .before .before .before .before .before .before .before .before .before .before .before .before .before .before .before .before .before .before .before .before .before .args .other .now) (c .before .before .before .before .before .before .before .before .before .before .before .before .before .before .before .before .before .before .before .before .before .before .before .args .theirs .now) (c .before .before .before .before .before .before .before .before .before .before .before .before .before .before .before .before .before .before .before .before .before .before .before .args .tallies .now) (c .before .before .before .before .before .before .before .before .before .before .before .before .before .before .before .before .before .before .before .before .before .before .before .args .v) (c .before .before .before .before .before .before .before .before .before .before .before .before .before .before .before .before .axes-place .result) (c .before .before .before .before .before .before .before .before .before .before .before .before .before .before .before .axes-place2 .result) (mine (c .before .before .before .before .before .before .before .before .before .before .before .before .before .before .before .before)) (theirs (c .before .before .before .before .before .before .before .before .before .before .before .before .before .before .before))
 

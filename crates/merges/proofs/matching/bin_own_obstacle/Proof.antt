@@ -6,11 +6,6 @@ use Rattle.merges.proofs.Places.{bin-there, bin-own, bins-told}
 use borrow.Author.Needs.{needs}
 use Rattle.merges.proofs.matching.bin_own_obstacle.Statement.{statement}
 use Rattle.merges.proofs.matching.bin_own_obstacle.Tie as tie
-use Rattle.merges.proofs.matching.bin_own_obstacle.Reads as reads
-use Rattle.merges.proofs.matching.bin_own_obstacle.Lts as lts
-use Rattle.merges.proofs.bins.bin_place.Reads as bin-place-reads
-use Rattle.merges.proofs.matching.account_fits.Reads as account-fits-reads
-use Rattle.merges.proofs.matching.found_of.Reads as found-of-reads
 
 bin-place-requires : tie.Need-bin-place-requires
 bin-place-requires c κs = search needs

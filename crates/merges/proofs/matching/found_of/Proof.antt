@@ -2,20 +2,15 @@ use borrow.Author.Tests.{not-true, not-false}
 use Rattle.lent.specs.Matched.{obstacle}
 use Rattle.merges.proofs.matching.found_of.Statement.{statement}
 use Rattle.merges.proofs.matching.found_of.Tie as tie
-use Rattle.merges.proofs.matching.found_of.Reads as reads
-use Rattle.merges.proofs.matching.found_of.Lts as lts
 
--- src/matching.rt:48:9
 returns : tie.Need-returns
 unfolding obstacle
 returns c = rw (not-true (c .before .args .equal) (c .if1 .taken))
 
--- src/matching.rt:51:9
 returns-2 : tie.Need-returns-2
 unfolding obstacle
 returns-2 c = rw (not-false (c .before .before .args .equal) (c .before .if1 .left), not-true (c .before .before .args .fits) (c .if2 .taken))
 
--- src/matching.rt:44:1
 returns-3 : tie.Need-returns-3
 unfolding obstacle
 returns-3 c = rw (not-false (c .before .before .args .equal) (c .before .if1 .left), not-false (c .before .before .args .fits) (c .if2 .left))

@@ -11,8 +11,6 @@ use lib.ListN.{getD}
 use Rattle.lent.proofs.Scans.{leftAll, pair-next, pair-out, boundedWith, allBoundedWith, bounded-none, bounded-more, joined-sum, bounded-at}
 use Rattle.merges.proofs.merging.are_bounded_with.Statement.{statement}
 use Rattle.merges.proofs.merging.are_bounded_with.Tie as tie
-use Rattle.merges.proofs.merging.are_bounded_with.Reads as reads
-use Rattle.merges.proofs.merging.are_bounded_with.Lts as lts
 
 abbrev Inv-loop : tie.InvT-loop
 Inv-loop counts start theirs from n ok₀ k₀ ok k =
@@ -21,51 +19,39 @@ Inv-loop counts start theirs from n ok₀ k₀ ok k =
 abbrev μ-loop : tie.MeasureT-loop
 μ-loop counts start theirs from n ok₀ k₀ ok k = n - k
 
--- src/merging.rt:79:5
 loop-holds : tie.Need-loop-holds Inv-loop μ-loop
 loop-holds c = refl
 
--- src/merging.rt:80:27
 add-ok : tie.Need-add-ok Inv-loop μ-loop
 add-ok c = omega (arith, c .before .before .pre, c .loop-test .taken)
 
--- src/merging.rt:80:20
 mul-ok : tie.Need-mul-ok Inv-loop μ-loop
 mul-ok c = omega (arith, c .before .before .pre, c .loop-test .taken)
 
--- src/merging.rt:80:20
 shared-slice-read-ok : tie.Need-shared-slice-read-ok Inv-loop μ-loop
 shared-slice-read-ok c = omega (arith, c .before .before .before .pre, c .before .loop-test .taken)
 
--- src/merging.rt:80:47
 add-ok-2 : tie.Need-add-ok-2 Inv-loop μ-loop
 add-ok-2 c = omega (arith, c .before .before .before .pre, c .before .loop-test .taken)
 
--- src/merging.rt:80:40
 mul-ok-2 : tie.Need-mul-ok-2 Inv-loop μ-loop
 mul-ok-2 c = omega (arith, c .before .before .before .pre, c .before .loop-test .taken)
 
--- src/merging.rt:80:40
 shared-slice-read-ok-2 : tie.Need-shared-slice-read-ok-2 Inv-loop μ-loop
 shared-slice-read-ok-2 c = omega (arith, c .before .before .before .before .pre, c .before .before .loop-test .taken)
 
--- src/merging.rt:80:20
 add-ok-3 : tie.Need-add-ok-3 Inv-loop μ-loop
 add-ok-3 c = let a : getD (c .before .before .before .before .args .counts .now) (c .before .before .before .before .args .start + c .before .before .before .loop .k) 0 ≤ 2 ^ 53 = leb-true _ _ (bounded-at (c .before .before .before .before .args .counts .now) (c .before .before .before .before .args .start) (c .before .before .before .before .args .n) (c .before .before .before .loop .k) (c .before .before .before .before .pre .0) (c .before .before .loop-test .taken) (c .before .before .before .before .pre .2)) in let b : getD (c .before .before .before .before .args .theirs .now) (c .before .before .before .before .args .from + c .before .before .before .loop .k) 0 ≤ 2 ^ 53 = leb-true _ _ (bounded-at (c .before .before .before .before .args .theirs .now) (c .before .before .before .before .args .from) (c .before .before .before .before .args .n) (c .before .before .before .loop .k) (c .before .before .before .before .pre .1) (c .before .before .loop-test .taken) (c .before .before .before .before .pre .3)) in omega arith
 
--- src/merging.rt:81:9
 add-k : tie.Need-add-k Inv-loop μ-loop
 add-k c = omega (arith, c .before .before .before .before .pre, c .before .before .loop-test .taken)
 
--- src/merging.rt:79:5
 loop-less : tie.Need-loop-less Inv-loop μ-loop
 loop-less c = omega (arith, c .before .before .before .before .pre, c .before .before .loop-test .taken)
 
--- src/merging.rt:79:5
 loop-again : tie.Need-loop-again Inv-loop μ-loop
 loop-again c = ap (λ (j : ℕ). leftAll 0 boundedWith allBoundedWith bounded-none bounded-more (c .before .before .before .before .args .counts .now) (c .before .before .before .before .args .start) (c .before .before .before .before .args .theirs .now) (c .before .before .before .before .args .from) (c .before .before .before .before .args .n) (c .before .before .before .loop .k + 1) (c .before .before .before .loop .ok && leb j (2 ^ 53))) (sym (joined-sum (getD (c .before .before .before .before .args .counts .now) (c .before .before .before .before .args .start + c .before .before .before .loop .k) 0) (getD (c .before .before .before .before .args .theirs .now) (c .before .before .before .before .args .from + c .before .before .before .loop .k) 0) (bounded-at (c .before .before .before .before .args .counts .now) (c .before .before .before .before .args .start) (c .before .before .before .before .args .n) (c .before .before .before .loop .k) (c .before .before .before .before .pre .0) (c .before .before .loop-test .taken) (c .before .before .before .before .pre .2)) (bounded-at (c .before .before .before .before .args .theirs .now) (c .before .before .before .before .args .from) (c .before .before .before .before .args .n) (c .before .before .before .loop .k) (c .before .before .before .before .pre .1) (c .before .before .loop-test .taken) (c .before .before .before .before .pre .3)))) ∙ pair-next 0 boundedWith allBoundedWith bounded-none bounded-more (c .before .before .before .before .args .counts .now) (c .before .before .before .before .args .theirs .now) (c .before .before .before .before .args .start) (c .before .before .before .before .args .from) (c .before .before .before .before .args .n) (c .before .before .before .loop .k) (c .before .before .before .loop .ok) (c .before .before .before .before .pre .0) (c .before .before .before .before .pre .1) (c .before .before .loop-test .taken) ∙ c .before .before .before .loop .inv
 
--- src/merging.rt:72:1
 returns : tie.Need-returns Inv-loop μ-loop
 returns c = sym (pair-out 0 boundedWith allBoundedWith bounded-none bounded-more (c .before .before .args .counts .now) (c .before .before .args .theirs .now) (c .before .before .args .start) (c .before .before .args .from) (c .before .before .args .n) (c .before .loop .k) (c .before .loop .ok) (c .before .before .pre .0) (c .before .before .pre .1) (c .loop-test .left)) ∙ c .before .loop .inv
 

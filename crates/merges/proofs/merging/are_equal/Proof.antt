@@ -8,8 +8,6 @@ use Rattle.model.specs.Merge.{equalAll}
 use Rattle.lent.proofs.Scans.{leftAll, pair-next, pair-out, equal-none, equal-more}
 use Rattle.merges.proofs.merging.are_equal.Statement.{statement}
 use Rattle.merges.proofs.merging.are_equal.Tie as tie
-use Rattle.merges.proofs.merging.are_equal.Reads as reads
-use Rattle.merges.proofs.merging.are_equal.Lts as lts
 
 abbrev Inv-loop : tie.InvT-loop
 Inv-loop reals start theirs from n ok₀ k₀ ok k =
@@ -18,47 +16,36 @@ Inv-loop reals start theirs from n ok₀ k₀ ok k =
 abbrev μ-loop : tie.MeasureT-loop
 μ-loop reals start theirs from n ok₀ k₀ ok k = n - k
 
--- src/merging.rt:50:5
 loop-holds : tie.Need-loop-holds Inv-loop μ-loop
 loop-holds c = refl
 
--- src/merging.rt:51:26
 add-ok : tie.Need-add-ok Inv-loop μ-loop
 add-ok c = omega (arith, c .before .before .pre, c .loop-test .taken)
 
--- src/merging.rt:51:20
 mul-ok : tie.Need-mul-ok Inv-loop μ-loop
 mul-ok c = omega (arith, c .before .before .pre, c .loop-test .taken)
 
--- src/merging.rt:51:20
 shared-slice-read-ok : tie.Need-shared-slice-read-ok Inv-loop μ-loop
 shared-slice-read-ok c = omega (arith, c .before .before .before .pre, c .before .loop-test .taken)
 
--- src/merging.rt:51:47
 add-ok-2 : tie.Need-add-ok-2 Inv-loop μ-loop
 add-ok-2 c = omega (arith, c .before .before .before .pre, c .before .loop-test .taken)
 
--- src/merging.rt:51:40
 mul-ok-2 : tie.Need-mul-ok-2 Inv-loop μ-loop
 mul-ok-2 c = omega (arith, c .before .before .before .pre, c .before .loop-test .taken)
 
--- src/merging.rt:51:40
 shared-slice-read-ok-2 : tie.Need-shared-slice-read-ok-2 Inv-loop μ-loop
 shared-slice-read-ok-2 c = omega (arith, c .before .before .before .before .pre, c .before .before .loop-test .taken)
 
--- src/merging.rt:52:9
 add-k : tie.Need-add-k Inv-loop μ-loop
 add-k c = omega (arith, c .before .before .before .before .pre, c .before .before .loop-test .taken)
 
--- src/merging.rt:50:5
 loop-less : tie.Need-loop-less Inv-loop μ-loop
 loop-less c = omega (arith, c .before .before .before .before .pre, c .before .before .loop-test .taken)
 
--- src/merging.rt:50:5
 loop-again : tie.Need-loop-again Inv-loop μ-loop
 loop-again c = pair-next nan eq equalAll equal-none equal-more (c .before .before .before .before .args .reals .now) (c .before .before .before .before .args .theirs .now) (c .before .before .before .before .args .start) (c .before .before .before .before .args .from) (c .before .before .before .before .args .n) (c .before .before .before .loop .k) (c .before .before .before .loop .ok) (c .before .before .before .before .pre .0) (c .before .before .before .before .pre .1) (c .before .before .loop-test .taken) ∙ c .before .before .before .loop .inv
 
--- src/merging.rt:44:1
 returns : tie.Need-returns Inv-loop μ-loop
 returns c = sym (pair-out nan eq equalAll equal-none equal-more (c .before .before .args .reals .now) (c .before .before .args .theirs .now) (c .before .before .args .start) (c .before .before .args .from) (c .before .before .args .n) (c .before .loop .k) (c .before .loop .ok) (c .before .before .pre .0) (c .before .before .pre .1) (c .loop-test .left)) ∙ c .before .loop .inv
 

@@ -8,9 +8,6 @@ use lib.Ieee.{nan}
 use Rattle.lent.proofs.Scans.{leftAll, pair-next, pair-out, finiteWith, allFiniteWith, finite-none, finite-more}
 use Rattle.merges.proofs.merging.are_finite_with.Statement.{statement}
 use Rattle.merges.proofs.merging.are_finite_with.Tie as tie
-use Rattle.merges.proofs.merging.are_finite_with.Reads as reads
-use Rattle.merges.proofs.merging.are_finite_with.Lts as lts
-use Rattle.plain.proofs.finite.Reads as finite-reads
 
 abbrev Inv-loop : tie.InvT-loop
 Inv-loop reals start theirs from n ok₀ k₀ ok k =
@@ -19,51 +16,39 @@ Inv-loop reals start theirs from n ok₀ k₀ ok k =
 abbrev μ-loop : tie.MeasureT-loop
 μ-loop reals start theirs from n ok₀ k₀ ok k = n - k
 
--- src/merging.rt:64:5
 loop-holds : tie.Need-loop-holds Inv-loop μ-loop
 loop-holds c = refl
 
--- src/merging.rt:65:38
 add-finite : tie.Need-add-finite Inv-loop μ-loop
 add-finite c = omega (arith, c .before .before .before .before .pre, c .loop-test .taken)
 
--- src/merging.rt:65:32
 mul-finite : tie.Need-mul-finite Inv-loop μ-loop
 mul-finite c = omega (arith, c .before .before .before .before .pre, c .loop-test .taken)
 
--- src/merging.rt:65:32
 shared-slice-read-finite : tie.Need-shared-slice-read-finite Inv-loop μ-loop
 shared-slice-read-finite c = omega (arith, c .before .before .before .before .before .pre, c .before .loop-test .taken)
 
--- src/merging.rt:65:58
 add-finite-2 : tie.Need-add-finite-2 Inv-loop μ-loop
 add-finite-2 c = omega (arith, c .before .before .before .before .before .pre, c .before .loop-test .taken)
 
--- src/merging.rt:65:51
 mul-finite-2 : tie.Need-mul-finite-2 Inv-loop μ-loop
 mul-finite-2 c = omega (arith, c .before .before .before .before .before .pre, c .before .loop-test .taken)
 
--- src/merging.rt:65:51
 shared-slice-read-finite-2 : tie.Need-shared-slice-read-finite-2 Inv-loop μ-loop
 shared-slice-read-finite-2 c = omega (arith, c .before .before .before .before .before .before .pre, c .before .before .loop-test .taken)
 
--- src/merging.rt:65:19
 finite-requires : tie.Need-finite-requires Inv-loop μ-loop
 finite-requires c κs = tt
 
--- src/merging.rt:66:9
 add-k : tie.Need-add-k Inv-loop μ-loop
 add-k c = omega (arith, c .before .before .before .before .before .before .before .pre, c .before .before .before .loop-test .taken)
 
--- src/merging.rt:64:5
 loop-less : tie.Need-loop-less Inv-loop μ-loop
 loop-less c = omega (arith, c .before .before .before .before .before .before .before .pre, c .before .before .before .loop-test .taken)
 
--- src/merging.rt:64:5
 loop-again : tie.Need-loop-again Inv-loop μ-loop
 loop-again c = ap (λ (t : Bool). leftAll nan finiteWith allFiniteWith finite-none finite-more (c .before .before .before .before .before .before .before .args .reals .now) (c .before .before .before .before .before .before .before .args .start) (c .before .before .before .before .before .before .before .args .theirs .now) (c .before .before .before .before .before .before .before .args .from) (c .before .before .before .before .before .before .before .args .n) (c .before .before .before .before .loop .k + 1) (c .before .before .before .before .loop .ok && t)) (c .finite .ensures) ∙ pair-next nan finiteWith allFiniteWith finite-none finite-more (c .before .before .before .before .before .before .before .args .reals .now) (c .before .before .before .before .before .before .before .args .theirs .now) (c .before .before .before .before .before .before .before .args .start) (c .before .before .before .before .before .before .before .args .from) (c .before .before .before .before .before .before .before .args .n) (c .before .before .before .before .loop .k) (c .before .before .before .before .loop .ok) (c .before .before .before .before .before .before .before .pre .0) (c .before .before .before .before .before .before .before .pre .1) (c .before .before .before .loop-test .taken) ∙ c .before .before .before .before .loop .inv
 
--- src/merging.rt:58:1
 returns : tie.Need-returns Inv-loop μ-loop
 returns c = sym (pair-out nan finiteWith allFiniteWith finite-none finite-more (c .before .before .before .before .args .reals .now) (c .before .before .before .before .args .theirs .now) (c .before .before .before .before .args .start) (c .before .before .before .before .args .from) (c .before .before .before .before .args .n) (c .before .loop .k) (c .before .loop .ok) (c .before .before .before .before .pre .0) (c .before .before .before .before .pre .1) (c .loop-test .left)) ∙ c .before .loop .inv
 

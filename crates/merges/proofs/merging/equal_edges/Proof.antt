@@ -8,10 +8,6 @@ use Rattle.lent.proofs.First.{first, stands-on, one-less}
 use Rattle.lent.proofs.Merges.{sameAt, equalAt, paired, pairs-on, equal-next, equal-out}
 use Rattle.merges.proofs.merging.equal_edges.Statement.{statement}
 use Rattle.merges.proofs.merging.equal_edges.Tie as tie
-use Rattle.merges.proofs.merging.equal_edges.Reads as reads
-use Rattle.merges.proofs.merging.equal_edges.Lts as lts
-use Rattle.merges.proofs.merging.are_equal.Reads as are-equal-reads
-use Rattle.merges.proofs.onward.after_first.Reads as after-first-reads
 
 abbrev Inv-loop : tie.InvT-loop
 Inv-loop reals counts theirs tallies ok₀ left₀ right₀ ok left right =
@@ -20,41 +16,32 @@ Inv-loop reals counts theirs tallies ok₀ left₀ right₀ ok left right =
 abbrev μ-loop : tie.MeasureT-loop
 μ-loop reals counts theirs tallies ok₀ left₀ right₀ ok left right = left .axes
 
--- src/merging.rt:102:5
 loop-holds : tie.Need-loop-holds Inv-loop μ-loop
 loop-holds c = (c .before .before .before .before .pre .0, c .before .before .before .before .pre .1, c .before .before .before .before .pre .2, refl)
 
--- src/merging.rt:104:20
 mul-held : tie.Need-mul-held Inv-loop μ-loop
 mul-held c = let n = first (c .before .before .before .before .before .before .before .args .reals .now) (c .before .before .before .before .before .before .before .args .counts .now) (c .before .before .loop .left) (c .if1 .taken) (c .before .before .loop .inv .0) in omega arith
 
--- src/merging.rt:104:20
 shared-slice-read-held : tie.Need-shared-slice-read-held Inv-loop μ-loop
 shared-slice-read-held c = let n = first (c .before .before .before .before .before .before .before .before .args .reals .now) (c .before .before .before .before .before .before .before .before .args .counts .now) (c .before .before .before .loop .left) (c .before .if1 .taken) (c .before .before .before .loop .inv .0) in omega arith
 
--- src/merging.rt:105:69
 add-are-equal : tie.Need-add-are-equal Inv-loop μ-loop
 add-are-equal c = let n = first (c .before .before .before .before .before .before .before .before .args .reals .now) (c .before .before .before .before .before .before .before .before .args .counts .now) (c .before .before .before .loop .left) (c .before .if1 .taken) (c .before .before .before .loop .inv .0) in omega arith
 
--- src/merging.rt:105:19
 are-equal-requires : tie.Need-are-equal-requires Inv-loop μ-loop
 are-equal-requires c κs = let p = paired (c .before .before .before .before .before .before .before .before .args .reals .now) (c .before .before .before .before .before .before .before .before .args .counts .now) (c .before .before .before .before .before .before .before .before .args .theirs .now) (c .before .before .before .before .before .before .before .before .args .tallies .now) (c .before .before .before .loop .left) (c .before .before .before .loop .right) (c .before .if1 .taken) (c .before .before .before .loop .inv .2) in let n = first (c .before .before .before .before .before .before .before .before .args .reals .now) (c .before .before .before .before .before .before .before .before .args .counts .now) (c .before .before .before .loop .left) (c .before .if1 .taken) (c .before .before .before .loop .inv .0) in let m = first (c .before .before .before .before .before .before .before .before .args .theirs .now) (c .before .before .before .before .before .before .before .before .args .tallies .now) (c .before .before .before .loop .right) (p .there) (c .before .before .before .loop .inv .1) in (omega arith, omega arith)
 
--- src/merging.rt:106:9
 after-first-requires : tie.Need-after-first-requires Inv-loop μ-loop
 unfolding axisReals axisCounts
 after-first-requires c κs = let n = first (c .before .before .before .before .before .before .before .before .before .args .reals .now) (c .before .before .before .before .before .before .before .before .before .args .counts .now) (c .before .before .before .before .loop .left) (c .before .before .if1 .taken) (c .before .before .before .before .loop .inv .0) in (c .before .before .if1 .taken, n .few, omega arith, omega arith)
 
--- src/merging.rt:107:9
 after-first-requires-2 : tie.Need-after-first-requires-2 Inv-loop μ-loop
 unfolding axisReals axisCounts
 after-first-requires-2 c κs = let p = paired (c .before .before .before .before .before .before .before .before .before .before .args .reals .now) (c .before .before .before .before .before .before .before .before .before .before .args .counts .now) (c .before .before .before .before .before .before .before .before .before .before .args .theirs .now) (c .before .before .before .before .before .before .before .before .before .before .args .tallies .now) (c .before .before .before .before .before .loop .left) (c .before .before .before .before .before .loop .right) (c .before .before .before .if1 .taken) (c .before .before .before .before .before .loop .inv .2) in let m = first (c .before .before .before .before .before .before .before .before .before .before .args .theirs .now) (c .before .before .before .before .before .before .before .before .before .before .args .tallies .now) (c .before .before .before .before .before .loop .right) (p .there) (c .before .before .before .before .before .loop .inv .1) in (p .there, m .few, omega arith, omega arith)
 
--- src/merging.rt:102:5
 loop-less : tie.Need-loop-less Inv-loop μ-loop
 loop-less c = omega (arith, one-less (c .before .before .before .before .before .before .loop .left) (c .before .after-first .result) (c .before .after-first .ensures), c .before .before .before .before .if1 .taken)
 
--- src/merging.rt:102:5
 loop-again : tie.Need-loop-again Inv-loop μ-loop
 loop-again c = let p = paired (c .before .before .before .before .before .before .before .before .before .before .before .args .reals .now) (c .before .before .before .before .before .before .before .before .before .before .before .args .counts .now) (c .before .before .before .before .before .before .before .before .before .before .before .args .theirs .now) (c .before .before .before .before .before .before .before .before .before .before .before .args .tallies .now) (c .before .before .before .before .before .before .loop .left) (c .before .before .before .before .before .before .loop .right) (c .before .before .before .before .if1 .taken) (c .before .before .before .before .before .before .loop .inv .2) in (
   stands-on (c .before .before .before .before .before .before .before .before .before .before .before .args .reals .now) (c .before .before .before .before .before .before .before .before .before .before .before .args .counts .now) (c .before .before .before .before .before .before .loop .left) (c .before .after-first .result) (c .before .before .before .before .if1 .taken) (c .before .before .before .before .before .before .loop .inv .0) (c .before .after-first .ensures),
@@ -63,7 +50,6 @@ loop-again c = let p = paired (c .before .before .before .before .before .before
   equal-next (c .before .before .before .before .before .before .before .before .before .before .before .args .reals .now) (c .before .before .before .before .before .before .before .before .before .before .before .args .counts .now) (c .before .before .before .before .before .before .before .before .before .before .before .args .theirs .now) (c .before .before .before .before .before .before .before .before .before .before .before .args .tallies .now) (c .before .before .before .before .before .before .loop .left) (c .before .before .before .before .before .before .loop .right) (c .before .after-first .result) (c .after-first2 .result) (c .before .before .before .before .before .before .loop .ok) (c .before .before .are-equal .result) (c .before .before .before .before .if1 .taken) (c .before .before .before .before .before .before .loop .inv .2) (c .before .after-first .ensures) (c .after-first2 .ensures) (c .before .before .are-equal .ensures) ∙ c .before .before .before .before .before .before .loop .inv .3,
 )
 
--- src/merging.rt:87:1
 returns : tie.Need-returns Inv-loop μ-loop
 returns c = sym (equal-out (c .before .before .before .before .before .before .before .args .reals .now) (c .before .before .before .before .before .before .before .args .counts .now) (c .before .before .before .before .before .before .before .args .theirs .now) (c .before .before .before .before .before .before .before .args .tallies .now) (c .before .before .loop .left) (c .before .before .loop .right) (c .before .before .loop .ok) (c .if1 .left)) ∙ c .before .before .loop .inv .3
 

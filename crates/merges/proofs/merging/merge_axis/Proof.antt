@@ -6,45 +6,32 @@ use Rattle.lent.proofs.Unites.{axis-full, axis-over, axis-joins}
 use borrow.Author.Needs.{needs}
 use Rattle.merges.proofs.merging.merge_axis.Statement.{statement}
 use Rattle.merges.proofs.merging.merge_axis.Tie as tie
-use Rattle.merges.proofs.merging.merge_axis.Reads as reads
-use Rattle.merges.proofs.merging.merge_axis.Lts as lts
-use Rattle.merges.proofs.merging.merge_counts.Reads as merge-counts-reads
-use Rattle.merges.proofs.merging.merge_reals.Reads as merge-reals-reads
 
--- src/merging.rt:218:16
 mul-held : tie.Need-mul-held
 mul-held c = search needs
 
--- src/merging.rt:218:16
 slice-read-held : tie.Need-slice-read-held
 unfolding axisCounts
 slice-read-held c = omega (arith, c .before .before .before .before .before .pre .2)
 
--- src/merging.rt:220:9
 returns : tie.Need-returns
 returns c = axis-full (c .before .before .before .before .before .before .before .args .g .most) (c .before .before .before .before .before .before .before .args .g .reals) (c .before .before .before .before .before .before .before .args .g .counts) (c .before .before .before .before .before .before .before .args .o) (memory (c .before .before .before .before .before .before .before .args .theirs .now) (c .before .before .before .before .before .before .before .args .tallies .now)) (memory (c .before .before .before .before .before .before .before .args .reals .now) (c .before .before .before .before .before .before .before .args .counts .now)) (c .if1 .taken)
 
--- src/merging.rt:223:9
 returns-2 : tie.Need-returns-2
 returns-2 c = axis-over (c .before .before .before .before .before .before .before .before .before .args .g .most) (c .before .before .before .before .before .before .before .before .before .args .g .reals) (c .before .before .before .before .before .before .before .before .before .args .g .counts) (c .before .before .before .before .before .before .before .before .before .args .o) (memory (c .before .before .before .before .before .before .before .before .before .args .theirs .now) (c .before .before .before .before .before .before .before .before .before .args .tallies .now)) (memory (c .before .before .before .before .before .before .before .before .before .args .reals .now) (c .before .before .before .before .before .before .before .before .before .args .counts .now)) (c .before .before .if1 .left) (c .if2 .taken)
 
--- src/merging.rt:225:5
 merge-reals-requires : tie.Need-merge-reals-requires
 merge-reals-requires c κs = search needs
 
--- src/merging.rt:226:5
 merge-counts-requires : tie.Need-merge-counts-requires
 merge-counts-requires c κs = search needs
 
--- src/merging.rt:204:1
 same-length : tie.Need-same-length
 same-length c = search needs
 
--- src/merging.rt:204:1
 same-length-2 : tie.Need-same-length-2
 same-length-2 c = search needs
 
--- src/merging.rt:204:1
 returns-3 : tie.Need-returns-3
 returns-3 c = ap₂ memory (c .before .before .before .before .before .before .merge-reals .ensures) (c .before .before .merge-counts .ensures) ∙ axis-joins (c .before .before .before .before .before .before .before .before .before .before .before .before .before .before .before .before .before .args .g .most) (c .before .before .before .before .before .before .before .before .before .before .before .before .before .before .before .before .before .args .g .reals) (c .before .before .before .before .before .before .before .before .before .before .before .before .before .before .before .before .before .args .g .counts) (c .before .before .before .before .before .before .before .before .before .before .before .before .before .before .before .before .before .args .o) (memory (c .before .before .before .before .before .before .before .before .before .before .before .before .before .before .before .before .before .args .theirs .now) (c .before .before .before .before .before .before .before .before .before .before .before .before .before .before .before .before .before .args .tallies .now)) (memory (c .before .before .before .before .before .before .before .before .before .before .before .before .before .before .before .before .before .args .reals .now) (c .before .before .before .before .before .before .before .before .before .before .before .before .before .before .before .before .before .args .counts .now)) (c .before .before .before .before .before .before .before .before .before .before .if1 .left) (c .before .before .before .before .before .before .before .before .if2 .left)
 

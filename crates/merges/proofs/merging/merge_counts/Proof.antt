@@ -5,49 +5,36 @@ use Rattle.lent.specs.Merged.{mergedCounts}
 use borrow.Author.Needs.{needs}
 use Rattle.merges.proofs.merging.merge_counts.Statement.{statement}
 use Rattle.merges.proofs.merging.merge_counts.Tie as tie
-use Rattle.merges.proofs.merging.merge_counts.Reads as reads
-use Rattle.merges.proofs.merging.merge_counts.Lts as lts
-use Rattle.merges.proofs.joining.add_counts.Reads as add-counts-reads
 
--- src/merging.rt:199:33
 add-add-counts : tie.Need-add-add-counts
 add-add-counts c = search needs
 
--- src/merging.rt:199:49
 add-add-counts-2 : tie.Need-add-add-counts-2
 add-add-counts-2 c = search needs
 
--- src/merging.rt:199:5
 add-counts-requires : tie.Need-add-counts-requires
 unfolding axisCounts
 add-counts-requires c κs = (omega arith, omega arith)
 
--- src/merging.rt:200:38
 add-add-counts-3 : tie.Need-add-add-counts-3
 add-add-counts-3 c = search needs
 
--- src/merging.rt:200:33
 add-add-counts-4 : tie.Need-add-add-counts-4
 add-add-counts-4 c = search needs
 
--- src/merging.rt:200:60
 add-add-counts-5 : tie.Need-add-add-counts-5
 add-add-counts-5 c = search needs
 
--- src/merging.rt:200:55
 add-add-counts-6 : tie.Need-add-add-counts-6
 add-add-counts-6 c = search needs
 
--- src/merging.rt:200:5
 add-counts-requires-2 : tie.Need-add-counts-requires-2
 unfolding axisCounts
 add-counts-requires-2 c κs = (omega arith, omega arith)
 
--- src/merging.rt:190:1
 same-length : tie.Need-same-length
 same-length c = search needs
 
--- src/merging.rt:190:1
 returns : tie.Need-returns
 unfolding mergedCounts
 returns c = rw (c .before .before .add-counts2 .ensures, c .before .before .before .before .before .before .add-counts .ensures)

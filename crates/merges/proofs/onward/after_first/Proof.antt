@@ -5,38 +5,28 @@ use Rattle.lent.specs.Onward.{onward}
 use borrow.Author.Needs.{needs}
 use Rattle.merges.proofs.onward.after_first.Statement.{statement}
 use Rattle.merges.proofs.onward.after_first.Tie as tie
-use Rattle.merges.proofs.onward.after_first.Reads as reads
-use Rattle.merges.proofs.onward.after_first.Lts as lts
 
--- src/onward.rt:14:14
 sub-r : tie.Need-sub-r
 sub-r c = search needs
 
--- src/onward.rt:15:26
 mul-r : tie.Need-mul-r
 mul-r c = search needs
 
--- src/onward.rt:15:26
 add-r : tie.Need-add-r
 add-r c = search needs
 
--- src/onward.rt:15:15
 add-r-2 : tie.Need-add-r-2
 add-r-2 c = search needs
 
--- src/onward.rt:16:28
 mul-r-2 : tie.Need-mul-r-2
 mul-r-2 c = search needs
 
--- src/onward.rt:16:28
 add-r-3 : tie.Need-add-r-3
 add-r-3 c = search needs
 
--- src/onward.rt:16:16
 add-r-4 : tie.Need-add-r-4
 add-r-4 c = search needs
 
--- src/onward.rt:9:1
 returns : tie.Need-returns
 unfolding onward axisReals axisCounts
 returns c = refl

@@ -68,7 +68,6 @@ abbrev merge-grid-below : ℕ → In 6 merge-grid-kinds.ps
 merge-grid-below t =
     and 6 merge-grid-kinds.ps (falls 6 merge-grid-kinds.ps _<_ μ-merge-grid t) merge-grid.Pre
 
--- src/uniting.rt:124:9
 merge-child-returns :
     (t : ℕ) →
     merge-child-lts.Need-returns
@@ -77,14 +76,12 @@ merge-child-returns :
     merge-child.Post
 merge-child-returns t c = none-here (c .before .before .before .before .before .before .before .args .table .now) (c .before .before .before .before .before .before .before .args .other .now) (memory (c .before .before .before .before .before .before .before .args .theirs .now) (c .before .before .before .before .before .before .before .args .tallies .now)) (unitedGrid (c .before .before .before .before .before .before .before .args .table .now) (c .before .before .before .before .before .before .before .args .other .now) (memory (c .before .before .before .before .before .before .before .args .theirs .now) (c .before .before .before .before .before .before .before .args .tallies .now)) (c .before .before .before .before .before .before .before .args .level)) (c .before .before .before .before .before .before .before .args .link) (c .before .before .before .before .before .before .before .args .far) (memory (c .before .before .before .before .before .before .before .args .reals .now) (c .before .before .before .before .before .before .before .args .counts .now)) (c .if1 .taken)
 
--- src/uniting.rt:127:9
 merge-child-returns-2 : (t : ℕ) → merge-child-lts.Need-returns-2 (
   merge-grid-below t,
   merge-grid.Post,
 ) (merge-child-at t) merge-child.Post
 merge-child-returns-2 t c = none-there (c .before .before .before .before .before .before .before .before .args .table .now) (c .before .before .before .before .before .before .before .before .args .other .now) (memory (c .before .before .before .before .before .before .before .before .args .theirs .now) (c .before .before .before .before .before .before .before .before .args .tallies .now)) (unitedGrid (c .before .before .before .before .before .before .before .before .args .table .now) (c .before .before .before .before .before .before .before .before .args .other .now) (memory (c .before .before .before .before .before .before .before .before .args .theirs .now) (c .before .before .before .before .before .before .before .before .args .tallies .now)) (c .before .before .before .before .before .before .before .before .args .level)) (c .before .before .before .before .before .before .before .before .args .link) (c .before .before .before .before .before .before .before .before .args .far) (memory (c .before .before .before .before .before .before .before .before .args .reals .now) (c .before .before .before .before .before .before .before .before .args .counts .now)) (c .before .if1 .left) (c .if2 .taken)
 
--- src/uniting.rt:129:5
 merge-child-merge-grid-requires : (t : ℕ) → merge-child-lts.Need-merge-grid-requires (
   merge-grid-below t,
   merge-grid.Post,
@@ -92,21 +89,18 @@ merge-child-merge-grid-requires : (t : ℕ) → merge-child-lts.Need-merge-grid-
 unfolding ChildLaid
 merge-child-merge-grid-requires t c κs = (omega (arith, c .before .before .before .before .before .before .before .before .before .before .pre .0), (c .before .before .before .before .before .before .before .before .before .before .pre .1 .0 (c .before .before .before .if1 .left), c .before .before .before .before .before .before .before .before .before .before .pre .1 .1 (c .before .before .if2 .left)))
 
--- src/uniting.rt:107:1
 merge-child-same-length : (t : ℕ) → merge-child-lts.Need-same-length (
   merge-grid-below t,
   merge-grid.Post,
 ) (merge-child-at t) merge-child.Post
 merge-child-same-length t c = c .before .before .before .before .merge-grid .kept .1 .0
 
--- src/uniting.rt:107:1
 merge-child-same-length-2 : (t : ℕ) → merge-child-lts.Need-same-length-2 (
   merge-grid-below t,
   merge-grid.Post,
 ) (merge-child-at t) merge-child.Post
 merge-child-same-length-2 t c = c .before .before .before .before .merge-grid .kept .1 .1 .0
 
--- src/uniting.rt:107:1
 merge-child-returns-3 : (t : ℕ) → merge-child-lts.Need-returns-3 (
   merge-grid-below t,
   merge-grid.Post,
@@ -120,91 +114,78 @@ merge-children-Inv-loop table reals₀ counts₀ level w other theirs tallies v 
 abbrev merge-children-μ-loop : merge-children-lts.MeasureT-loop
 merge-children-μ-loop table reals₀ counts₀ level w other theirs tallies v n i₀ reals counts i = n - i
 
--- src/uniting.rt:151:19
 merge-children-add-n : (t : ℕ) → merge-children-lts.Need-add-n (
   merge-child-below t,
   merge-child.Post,
 ) (merge-children-at t) merge-children.Post merge-children-Inv-loop merge-children-μ-loop
 merge-children-add-n t c = omega (arith, c .before .before .before .before .before .before .pre .1 .0, c .before .before .before .before .before .before .pre .1 .1, c .before .before .before .before .before .before .pre .1 .2)
 
--- src/uniting.rt:151:13
 merge-children-mul-n : (t : ℕ) → merge-children-lts.Need-mul-n (
   merge-child-below t,
   merge-child.Post,
 ) (merge-children-at t) merge-children.Post merge-children-Inv-loop merge-children-μ-loop
 merge-children-mul-n t c = omega (arith, c .before .before .before .before .before .before .pre .1 .0, c .before .before .before .before .before .before .pre .1 .1, c .before .before .before .before .before .before .pre .1 .2)
 
--- src/uniting.rt:151:13
 merge-children-shared-slice-read-n : (t : ℕ) → merge-children-lts.Need-shared-slice-read-n (
   merge-child-below t,
   merge-child.Post,
 ) (merge-children-at t) merge-children.Post merge-children-Inv-loop merge-children-μ-loop
 merge-children-shared-slice-read-n t c = omega (arith, c .before .before .before .before .before .before .before .pre .1 .0, c .before .before .before .before .before .before .before .pre .1 .1, c .before .before .before .before .before .before .before .pre .1 .2)
 
--- src/uniting.rt:153:5
 merge-children-loop-holds : (t : ℕ) → merge-children-lts.Need-loop-holds (
   merge-child-below t,
   merge-child.Post,
 ) (merge-children-at t) merge-children.Post merge-children-Inv-loop merge-children-μ-loop
 merge-children-loop-holds t c = let e : (getD (c .before .before .before .before .before .before .before .args .table .now) (c .before .before .before .before .before .before .before .args .w + 2) 0) - 0 ≡ (getD (c .before .before .before .before .before .before .before .args .table .now) (c .before .before .before .before .before .before .before .args .w + 2) 0) = omega arith in (omega arith, refl, refl, rw e)
 
--- src/uniting.rt:154:26
 merge-children-add-link : (t : ℕ) → merge-children-lts.Need-add-link (
   merge-child-below t,
   merge-child.Post,
 ) (merge-children-at t) merge-children.Post merge-children-Inv-loop merge-children-μ-loop
 merge-children-add-link t c = omega (arith, c .before .before .before .before .before .before .before .before .before .pre .1 .0, c .before .before .before .before .before .before .before .before .before .pre .1 .1, c .before .before .before .before .before .before .before .before .before .pre .1 .2, c .loop-test .taken)
 
--- src/uniting.rt:154:26
 merge-children-add-link-2 : (t : ℕ) → merge-children-lts.Need-add-link-2 (
   merge-child-below t,
   merge-child.Post,
 ) (merge-children-at t) merge-children.Post merge-children-Inv-loop merge-children-μ-loop
 merge-children-add-link-2 t c = omega (arith, c .before .before .before .before .before .before .before .before .before .pre .1 .0, c .before .before .before .before .before .before .before .before .before .pre .1 .1, c .before .before .before .before .before .before .before .before .before .pre .1 .2, c .loop-test .taken)
 
--- src/uniting.rt:154:20
 merge-children-mul-link : (t : ℕ) → merge-children-lts.Need-mul-link (
   merge-child-below t,
   merge-child.Post,
 ) (merge-children-at t) merge-children.Post merge-children-Inv-loop merge-children-μ-loop
 merge-children-mul-link t c = omega (arith, c .before .before .before .before .before .before .before .before .before .pre .1 .0, c .before .before .before .before .before .before .before .before .before .pre .1 .1, c .before .before .before .before .before .before .before .before .before .pre .1 .2, c .loop-test .taken)
 
--- src/uniting.rt:154:20
 merge-children-shared-slice-read-link : (t : ℕ) → merge-children-lts.Need-shared-slice-read-link (
   merge-child-below t,
   merge-child.Post,
 ) (merge-children-at t) merge-children.Post merge-children-Inv-loop merge-children-μ-loop
 merge-children-shared-slice-read-link t c = omega (arith, c .before .before .before .before .before .before .before .before .before .before .pre .1 .0, c .before .before .before .before .before .before .before .before .before .before .pre .1 .1, c .before .before .before .before .before .before .before .before .before .before .pre .1 .2, c .before .loop-test .taken)
 
--- src/uniting.rt:155:25
 merge-children-add-far : (t : ℕ) → merge-children-lts.Need-add-far (
   merge-child-below t,
   merge-child.Post,
 ) (merge-children-at t) merge-children.Post merge-children-Inv-loop merge-children-μ-loop
 merge-children-add-far t c = omega (arith, c .before .before .before .before .before .before .before .before .before .before .pre .1 .0, c .before .before .before .before .before .before .before .before .before .before .pre .1 .1, c .before .before .before .before .before .before .before .before .before .before .pre .1 .2, c .before .loop-test .taken)
 
--- src/uniting.rt:155:25
 merge-children-add-far-2 : (t : ℕ) → merge-children-lts.Need-add-far-2 (
   merge-child-below t,
   merge-child.Post,
 ) (merge-children-at t) merge-children.Post merge-children-Inv-loop merge-children-μ-loop
 merge-children-add-far-2 t c = omega (arith, c .before .before .before .before .before .before .before .before .before .before .pre .1 .0, c .before .before .before .before .before .before .before .before .before .before .pre .1 .1, c .before .before .before .before .before .before .before .before .before .before .pre .1 .2, c .before .loop-test .taken)
 
--- src/uniting.rt:155:19
 merge-children-mul-far : (t : ℕ) → merge-children-lts.Need-mul-far (
   merge-child-below t,
   merge-child.Post,
 ) (merge-children-at t) merge-children.Post merge-children-Inv-loop merge-children-μ-loop
 merge-children-mul-far t c = omega (arith, c .before .before .before .before .before .before .before .before .before .before .pre .1 .0, c .before .before .before .before .before .before .before .before .before .before .pre .1 .1, c .before .before .before .before .before .before .before .before .before .before .pre .1 .2, c .before .loop-test .taken)
 
--- src/uniting.rt:155:19
 merge-children-shared-slice-read-far : (t : ℕ) → merge-children-lts.Need-shared-slice-read-far (
   merge-child-below t,
   merge-child.Post,
 ) (merge-children-at t) merge-children.Post merge-children-Inv-loop merge-children-μ-loop
 merge-children-shared-slice-read-far t c = omega (arith, c .before .before .before .before .before .before .before .before .before .before .before .pre .1 .0, c .before .before .before .before .before .before .before .before .before .before .before .pre .1 .1, c .before .before .before .before .before .before .before .before .before .before .before .pre .1 .2, c .before .before .loop-test .taken)
 
--- src/uniting.rt:156:9
 merge-children-merge-child-requires : (t : ℕ) → merge-children-lts.Need-merge-child-requires (
   merge-child-below t,
   merge-child.Post,
@@ -212,49 +193,42 @@ merge-children-merge-child-requires : (t : ℕ) → merge-children-lts.Need-merg
 unfolding ChildLaid
 merge-children-merge-child-requires t c κs = (omega (arith, c .before .before .before .before .before .before .before .before .before .before .before .before .before .pre .0), (λ z. laid-kept (c .before .before .before .before .before .before .before .before .before .before .before .before .before .args .level) (c .before .before .before .before .before .before .before .before .before .before .before .before .before .args .table .now) (length (c .before .before .before .before .before .before .before .before .before .before .before .before .before .args .reals .now)) (length (c .before .before .before .before .before .before .before .before .before .before .before .before .before .args .counts .now)) (length (c .before .before .before .before .before .loop .reals)) (length (c .before .before .before .before .before .loop .counts)) (getD (c .before .before .before .before .before .before .before .before .before .before .before .before .before .args .table .now) (c .before .before .before .before .before .before .before .before .before .before .before .before .before .args .w + 7 + c .before .before .before .before .before .loop .i) 0) (c .before .before .before .before .before .loop .inv .1) (c .before .before .before .before .before .loop .inv .2) (c .before .before .before .before .before .before .before .before .before .before .before .before .before .pre .1 .0 .children (c .before .before .before .before .before .loop .i) (c .before .before .before .before .loop-test .taken) z), λ z. c .before .before .before .before .before .before .before .before .before .before .before .before .before .pre .1 .1 .children (c .before .before .before .before .before .loop .i) (omega (arith, c .before .before .before .before .before .before .before .before .before .before .before .before .before .pre .1 .2, c .before .before .before .before .loop-test .taken)) z))
 
--- src/uniting.rt:157:9
 merge-children-add-i : (t : ℕ) → merge-children-lts.Need-add-i (
   merge-child-below t,
   merge-child.Post,
 ) (merge-children-at t) merge-children.Post merge-children-Inv-loop merge-children-μ-loop
 merge-children-add-i t c = omega (arith, c .before .before .before .before .before .before .before .before .before .before .before .before .before .before .before .before .before .before .pre .1 .0, c .before .before .before .before .before .before .before .before .before .before .before .before .before .before .before .before .before .before .pre .1 .1, c .before .before .before .before .before .before .before .before .before .before .before .before .before .before .before .before .before .before .pre .1 .2, c .before .before .before .before .before .before .before .before .before .loop-test .taken)
 
--- src/uniting.rt:153:5
 merge-children-loop-less : (t : ℕ) → merge-children-lts.Need-loop-less (
   merge-child-below t,
   merge-child.Post,
 ) (merge-children-at t) merge-children.Post merge-children-Inv-loop merge-children-μ-loop
 merge-children-loop-less t c = omega (arith, c .before .before .before .before .before .before .before .before .before .loop-test .taken)
 
--- src/uniting.rt:153:5
 merge-children-loop-again : (t : ℕ) → merge-children-lts.Need-loop-again (
   merge-child-below t,
   merge-child.Post,
 ) (merge-children-at t) merge-children.Post merge-children-Inv-loop merge-children-μ-loop
 merge-children-loop-again t c = (omega (arith, c .before .before .before .before .before .before .before .before .before .loop-test .taken), c .before .before .before .before .merge-child .kept .1 .0 ∙ c .before .before .before .before .before .before .before .before .before .before .loop .inv .1, c .before .before .before .before .merge-child .kept .1 .1 .0 ∙ c .before .before .before .before .before .before .before .before .before .before .loop .inv .2, children-next (c .before .before .before .before .before .before .before .before .before .before .before .before .before .before .before .before .before .before .args .table .now) (c .before .before .before .before .before .before .before .before .before .before .before .before .before .before .before .before .before .before .args .other .now) (memory (c .before .before .before .before .before .before .before .before .before .before .before .before .before .before .before .before .before .before .args .theirs .now) (c .before .before .before .before .before .before .before .before .before .before .before .before .before .before .before .before .before .before .args .tallies .now)) (unitedGrid (c .before .before .before .before .before .before .before .before .before .before .before .before .before .before .before .before .before .before .args .table .now) (c .before .before .before .before .before .before .before .before .before .before .before .before .before .before .before .before .before .before .args .other .now) (memory (c .before .before .before .before .before .before .before .before .before .before .before .before .before .before .before .before .before .before .args .theirs .now) (c .before .before .before .before .before .before .before .before .before .before .before .before .before .before .before .before .before .before .args .tallies .now)) (c .before .before .before .before .before .before .before .before .before .before .before .before .before .before .before .before .before .before .args .level)) (c .before .before .before .before .before .before .before .before .before .before .before .before .before .before .before .before .before .before .args .w) (c .before .before .before .before .before .before .before .before .before .before .before .before .before .before .before .before .before .before .args .v) (getD (c .before .before .before .before .before .before .before .before .before .before .before .before .before .before .before .before .before .before .args .table .now) (c .before .before .before .before .before .before .before .before .before .before .before .before .before .before .before .before .before .before .args .w + 2) 0) (c .before .before .before .before .before .before .before .before .before .before .loop .i) (memory (c .before .before .before .before .before .before .before .before .before .before .loop .reals) (c .before .before .before .before .before .before .before .before .before .before .loop .counts)) (memory (c .before .before .before .before .merge-child .last .1 .0) (c .before .before .before .before .merge-child .last .1 .1 .0)) (c .before .before .before .before .before .before .before .before .before .loop-test .taken) (c .before .before .before .before .merge-child .ensures) ∙ c .before .before .before .before .before .before .before .before .before .before .loop .inv .3)
 
--- src/uniting.rt:133:1
 merge-children-same-length : (t : ℕ) → merge-children-lts.Need-same-length (
   merge-child-below t,
   merge-child.Post,
 ) (merge-children-at t) merge-children.Post merge-children-Inv-loop merge-children-μ-loop
 merge-children-same-length t c = c .before .loop .inv .1
 
--- src/uniting.rt:133:1
 merge-children-same-length-2 : (t : ℕ) → merge-children-lts.Need-same-length-2 (
   merge-child-below t,
   merge-child.Post,
 ) (merge-children-at t) merge-children.Post merge-children-Inv-loop merge-children-μ-loop
 merge-children-same-length-2 t c = c .before .loop .inv .2
 
--- src/uniting.rt:133:1
 merge-children-returns : (t : ℕ) → merge-children-lts.Need-returns (
   merge-child-below t,
   merge-child.Post,
 ) (merge-children-at t) merge-children.Post merge-children-Inv-loop merge-children-μ-loop
 merge-children-returns t c = sym (children-done (c .before .before .before .before .before .before .before .before .before .args .table .now) (c .before .before .before .before .before .before .before .before .before .args .other .now) (memory (c .before .before .before .before .before .before .before .before .before .args .theirs .now) (c .before .before .before .before .before .before .before .before .before .args .tallies .now)) (unitedGrid (c .before .before .before .before .before .before .before .before .before .args .table .now) (c .before .before .before .before .before .before .before .before .before .args .other .now) (memory (c .before .before .before .before .before .before .before .before .before .args .theirs .now) (c .before .before .before .before .before .before .before .before .before .args .tallies .now)) (c .before .before .before .before .before .before .before .before .before .args .level)) (c .before .before .before .before .before .before .before .before .before .args .w) (c .before .before .before .before .before .before .before .before .before .args .v) (getD (c .before .before .before .before .before .before .before .before .before .args .table .now) (c .before .before .before .before .before .before .before .before .before .args .w + 2) 0) (c .before .loop .i) (memory (c .before .loop .reals) (c .before .loop .counts)) (c .loop-test .left)) ∙ c .before .loop .inv .3
 
--- src/uniting.rt:177:8
 merge-grid-mul-if1 : (t : ℕ) → merge-grid-lts.Need-mul-if1 (
   merge-axes-grid-reads.Asked,
   merge-axes-grid-reads.Learnt,
@@ -265,7 +239,6 @@ merge-grid-mul-if1 : (t : ℕ) → merge-grid-lts.Need-mul-if1 (
 ) (merge-grid-at t) merge-grid.Post
 merge-grid-mul-if1 t c = omega (arith, laid-head (c .before .before .before .before .before .before .args .level) (c .before .before .before .before .before .before .args .table .now) (length (c .before .before .before .before .before .before .args .reals .now)) (length (c .before .before .before .before .before .before .args .counts .now)) (c .before .before .before .before .before .before .args .w) (c .before .before .before .before .before .before .pre .1 .0))
 
--- src/uniting.rt:177:8
 merge-grid-shared-slice-read-if1 : (t : ℕ) → merge-grid-lts.Need-shared-slice-read-if1 (
   merge-axes-grid-reads.Asked,
   merge-axes-grid-reads.Learnt,
@@ -276,7 +249,6 @@ merge-grid-shared-slice-read-if1 : (t : ℕ) → merge-grid-lts.Need-shared-slic
 ) (merge-grid-at t) merge-grid.Post
 merge-grid-shared-slice-read-if1 t c = omega (arith, laid-head (c .before .before .before .before .before .before .before .args .level) (c .before .before .before .before .before .before .before .args .table .now) (length (c .before .before .before .before .before .before .before .args .reals .now)) (length (c .before .before .before .before .before .before .before .args .counts .now)) (c .before .before .before .before .before .before .before .args .w) (c .before .before .before .before .before .before .before .pre .1 .0))
 
--- src/uniting.rt:178:12
 merge-grid-mul-if2 : (t : ℕ) → merge-grid-lts.Need-mul-if2 (
   merge-axes-grid-reads.Asked,
   merge-axes-grid-reads.Learnt,
@@ -287,7 +259,6 @@ merge-grid-mul-if2 : (t : ℕ) → merge-grid-lts.Need-mul-if2 (
 ) (merge-grid-at t) merge-grid.Post
 merge-grid-mul-if2 t c = omega (arith, laid-head (c .before .before .before .before .before .before .before .before .args .level) (c .before .before .before .before .before .before .before .before .args .other .now) (length (c .before .before .before .before .before .before .before .before .args .theirs .now)) (length (c .before .before .before .before .before .before .before .before .args .tallies .now)) (c .before .before .before .before .before .before .before .before .args .v) (c .before .before .before .before .before .before .before .before .pre .1 .1))
 
--- src/uniting.rt:178:12
 merge-grid-shared-slice-read-if2 : (t : ℕ) → merge-grid-lts.Need-shared-slice-read-if2 (
   merge-axes-grid-reads.Asked,
   merge-axes-grid-reads.Learnt,
@@ -298,7 +269,6 @@ merge-grid-shared-slice-read-if2 : (t : ℕ) → merge-grid-lts.Need-shared-slic
 ) (merge-grid-at t) merge-grid.Post
 merge-grid-shared-slice-read-if2 t c = omega (arith, laid-head (c .before .before .before .before .before .before .before .before .before .args .level) (c .before .before .before .before .before .before .before .before .before .args .other .now) (length (c .before .before .before .before .before .before .before .before .before .args .theirs .now)) (length (c .before .before .before .before .before .before .before .before .before .args .tallies .now)) (c .before .before .before .before .before .before .before .before .before .args .v) (c .before .before .before .before .before .before .before .before .before .pre .1 .1))
 
--- src/uniting.rt:179:13
 merge-grid-returns : (t : ℕ) → merge-grid-lts.Need-returns (
   merge-axes-grid-reads.Asked,
   merge-axes-grid-reads.Learnt,
@@ -309,7 +279,6 @@ merge-grid-returns : (t : ℕ) → merge-grid-lts.Need-returns (
 ) (merge-grid-at t) merge-grid.Post
 merge-grid-returns t c = axes-bins (c .before .before .before .before .before .before .before .before .before .before .args .table .now) (c .before .before .before .before .before .before .before .before .before .before .args .other .now) (memory (c .before .before .before .before .before .before .before .before .before .before .args .theirs .now) (c .before .before .before .before .before .before .before .before .before .before .args .tallies .now)) (c .before .before .before .before .before .before .before .before .before .before .args .level) (c .before .before .before .before .before .before .before .before .before .before .args .w) (c .before .before .before .before .before .before .before .before .before .before .args .v) (memory (c .before .before .before .before .before .before .before .before .before .before .args .reals .now) (c .before .before .before .before .before .before .before .before .before .before .args .counts .now)) (c .before .before .if1 .taken) (c .if2 .taken) (laid-bins (c .before .before .before .before .before .before .before .before .before .before .args .level) (c .before .before .before .before .before .before .before .before .before .before .args .other .now) (length (c .before .before .before .before .before .before .before .before .before .before .args .theirs .now)) (length (c .before .before .before .before .before .before .before .before .before .before .args .tallies .now)) (c .before .before .before .before .before .before .before .before .before .before .args .v) (c .before .before .before .before .before .before .before .before .before .before .pre .1 .1) (c .if2 .taken) .level)
 
--- src/uniting.rt:181:9
 merge-grid-merge-axes-grid-requires : (t : ℕ) → merge-grid-lts.Need-merge-axes-grid-requires (
   merge-axes-grid-reads.Asked,
   merge-axes-grid-reads.Learnt,
@@ -320,7 +289,6 @@ merge-grid-merge-axes-grid-requires : (t : ℕ) → merge-grid-lts.Need-merge-ax
 ) (merge-grid-at t) merge-grid.Post
 merge-grid-merge-axes-grid-requires t c κs = (laid-axes (c .before .before .before .before .before .before .before .before .before .before .before .before .args .level) (c .before .before .before .before .before .before .before .before .before .before .before .before .args .table .now) (length (c .before .before .before .before .before .before .before .before .before .before .before .before .args .reals .now)) (length (c .before .before .before .before .before .before .before .before .before .before .before .before .args .counts .now)) (c .before .before .before .before .before .before .before .before .before .before .before .before .args .w) (c .before .before .before .before .before .before .before .before .before .before .before .before .pre .1 .0) (c .before .before .before .before .if1 .taken), laid-axes (c .before .before .before .before .before .before .before .before .before .before .before .before .args .level) (c .before .before .before .before .before .before .before .before .before .before .before .before .args .other .now) (length (c .before .before .before .before .before .before .before .before .before .before .before .before .args .theirs .now)) (length (c .before .before .before .before .before .before .before .before .before .before .before .before .args .tallies .now)) (c .before .before .before .before .before .before .before .before .before .before .before .before .args .v) (c .before .before .before .before .before .before .before .before .before .before .before .before .pre .1 .1) (c .before .before .if2 .left))
 
--- src/uniting.rt:182:9
 merge-grid-same-length : (t : ℕ) → merge-grid-lts.Need-same-length (
   merge-axes-grid-reads.Asked,
   merge-axes-grid-reads.Learnt,
@@ -331,7 +299,6 @@ merge-grid-same-length : (t : ℕ) → merge-grid-lts.Need-same-length (
 ) (merge-grid-at t) merge-grid.Post
 merge-grid-same-length t c = c .before .before .before .before .merge-axes-grid .kept .1 .0
 
--- src/uniting.rt:182:9
 merge-grid-same-length-2 : (t : ℕ) → merge-grid-lts.Need-same-length-2 (
   merge-axes-grid-reads.Asked,
   merge-axes-grid-reads.Learnt,
@@ -342,7 +309,6 @@ merge-grid-same-length-2 : (t : ℕ) → merge-grid-lts.Need-same-length-2 (
 ) (merge-grid-at t) merge-grid.Post
 merge-grid-same-length-2 t c = c .before .before .before .before .merge-axes-grid .kept .1 .1 .0
 
--- src/uniting.rt:182:9
 merge-grid-returns-2 : (t : ℕ) → merge-grid-lts.Need-returns-2 (
   merge-axes-grid-reads.Asked,
   merge-axes-grid-reads.Learnt,
@@ -353,7 +319,6 @@ merge-grid-returns-2 : (t : ℕ) → merge-grid-lts.Need-returns-2 (
 ) (merge-grid-at t) merge-grid.Post
 merge-grid-returns-2 t c = c .before .before .before .before .merge-axes-grid .ensures ∙ both-axes (c .before .before .before .before .before .before .before .before .before .before .before .before .before .before .before .before .before .args .table .now) (c .before .before .before .before .before .before .before .before .before .before .before .before .before .before .before .before .before .args .other .now) (memory (c .before .before .before .before .before .before .before .before .before .before .before .before .before .before .before .before .before .args .theirs .now) (c .before .before .before .before .before .before .before .before .before .before .before .before .before .before .before .before .before .args .tallies .now)) (c .before .before .before .before .before .before .before .before .before .before .before .before .before .before .before .before .before .args .level) (c .before .before .before .before .before .before .before .before .before .before .before .before .before .before .before .before .before .args .w) (c .before .before .before .before .before .before .before .before .before .before .before .before .before .before .before .before .before .args .v) (memory (c .before .before .before .before .before .before .before .before .before .before .before .before .before .before .before .before .before .args .reals .now) (c .before .before .before .before .before .before .before .before .before .before .before .before .before .before .before .before .before .args .counts .now)) (c .before .before .before .before .before .before .before .before .before .if1 .taken) (c .before .before .before .before .before .before .before .if2 .left)
 
--- src/uniting.rt:184:8
 merge-grid-mul-if3 : (t : ℕ) → merge-grid-lts.Need-mul-if3 (
   merge-axes-grid-reads.Asked,
   merge-axes-grid-reads.Learnt,
@@ -364,7 +329,6 @@ merge-grid-mul-if3 : (t : ℕ) → merge-grid-lts.Need-mul-if3 (
 ) (merge-grid-at t) merge-grid.Post
 merge-grid-mul-if3 t c = omega (arith, laid-head (c .before .before .before .before .before .before .before .before .args .level) (c .before .before .before .before .before .before .before .before .args .other .now) (length (c .before .before .before .before .before .before .before .before .args .theirs .now)) (length (c .before .before .before .before .before .before .before .before .args .tallies .now)) (c .before .before .before .before .before .before .before .before .args .v) (c .before .before .before .before .before .before .before .before .pre .1 .1))
 
--- src/uniting.rt:184:8
 merge-grid-shared-slice-read-if3 : (t : ℕ) → merge-grid-lts.Need-shared-slice-read-if3 (
   merge-axes-grid-reads.Asked,
   merge-axes-grid-reads.Learnt,
@@ -375,7 +339,6 @@ merge-grid-shared-slice-read-if3 : (t : ℕ) → merge-grid-lts.Need-shared-slic
 ) (merge-grid-at t) merge-grid.Post
 merge-grid-shared-slice-read-if3 t c = omega (arith, laid-head (c .before .before .before .before .before .before .before .before .before .args .level) (c .before .before .before .before .before .before .before .before .before .args .other .now) (length (c .before .before .before .before .before .before .before .before .before .args .theirs .now)) (length (c .before .before .before .before .before .before .before .before .before .args .tallies .now)) (c .before .before .before .before .before .before .before .before .before .args .v) (c .before .before .before .before .before .before .before .before .before .pre .1 .1))
 
--- src/uniting.rt:185:9
 merge-grid-returns-3 : (t : ℕ) → merge-grid-lts.Need-returns-3 (
   merge-axes-grid-reads.Asked,
   merge-axes-grid-reads.Learnt,
@@ -386,7 +349,6 @@ merge-grid-returns-3 : (t : ℕ) → merge-grid-lts.Need-returns-3 (
 ) (merge-grid-at t) merge-grid.Post
 merge-grid-returns-3 t c = bins-axes (c .before .before .before .before .before .before .before .before .before .before .args .table .now) (c .before .before .before .before .before .before .before .before .before .before .args .other .now) (memory (c .before .before .before .before .before .before .before .before .before .before .args .theirs .now) (c .before .before .before .before .before .before .before .before .before .before .args .tallies .now)) (c .before .before .before .before .before .before .before .before .before .before .args .level) (c .before .before .before .before .before .before .before .before .before .before .args .w) (c .before .before .before .before .before .before .before .before .before .before .args .v) (memory (c .before .before .before .before .before .before .before .before .before .before .args .reals .now) (c .before .before .before .before .before .before .before .before .before .before .args .counts .now)) (c .before .before .if1 .left) (c .if3 .taken) ((laid-bins (c .before .before .before .before .before .before .before .before .before .before .args .level) (c .before .before .before .before .before .before .before .before .before .before .args .table .now) (length (c .before .before .before .before .before .before .before .before .before .before .args .reals .now)) (length (c .before .before .before .before .before .before .before .before .before .before .args .counts .now)) (c .before .before .before .before .before .before .before .before .before .before .args .w) (c .before .before .before .before .before .before .before .before .before .before .pre .1 .0) (c .before .before .if1 .left)) .level)
 
--- src/uniting.rt:187:14
 merge-grid-add-if4 : (t : ℕ) → merge-grid-lts.Need-add-if4 (
   merge-axes-grid-reads.Asked,
   merge-axes-grid-reads.Learnt,
@@ -397,7 +359,6 @@ merge-grid-add-if4 : (t : ℕ) → merge-grid-lts.Need-add-if4 (
 ) (merge-grid-at t) merge-grid.Post
 merge-grid-add-if4 t c = omega (arith, laid-head (c .before .before .before .before .before .before .before .before .before .before .args .level) (c .before .before .before .before .before .before .before .before .before .before .args .table .now) (length (c .before .before .before .before .before .before .before .before .before .before .args .reals .now)) (length (c .before .before .before .before .before .before .before .before .before .before .args .counts .now)) (c .before .before .before .before .before .before .before .before .before .before .args .w) (c .before .before .before .before .before .before .before .before .before .before .pre .1 .0))
 
--- src/uniting.rt:187:8
 merge-grid-mul-if4 : (t : ℕ) → merge-grid-lts.Need-mul-if4 (
   merge-axes-grid-reads.Asked,
   merge-axes-grid-reads.Learnt,
@@ -408,7 +369,6 @@ merge-grid-mul-if4 : (t : ℕ) → merge-grid-lts.Need-mul-if4 (
 ) (merge-grid-at t) merge-grid.Post
 merge-grid-mul-if4 t c = omega (arith, laid-head (c .before .before .before .before .before .before .before .before .before .before .args .level) (c .before .before .before .before .before .before .before .before .before .before .args .table .now) (length (c .before .before .before .before .before .before .before .before .before .before .args .reals .now)) (length (c .before .before .before .before .before .before .before .before .before .before .args .counts .now)) (c .before .before .before .before .before .before .before .before .before .before .args .w) (c .before .before .before .before .before .before .before .before .before .before .pre .1 .0))
 
--- src/uniting.rt:187:8
 merge-grid-shared-slice-read-if4 : (t : ℕ) → merge-grid-lts.Need-shared-slice-read-if4 (
   merge-axes-grid-reads.Asked,
   merge-axes-grid-reads.Learnt,
@@ -419,7 +379,6 @@ merge-grid-shared-slice-read-if4 : (t : ℕ) → merge-grid-lts.Need-shared-slic
 ) (merge-grid-at t) merge-grid.Post
 merge-grid-shared-slice-read-if4 t c = omega (arith, laid-head (c .before .before .before .before .before .before .before .before .before .before .before .args .level) (c .before .before .before .before .before .before .before .before .before .before .before .args .table .now) (length (c .before .before .before .before .before .before .before .before .before .before .before .args .reals .now)) (length (c .before .before .before .before .before .before .before .before .before .before .before .args .counts .now)) (c .before .before .before .before .before .before .before .before .before .before .before .args .w) (c .before .before .before .before .before .before .before .before .before .before .before .pre .1 .0))
 
--- src/uniting.rt:187:30
 merge-grid-add-if4-2 : (t : ℕ) → merge-grid-lts.Need-add-if4-2 (
   merge-axes-grid-reads.Asked,
   merge-axes-grid-reads.Learnt,
@@ -430,7 +389,6 @@ merge-grid-add-if4-2 : (t : ℕ) → merge-grid-lts.Need-add-if4-2 (
 ) (merge-grid-at t) merge-grid.Post
 merge-grid-add-if4-2 t c = omega (arith, laid-head (c .before .before .before .before .before .before .before .before .before .before .before .args .level) (c .before .before .before .before .before .before .before .before .before .before .before .args .other .now) (length (c .before .before .before .before .before .before .before .before .before .before .before .args .theirs .now)) (length (c .before .before .before .before .before .before .before .before .before .before .before .args .tallies .now)) (c .before .before .before .before .before .before .before .before .before .before .before .args .v) (c .before .before .before .before .before .before .before .before .before .before .before .pre .1 .1))
 
--- src/uniting.rt:187:24
 merge-grid-mul-if4-2 : (t : ℕ) → merge-grid-lts.Need-mul-if4-2 (
   merge-axes-grid-reads.Asked,
   merge-axes-grid-reads.Learnt,
@@ -441,7 +399,6 @@ merge-grid-mul-if4-2 : (t : ℕ) → merge-grid-lts.Need-mul-if4-2 (
 ) (merge-grid-at t) merge-grid.Post
 merge-grid-mul-if4-2 t c = omega (arith, laid-head (c .before .before .before .before .before .before .before .before .before .before .before .args .level) (c .before .before .before .before .before .before .before .before .before .before .before .args .other .now) (length (c .before .before .before .before .before .before .before .before .before .before .before .args .theirs .now)) (length (c .before .before .before .before .before .before .before .before .before .before .before .args .tallies .now)) (c .before .before .before .before .before .before .before .before .before .before .before .args .v) (c .before .before .before .before .before .before .before .before .before .before .before .pre .1 .1))
 
--- src/uniting.rt:187:24
 merge-grid-shared-slice-read-if4-2 : (t : ℕ) → merge-grid-lts.Need-shared-slice-read-if4-2 (
   merge-axes-grid-reads.Asked,
   merge-axes-grid-reads.Learnt,
@@ -452,7 +409,6 @@ merge-grid-shared-slice-read-if4-2 : (t : ℕ) → merge-grid-lts.Need-shared-sl
 ) (merge-grid-at t) merge-grid.Post
 merge-grid-shared-slice-read-if4-2 t c = omega (arith, laid-head (c .before .before .before .before .before .before .before .before .before .before .before .before .args .level) (c .before .before .before .before .before .before .before .before .before .before .before .before .args .other .now) (length (c .before .before .before .before .before .before .before .before .before .before .before .before .args .theirs .now)) (length (c .before .before .before .before .before .before .before .before .before .before .before .before .args .tallies .now)) (c .before .before .before .before .before .before .before .before .before .before .before .before .args .v) (c .before .before .before .before .before .before .before .before .before .before .before .before .pre .1 .1))
 
--- src/uniting.rt:188:9
 merge-grid-returns-4 : (t : ℕ) → merge-grid-lts.Need-returns-4 (
   merge-axes-grid-reads.Asked,
   merge-axes-grid-reads.Learnt,
@@ -463,7 +419,6 @@ merge-grid-returns-4 : (t : ℕ) → merge-grid-lts.Need-returns-4 (
 ) (merge-grid-at t) merge-grid.Post
 merge-grid-returns-4 t c = many-differ (c .before .before .before .before .before .before .before .before .before .before .before .before .before .args .table .now) (c .before .before .before .before .before .before .before .before .before .before .before .before .before .args .other .now) (memory (c .before .before .before .before .before .before .before .before .before .before .before .before .before .args .theirs .now) (c .before .before .before .before .before .before .before .before .before .before .before .before .before .args .tallies .now)) (c .before .before .before .before .before .before .before .before .before .before .before .before .before .args .level) (c .before .before .before .before .before .before .before .before .before .before .before .before .before .args .w) (c .before .before .before .before .before .before .before .before .before .before .before .before .before .args .v) (memory (c .before .before .before .before .before .before .before .before .before .before .before .before .before .args .reals .now) (c .before .before .before .before .before .before .before .before .before .before .before .before .before .args .counts .now)) (c .before .before .before .before .before .if1 .left) (c .before .before .before .if3 .left) (c .if4 .taken) ((laid-bins (c .before .before .before .before .before .before .before .before .before .before .before .before .before .args .level) (c .before .before .before .before .before .before .before .before .before .before .before .before .before .args .table .now) (length (c .before .before .before .before .before .before .before .before .before .before .before .before .before .args .reals .now)) (length (c .before .before .before .before .before .before .before .before .before .before .before .before .before .args .counts .now)) (c .before .before .before .before .before .before .before .before .before .before .before .before .before .args .w) (c .before .before .before .before .before .before .before .before .before .before .before .before .before .pre .1 .0) (c .before .before .before .before .before .if1 .left)) .level)
 
--- src/uniting.rt:190:17
 merge-grid-sub-below : (t : ℕ) → merge-grid-lts.Need-sub-below (
   merge-axes-grid-reads.Asked,
   merge-axes-grid-reads.Learnt,
@@ -474,7 +429,6 @@ merge-grid-sub-below : (t : ℕ) → merge-grid-lts.Need-sub-below (
 ) (merge-grid-at t) merge-grid.Post
 merge-grid-sub-below t c = omega (arith, (laid-bins (c .before .before .before .before .before .before .before .before .before .before .before .before .before .args .level) (c .before .before .before .before .before .before .before .before .before .before .before .before .before .args .table .now) (length (c .before .before .before .before .before .before .before .before .before .before .before .before .before .args .reals .now)) (length (c .before .before .before .before .before .before .before .before .before .before .before .before .before .args .counts .now)) (c .before .before .before .before .before .before .before .before .before .before .before .before .before .args .w) (c .before .before .before .before .before .before .before .before .before .before .before .before .before .pre .1 .0) (c .before .before .before .before .before .if1 .left)) .level)
 
--- src/uniting.rt:191:5
 merge-grid-merge-own-requires : (t : ℕ) → merge-grid-lts.Need-merge-own-requires (
   merge-axes-grid-reads.Asked,
   merge-axes-grid-reads.Learnt,
@@ -485,7 +439,6 @@ merge-grid-merge-own-requires : (t : ℕ) → merge-grid-lts.Need-merge-own-requ
 ) (merge-grid-at t) merge-grid.Post
 merge-grid-merge-own-requires t c κs = (own-room (Laid (c .before .before .before .before .before .before .before .before .before .before .before .before .before .before .before .args .level - 1) (c .before .before .before .before .before .before .before .before .before .before .before .before .before .before .before .args .table .now) (length (c .before .before .before .before .before .before .before .before .before .before .before .before .before .before .before .args .reals .now)) (length (c .before .before .before .before .before .before .before .before .before .before .before .before .before .before .before .args .counts .now))) (c .before .before .before .before .before .before .before .before .before .before .before .before .before .before .before .args .table .now) (length (c .before .before .before .before .before .before .before .before .before .before .before .before .before .before .before .args .reals .now)) (length (c .before .before .before .before .before .before .before .before .before .before .before .before .before .before .before .args .counts .now)) (c .before .before .before .before .before .before .before .before .before .before .before .before .before .before .before .args .w) ((laid-bins (c .before .before .before .before .before .before .before .before .before .before .before .before .before .before .before .args .level) (c .before .before .before .before .before .before .before .before .before .before .before .before .before .before .before .args .table .now) (length (c .before .before .before .before .before .before .before .before .before .before .before .before .before .before .before .args .reals .now)) (length (c .before .before .before .before .before .before .before .before .before .before .before .before .before .before .before .args .counts .now)) (c .before .before .before .before .before .before .before .before .before .before .before .before .before .before .before .args .w) (c .before .before .before .before .before .before .before .before .before .before .before .before .before .before .before .pre .1 .0) (c .before .before .before .before .before .before .before .if1 .left)) .bins), own-room (Laid (c .before .before .before .before .before .before .before .before .before .before .before .before .before .before .before .args .level - 1) (c .before .before .before .before .before .before .before .before .before .before .before .before .before .before .before .args .other .now) (length (c .before .before .before .before .before .before .before .before .before .before .before .before .before .before .before .args .theirs .now)) (length (c .before .before .before .before .before .before .before .before .before .before .before .before .before .before .before .args .tallies .now))) (c .before .before .before .before .before .before .before .before .before .before .before .before .before .before .before .args .other .now) (length (c .before .before .before .before .before .before .before .before .before .before .before .before .before .before .before .args .theirs .now)) (length (c .before .before .before .before .before .before .before .before .before .before .before .before .before .before .before .args .tallies .now)) (c .before .before .before .before .before .before .before .before .before .before .before .before .before .before .before .args .v) ((laid-bins (c .before .before .before .before .before .before .before .before .before .before .before .before .before .before .before .args .level) (c .before .before .before .before .before .before .before .before .before .before .before .before .before .before .before .args .other .now) (length (c .before .before .before .before .before .before .before .before .before .before .before .before .before .before .before .args .theirs .now)) (length (c .before .before .before .before .before .before .before .before .before .before .before .before .before .before .before .args .tallies .now)) (c .before .before .before .before .before .before .before .before .before .before .before .before .before .before .before .args .v) (c .before .before .before .before .before .before .before .before .before .before .before .before .before .before .before .pre .1 .1) (c .before .before .before .before .before .if3 .left)) .bins), c .before .before .if4 .left)
 
--- src/uniting.rt:192:5
 merge-grid-merge-children-requires : (t : ℕ) → merge-grid-lts.Need-merge-children-requires (
   merge-axes-grid-reads.Asked,
   merge-axes-grid-reads.Learnt,
@@ -496,7 +449,6 @@ merge-grid-merge-children-requires : (t : ℕ) → merge-grid-lts.Need-merge-chi
 ) (merge-grid-at t) merge-grid.Post
 merge-grid-merge-children-requires t c κs = (omega (arith, c .before .before .before .before .before .before .before .before .before .before .before .before .before .before .before .before .before .before .before .before .before .before .pre .0, (laid-bins (c .before .before .before .before .before .before .before .before .before .before .before .before .before .before .before .before .before .before .before .before .before .before .args .level) (c .before .before .before .before .before .before .before .before .before .before .before .before .before .before .before .before .before .before .before .before .before .before .args .table .now) (length (c .before .before .before .before .before .before .before .before .before .before .before .before .before .before .before .before .before .before .before .before .before .before .args .reals .now)) (length (c .before .before .before .before .before .before .before .before .before .before .before .before .before .before .before .before .before .before .before .before .before .before .args .counts .now)) (c .before .before .before .before .before .before .before .before .before .before .before .before .before .before .before .before .before .before .before .before .before .before .args .w) (c .before .before .before .before .before .before .before .before .before .before .before .before .before .before .before .before .before .before .before .before .before .before .pre .1 .0) (c .before .before .before .before .before .before .before .before .before .before .before .before .before .before .if1 .left)) .level), (bins-kept (c .before .before .before .before .before .before .before .before .before .before .before .before .before .before .before .before .before .before .before .before .before .before .args .level - 1) (c .before .before .before .before .before .before .before .before .before .before .before .before .before .before .before .before .before .before .before .before .before .before .args .table .now) (length (c .before .before .before .before .before .before .before .before .before .before .before .before .before .before .before .before .before .before .before .before .before .before .args .reals .now)) (length (c .before .before .before .before .before .before .before .before .before .before .before .before .before .before .before .before .before .before .before .before .before .before .args .counts .now)) (length (c .before .before .before .before .before .before .merge-own .last .1 .0)) (length (c .before .before .before .before .before .before .merge-own .last .1 .1 .0)) (c .before .before .before .before .before .before .before .before .before .before .before .before .before .before .before .before .before .before .before .before .before .before .args .w) (c .before .before .before .before .before .before .merge-own .kept .1 .0) (c .before .before .before .before .before .before .merge-own .kept .1 .1 .0) ((laid-bins (c .before .before .before .before .before .before .before .before .before .before .before .before .before .before .before .before .before .before .before .before .before .before .args .level) (c .before .before .before .before .before .before .before .before .before .before .before .before .before .before .before .before .before .before .before .before .before .before .args .table .now) (length (c .before .before .before .before .before .before .before .before .before .before .before .before .before .before .before .before .before .before .before .before .before .before .args .reals .now)) (length (c .before .before .before .before .before .before .before .before .before .before .before .before .before .before .before .before .before .before .before .before .before .before .args .counts .now)) (c .before .before .before .before .before .before .before .before .before .before .before .before .before .before .before .before .before .before .before .before .before .before .args .w) (c .before .before .before .before .before .before .before .before .before .before .before .before .before .before .before .before .before .before .before .before .before .before .pre .1 .0) (c .before .before .before .before .before .before .before .before .before .before .before .before .before .before .if1 .left)) .bins), (laid-bins (c .before .before .before .before .before .before .before .before .before .before .before .before .before .before .before .before .before .before .before .before .before .before .args .level) (c .before .before .before .before .before .before .before .before .before .before .before .before .before .before .before .before .before .before .before .before .before .before .args .other .now) (length (c .before .before .before .before .before .before .before .before .before .before .before .before .before .before .before .before .before .before .before .before .before .before .args .theirs .now)) (length (c .before .before .before .before .before .before .before .before .before .before .before .before .before .before .before .before .before .before .before .before .before .before .args .tallies .now)) (c .before .before .before .before .before .before .before .before .before .before .before .before .before .before .before .before .before .before .before .before .before .before .args .v) (c .before .before .before .before .before .before .before .before .before .before .before .before .before .before .before .before .before .before .before .before .before .before .pre .1 .1) (c .before .before .before .before .before .before .before .before .before .before .before .before .if3 .left)) .bins, c .before .before .before .before .before .before .before .before .before .if4 .left))
 
--- src/uniting.rt:162:1
 merge-grid-same-length-3 : (t : ℕ) → merge-grid-lts.Need-same-length-3 (
   merge-axes-grid-reads.Asked,
   merge-axes-grid-reads.Learnt,
@@ -507,7 +459,6 @@ merge-grid-same-length-3 : (t : ℕ) → merge-grid-lts.Need-same-length-3 (
 ) (merge-grid-at t) merge-grid.Post
 merge-grid-same-length-3 t c = c .before .before .before .before .merge-children .kept .1 .0 ∙ c .before .before .before .before .before .before .before .before .before .before .before .merge-own .kept .1 .0
 
--- src/uniting.rt:162:1
 merge-grid-same-length-4 : (t : ℕ) → merge-grid-lts.Need-same-length-4 (
   merge-axes-grid-reads.Asked,
   merge-axes-grid-reads.Learnt,
@@ -518,7 +469,6 @@ merge-grid-same-length-4 : (t : ℕ) → merge-grid-lts.Need-same-length-4 (
 ) (merge-grid-at t) merge-grid.Post
 merge-grid-same-length-4 t c = c .before .before .before .before .merge-children .kept .1 .1 .0 ∙ c .before .before .before .before .before .before .before .before .before .before .before .merge-own .kept .1 .1 .0
 
--- src/uniting.rt:162:1
 merge-grid-returns-5 : (t : ℕ) → merge-grid-lts.Need-returns-5 (
   merge-axes-grid-reads.Asked,
   merge-axes-grid-reads.Learnt,

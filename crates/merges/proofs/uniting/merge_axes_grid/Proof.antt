@@ -9,11 +9,6 @@ use Rattle.lent.proofs.Unites.{spaced-at, axes-stay, axes-united}
 use borrow.Author.Needs.{needs}
 use Rattle.merges.proofs.uniting.merge_axes_grid.Statement.{statement}
 use Rattle.merges.proofs.uniting.merge_axes_grid.Tie as tie
-use Rattle.merges.proofs.uniting.merge_axes_grid.Reads as reads
-use Rattle.merges.proofs.uniting.merge_axes_grid.Lts as lts
-use Rattle.lent.proofs.layout.axes_place.Reads as axes-place-reads
-use Rattle.merges.proofs.merging.merge_axes.Reads as merge-axes-reads
-use Rattle.merges.proofs.uniting.join_account.Reads as join-account-reads
 
 -- where the axes of both stand
 mine : (c : tie.After-axes-place) → c .axes-place .result ≡ axesPlace (c .before .before .before .before .before .before .before .before .before .before .before .args .table .now) (c .before .before .before .before .before .before .before .before .before .before .before .args .w)
@@ -22,83 +17,63 @@ mine c = placed (c .before .before .before .before .before .before .before .befo
 theirs : (c : tie.After-axes-place2) → c .axes-place2 .result ≡ axesPlace (c .before .before .before .before .before .before .before .before .before .before .before .before .args .other .now) (c .before .before .before .before .before .before .before .before .before .before .before .before .args .v)
 theirs c = placed (c .before .before .before .before .before .before .before .before .before .before .before .before .args .other .now) (c .before .before .before .before .before .before .before .before .before .before .before .before .args .v) (c .axes-place2 .ensures) (search needs)
 
--- src/uniting.rt:52:19
 add-r : tie.Need-add-r
 add-r c = search needs
 
--- src/uniting.rt:52:13
 mul-r : tie.Need-mul-r
 mul-r c = search needs
 
--- src/uniting.rt:52:13
 shared-slice-read-r : tie.Need-shared-slice-read-r
 shared-slice-read-r c = search needs
 
--- src/uniting.rt:53:19
 add-c : tie.Need-add-c
 add-c c = search needs
 
--- src/uniting.rt:53:13
 mul-c : tie.Need-mul-c
 mul-c c = search needs
 
--- src/uniting.rt:53:13
 shared-slice-read-c : tie.Need-shared-slice-read-c
 shared-slice-read-c c = search needs
 
--- src/uniting.rt:54:19
 add-q : tie.Need-add-q
 add-q c = search needs
 
--- src/uniting.rt:54:13
 mul-q : tie.Need-mul-q
 mul-q c = search needs
 
--- src/uniting.rt:54:13
 shared-slice-read-q : tie.Need-shared-slice-read-q
 shared-slice-read-q c = search needs
 
--- src/uniting.rt:55:19
 add-d : tie.Need-add-d
 add-d c = search needs
 
--- src/uniting.rt:55:13
 mul-d : tie.Need-mul-d
 mul-d c = search needs
 
--- src/uniting.rt:55:13
 shared-slice-read-d : tie.Need-shared-slice-read-d
 shared-slice-read-d c = search needs
 
--- src/uniting.rt:56:9
 axes-place-requires : tie.Need-axes-place-requires
 axes-place-requires c κs = tt
 
--- src/uniting.rt:57:9
 axes-place-requires-2 : tie.Need-axes-place-requires-2
 axes-place-requires-2 c κs = tt
 
--- src/uniting.rt:59:9
 returns : tie.Need-returns
 returns c = axes-stay (c .before .before .before .before .before .before .before .before .before .before .before .before .before .before .before .args .table .now) (c .before .before .before .before .before .before .before .before .before .before .before .before .before .before .before .args .other .now) (memory (c .before .before .before .before .before .before .before .before .before .before .before .before .before .before .before .args .theirs .now) (c .before .before .before .before .before .before .before .before .before .before .before .before .before .before .before .args .tallies .now)) (c .before .before .before .before .before .before .before .before .before .before .before .before .before .before .before .args .w) (c .before .before .before .before .before .before .before .before .before .before .before .before .before .before .before .args .v) (c .before .before .before .before .axes-place .result) (c .before .before .before .axes-place2 .result) (memory (c .before .before .before .before .before .before .before .before .before .before .before .before .before .before .before .args .reals .now) (c .before .before .before .before .before .before .before .before .before .before .before .before .before .before .before .args .counts .now)) (mine (c .before .before .before .before)) (theirs (c .before .before .before)) (c .if1 .taken)
 
--- src/uniting.rt:61:5
 join-account-requires : tie.Need-join-account-requires
 join-account-requires c κs = search needs
 
--- src/uniting.rt:62:5
 merge-axes-requires : tie.Need-merge-axes-requires
 merge-axes-requires c κs = (spaced-at (c .before .before .before .before .before .before .before .before .before .before .before .before .before .before .before .before .before .before .before .before .before .before .before .before .args .table .now) (length (c .before .before .before .before .before .before .before .before .before .before .before .before .before .before .before .before .before .before .before .before .before .before .before .before .args .reals .now)) (length (c .before .before .before .before .before .before .before .before .before .before .before .before .before .before .before .before .before .before .before .before .before .before .before .before .args .counts .now)) (c .before .before .before .before .before .before .before .before .before .before .before .before .before .before .before .before .before .before .before .before .before .before .before .before .args .w) (length (c .before .before .before .before .before .before .join-account .last .0)) (length (c .before .before .before .before .before .before .join-account .last .1 .0)) (c .before .before .before .before .before .before .before .before .before .before .before .before .before .axes-place .result) (c .before .before .before .before .before .before .before .before .before .before .before .before .before .before .before .before .before .before .before .before .before .before .before .before .pre .0) (c .before .before .before .before .before .before .join-account .kept .0) (c .before .before .before .before .before .before .join-account .kept .1 .0) (mine (c .before .before .before .before .before .before .before .before .before .before .before .before .before)), spaced-at (c .before .before .before .before .before .before .before .before .before .before .before .before .before .before .before .before .before .before .before .before .before .before .before .before .args .other .now) (length (c .before .before .before .before .before .before .before .before .before .before .before .before .before .before .before .before .before .before .before .before .before .before .before .before .args .theirs .now)) (length (c .before .before .before .before .before .before .before .before .before .before .before .before .before .before .before .before .before .before .before .before .before .before .before .before .args .tallies .now)) (c .before .before .before .before .before .before .before .before .before .before .before .before .before .before .before .before .before .before .before .before .before .before .before .before .args .v) (length (c .before .before .before .before .before .before .before .before .before .before .before .before .before .before .before .before .before .before .before .before .before .before .before .before .args .theirs .now)) (length (c .before .before .before .before .before .before .before .before .before .before .before .before .before .before .before .before .before .before .before .before .before .before .before .before .args .tallies .now)) (c .before .before .before .before .before .before .before .before .before .before .before .before .axes-place2 .result) (c .before .before .before .before .before .before .before .before .before .before .before .before .before .before .before .before .before .before .before .before .before .before .before .before .pre .1) refl refl (theirs (c .before .before .before .before .before .before .before .before .before .before .before .before)), omega (arith, c .before .before .before .before .before .before .before .before .before .if1 .left))
 
--- src/uniting.rt:38:1
 same-length : tie.Need-same-length
 same-length c = search needs
 
--- src/uniting.rt:38:1
 same-length-2 : tie.Need-same-length-2
 same-length-2 c = search needs
 
--- src/uniting.rt:38:1
 returns-2 : tie.Need-returns-2
 returns-2 c = axes-united (c .before .before .before .before .before .before .before .before .before .before .before .before .before .before .before .before .before .before .before .before .before .before .before .before .before .before .before .before .before .args .table .now) (c .before .before .before .before .before .before .before .before .before .before .before .before .before .before .before .before .before .before .before .before .before .before .before .before .before .before .before .before .before .args .other .now) (memory (c .before .before .before .before .before .before .before .before .before .before .before .before .before .before .before .before .before .before .before .before .before .before .before .before .before .before .before .before .before .args .theirs .now) (c .before .before .before .before .before .before .before .before .before .before .before .before .before .before .before .before .before .before .before .before .before .before .before .before .before .before .before .before .before .args .tallies .now)) (c .before .before .before .before .before .before .before .before .before .before .before .before .before .before .before .before .before .before .before .before .before .before .before .before .before .before .before .before .before .args .w) (c .before .before .before .before .before .before .before .before .before .before .before .before .before .before .before .before .before .before .before .before .before .before .before .before .before .before .before .before .before .args .v) (c .before .before .before .before .before .before .before .before .before .before .before .before .before .before .before .before .before .before .axes-place .result) (c .before .before .before .before .before .before .before .before .before .before .before .before .before .before .before .before .before .axes-place2 .result) (memory (c .before .before .before .before .before .before .before .before .before .before .before .before .before .before .before .before .before .before .before .before .before .before .before .before .before .before .before .before .before .args .reals .now) (c .before .before .before .before .before .before .before .before .before .before .before .before .before .before .before .before .before .before .before .before .before .before .before .before .before .before .before .before .before .args .counts .now)) (memory (c .before .before .before .before .before .before .before .before .before .before .before .join-account .last .0) (c .before .before .before .before .before .before .before .before .before .before .before .join-account .last .1 .0)) (memory (c .before .before .before .before .merge-axes .last .0) (c .before .before .before .before .merge-axes .last .1 .0)) (mine (c .before .before .before .before .before .before .before .before .before .before .before .before .before .before .before .before .before .before)) (theirs (c .before .before .before .before .before .before .before .before .before .before .before .before .before .before .before .before .before)) (c .before .before .before .before .before .before .before .before .before .before .before .before .before .before .if1 .left) (c .before .before .before .before .before .before .before .before .before .before .before .join-account .ensures) (c .before .before .before .before .merge-axes .ensures)
 

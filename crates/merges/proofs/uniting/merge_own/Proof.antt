@@ -9,10 +9,6 @@ use Rattle.lent.proofs.Unites.{bins-next, bins-done, own-united}
 use Rattle.merges.proofs.Places.{bin-there, bin-united}
 use Rattle.merges.proofs.uniting.merge_own.Statement.{statement}
 use Rattle.merges.proofs.uniting.merge_own.Tie as tie
-use Rattle.merges.proofs.uniting.merge_own.Reads as reads
-use Rattle.merges.proofs.uniting.merge_own.Lts as lts
-use Rattle.merges.proofs.bins.bin_place.Reads as bin-place-reads
-use Rattle.merges.proofs.uniting.join_account.Reads as join-account-reads
 
 abbrev Inv-loop : tie.InvT-loop
 Inv-loop table reals₀ counts₀ w other theirs tallies v n r c q d i₀ reals counts i = (i ≤ n) × (length reals ≡ length reals₀) × (length counts ≡ length counts₀) × (unitedBins table other (memory theirs tallies) w v i (n - i) (memory reals counts) ≡ unitedBins table other (memory theirs tallies) w v 0 n (memory reals₀ counts₀))

@@ -4,7 +4,6 @@ use lib.Ieee.{binary64}
 use lib.Ieee.Bits.{nanBits-is}
 use Rattle.plan.specs.Ranges.{floorFits}
 use Rattle.plan.proofs.Ranges.{nan-floor}
-use native.Mathlib.Omega.{arith}
 use Rattle.plan.proofs.bits.floor_fits.Statement.{statement}
 use Rattle.plan.proofs.bits.floor_fits.Tie as tie
 

@@ -4,7 +4,6 @@ use lib.Ieee.{binary64}
 use lib.Ieee.Bits.{nanBits-is}
 use Rattle.plan.specs.Ranges.{ratioFits}
 use Rattle.plan.proofs.Ranges.{nan-ratio}
-use native.Mathlib.Omega.{arith}
 use Rattle.plan.proofs.bits.ratio_fits.Statement.{statement}
 use Rattle.plan.proofs.bits.ratio_fits.Tie as tie
 

@@ -3,7 +3,6 @@ use borrow.Author.Tests.{eq-eqb, ne-eqb, le-leb, lt-leb}
 use mathlib.Core.Path.{sym, _∙_}
 use Rattle.doubles.proofs.Truth.{failed, passed}
 use Rattle.plan.specs.Fields.{binsFault}
-use native.Mathlib.Omega.{arith}
 use Rattle.plan.proofs.fields.bins_fault.Statement.{statement}
 use Rattle.plan.proofs.fields.bins_fault.Tie as tie
 

@@ -1,7 +1,6 @@
 -- The tag picks the field.
 use borrow.Author.Tests.{eq-eqb, ne-eqb}
 use Rattle.plan.specs.Fields.{fieldOf}
-use native.Mathlib.Omega.{arith}
 use borrow.Author.Needs.{needs}
 use Rattle.plan.proofs.fields.field_at.Statement.{statement}
 use Rattle.plan.proofs.fields.field_at.Tie as tie

@@ -4,7 +4,6 @@ use borrow.Author.Tests.{ne-eqb}
 use Rattle.plan.specs.Walk.{binsAtWord}
 use Rattle.doubles.proofs.Truth.{failed, passed}
 use Rattle.plan.proofs.Faults.{bins-fit}
-use native.Mathlib.Omega.{arith}
 use borrow.Author.Needs.{needs}
 use Rattle.plan.proofs.walking.bins_at_word.Statement.{statement}
 use Rattle.plan.proofs.walking.bins_at_word.Tie as tie

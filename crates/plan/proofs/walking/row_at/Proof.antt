@@ -1,7 +1,6 @@
 -- The kind picks the record.
 use borrow.Author.Tests.{eq-eqb, ne-eqb}
 use Rattle.plan.specs.Walk.{rowOf}
-use native.Mathlib.Omega.{arith}
 use borrow.Author.Needs.{needs}
 use Rattle.plan.proofs.walking.row_at.Statement.{statement}
 use Rattle.plan.proofs.walking.row_at.Tie as tie

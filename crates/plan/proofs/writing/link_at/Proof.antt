@@ -2,7 +2,6 @@
 use mathlib.Core.Path.{sym, _∙_}
 use borrow.Author.Tests.{eq-eqb, ne-eqb}
 use Rattle.plan.specs.Table.{linkAt}
-use native.Mathlib.Omega.{arith}
 use Rattle.plan.proofs.writing.link_at.Statement.{statement}
 use Rattle.plan.proofs.writing.link_at.Tie as tie
 

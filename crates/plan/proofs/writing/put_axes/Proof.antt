@@ -3,9 +3,6 @@ use native.Mathlib.Omega.{arith}
 use Rattle.plan.specs.Table.{headAxes}
 use Rattle.plan.proofs.writing.put_axes.Statement.{statement}
 use Rattle.plan.proofs.writing.put_axes.Tie as tie
-use Rattle.plan.proofs.writing.put_axes.Reads as reads
-use Rattle.plan.proofs.writing.put_axes.Lts as lts
-use Rattle.plan.proofs.writing.set_words.Reads as set-words-reads
 
 slice-aggregate-set-words : tie.Need-slice-aggregate-set-words
 slice-aggregate-set-words c = omega arith

@@ -3,9 +3,6 @@ use native.Mathlib.Omega.{arith}
 use Rattle.plan.specs.Table.{headBins}
 use Rattle.plan.proofs.writing.put_bins.Statement.{statement}
 use Rattle.plan.proofs.writing.put_bins.Tie as tie
-use Rattle.plan.proofs.writing.put_bins.Reads as reads
-use Rattle.plan.proofs.writing.put_bins.Lts as lts
-use Rattle.plan.proofs.writing.set_words.Reads as set-words-reads
 
 slice-aggregate-set-words : tie.Need-slice-aggregate-set-words
 slice-aggregate-set-words c = omega arith

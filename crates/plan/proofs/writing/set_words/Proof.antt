@@ -8,8 +8,6 @@ use lib.Seq.{sets}
 use Rattle.doubles.proofs.Runs.{sets-next, sets-done}
 use Rattle.plan.proofs.writing.set_words.Statement.{statement}
 use Rattle.plan.proofs.writing.set_words.Tie as tie
-use Rattle.plan.proofs.writing.set_words.Reads as reads
-use Rattle.plan.proofs.writing.set_words.Lts as lts
 
 abbrev Inv-loop : tie.InvT-loop
 Inv-loop table₀ at part i₀ table i =
@@ -18,54 +16,42 @@ Inv-loop table₀ at part i₀ table i =
 abbrev μ-loop : tie.MeasureT-loop
 μ-loop table₀ at part i₀ table i = length part - i
 
--- src/writing.rt:26:5
 loop-holds : tie.Need-loop-holds Inv-loop μ-loop
 loop-holds c = let e : c .args .at + 0 ≡ c .args .at = omega arith in (omega arith, refl, rw e)
 
--- src/writing.rt:27:12
 sub-if1 : tie.Need-sub-if1 Inv-loop μ-loop
 sub-if1 c = omega (arith, c .before .loop .inv .0)
 
--- src/writing.rt:28:13
 same-length : tie.Need-same-length Inv-loop μ-loop
 same-length c = c .before .before .loop .inv .1
 
--- src/writing.rt:28:13
 returns : tie.Need-returns Inv-loop μ-loop
 returns c =
     let l = c .before .before .loop in
     let o = c .before .before .before .args in
     sym (sets-done (o .part .now) (l .table) (o .at) (l .i) (inr (omega (arith, l .inv .0, c .if1 .taken)))) ∙ l .inv .2
 
--- src/writing.rt:30:25
 mul-table : tie.Need-mul-table Inv-loop μ-loop
 mul-table c = omega arith
 
--- src/writing.rt:30:25
 shared-slice-read-table : tie.Need-shared-slice-read-table Inv-loop μ-loop
 shared-slice-read-table c = omega arith
 
--- src/writing.rt:30:15
 add-table : tie.Need-add-table Inv-loop μ-loop
 add-table c = omega (arith, c .before .before .before .loop .inv .0)
 
--- src/writing.rt:30:9
 mul-table-2 : tie.Need-mul-table-2 Inv-loop μ-loop
 mul-table-2 c = omega (arith, c .before .before .before .loop .inv .0)
 
--- src/writing.rt:30:9
 slice-write-table : tie.Need-slice-write-table Inv-loop μ-loop
 slice-write-table c = omega (arith, c .before .before .before .loop .inv .0)
 
--- src/writing.rt:31:9
 add-i : tie.Need-add-i Inv-loop μ-loop
 add-i c = omega arith
 
--- src/writing.rt:26:5
 loop-less : tie.Need-loop-less Inv-loop μ-loop
 loop-less c = omega arith
 
--- src/writing.rt:26:5
 loop-again : tie.Need-loop-again Inv-loop μ-loop
 loop-again c =
     let l = c .before .before .before .loop in
@@ -75,11 +61,9 @@ loop-again c =
       sets-next 0 (o .part .now) (l .table) (o .at) (l .i) (omega arith) ∙ l .inv .2,
     )
 
--- src/writing.rt:22:1
 same-length-2 : tie.Need-same-length-2 Inv-loop μ-loop
 same-length-2 c = c .before .loop .inv .1
 
--- src/writing.rt:22:1
 returns-2 : tie.Need-returns-2 Inv-loop μ-loop
 returns-2 c =
     let l = c .before .loop in

@@ -35,7 +35,6 @@ estimate-along-below t =
     (falls 3 estimate-along-kinds.ps _<_ μ-estimate-along t)
     estimate-along.Pre
 
--- src/along.rt:46:8
 estimate-along-mul-if1 : (t : ℕ) → estimate-along-lts.Need-mul-if1 (
   estimate-of-bin-reads.Asked,
   estimate-of-bin-reads.Learnt,
@@ -44,7 +43,6 @@ estimate-along-mul-if1 : (t : ℕ) → estimate-along-lts.Need-mul-if1 (
 ) (estimate-along-at t) estimate-along.Post
 estimate-along-mul-if1 t c = omega (arith, laid-head (c .before .before .before .args .level) (c .before .before .before .args .table .now) (length (c .before .before .before .args .reals .now)) (length (c .before .before .before .args .counts .now)) (c .before .before .before .args .w) (c .before .before .before .pre .1 .0))
 
--- src/along.rt:46:8
 estimate-along-shared-slice-read-if1 : (t : ℕ) → estimate-along-lts.Need-shared-slice-read-if1 (
   estimate-of-bin-reads.Asked,
   estimate-of-bin-reads.Learnt,
@@ -53,7 +51,6 @@ estimate-along-shared-slice-read-if1 : (t : ℕ) → estimate-along-lts.Need-sha
 ) (estimate-along-at t) estimate-along.Post
 estimate-along-shared-slice-read-if1 t c = omega (arith, laid-head (c .before .before .before .before .args .level) (c .before .before .before .before .args .table .now) (length (c .before .before .before .before .args .reals .now)) (length (c .before .before .before .before .args .counts .now)) (c .before .before .before .before .args .w) (c .before .before .before .before .pre .1 .0))
 
--- src/along.rt:47:9
 estimate-along-returns : (t : ℕ) → estimate-along-lts.Need-returns (
   estimate-of-bin-reads.Asked,
   estimate-of-bin-reads.Learnt,
@@ -63,7 +60,6 @@ estimate-along-returns : (t : ℕ) → estimate-along-lts.Need-returns (
 unfolding paperEstimated
 estimate-along-returns t c = axes-none (c .before .before .before .before .before .args .level) (c .before .before .before .before .before .args .table .now) (c .before .before .before .before .before .args .reals .now) (c .before .before .before .before .before .args .counts .now) (c .before .before .before .before .before .args .w) (c .before .before .before .before .before .args .t6) (c .before .before .before .before .before .args .levels) (c .before .before .before .before .before .args .depth) (c .if1 .taken)
 
--- src/along.rt:50:9
 estimate-along-returns-2 : (t : ℕ) → estimate-along-lts.Need-returns-2 (
   estimate-of-bin-reads.Asked,
   estimate-of-bin-reads.Learnt,
@@ -73,7 +69,6 @@ estimate-along-returns-2 : (t : ℕ) → estimate-along-lts.Need-returns-2 (
 unfolding paperEstimated
 estimate-along-returns-2 t c = path-ended (c .before .before .before .before .before .before .args .level) (c .before .before .before .before .before .before .args .table .now) (c .before .before .before .before .before .before .args .reals .now) (c .before .before .before .before .before .before .args .counts .now) (c .before .before .before .before .before .before .args .w) (c .before .before .before .before .before .before .args .t6) (c .before .before .before .before .before .before .args .levels) (c .before .before .before .before .before .before .args .depth) (c .before .if1 .left) ((laid-bins (c .before .before .before .before .before .before .args .level) (c .before .before .before .before .before .before .args .table .now) (length (c .before .before .before .before .before .before .args .reals .now)) (length (c .before .before .before .before .before .before .args .counts .now)) (c .before .before .before .before .before .before .args .w) (c .before .before .before .before .before .before .pre .1 .0) (c .before .if1 .left)) .level) (c .if2 .taken)
 
--- src/along.rt:52:15
 estimate-along-mul-bin : (t : ℕ) → estimate-along-lts.Need-mul-bin (
   estimate-of-bin-reads.Asked,
   estimate-of-bin-reads.Learnt,
@@ -82,7 +77,6 @@ estimate-along-mul-bin : (t : ℕ) → estimate-along-lts.Need-mul-bin (
 ) (estimate-along-at t) estimate-along.Post
 estimate-along-mul-bin t c = let d = (laid-bins (c .before .before .before .before .before .before .args .level) (c .before .before .before .before .before .before .args .table .now) (length (c .before .before .before .before .before .before .args .reals .now)) (length (c .before .before .before .before .before .before .args .counts .now)) (c .before .before .before .before .before .before .args .w) (c .before .before .before .before .before .before .pre .1 .0) (c .before .if1 .left)) in omega (arith, d .level, c .before .before .before .before .before .before .pre .1 .1)
 
--- src/along.rt:52:15
 estimate-along-array-read-bin : (t : ℕ) → estimate-along-lts.Need-array-read-bin (
   estimate-of-bin-reads.Asked,
   estimate-of-bin-reads.Learnt,
@@ -91,7 +85,6 @@ estimate-along-array-read-bin : (t : ℕ) → estimate-along-lts.Need-array-read
 ) (estimate-along-at t) estimate-along.Post
 estimate-along-array-read-bin t c = let d = (laid-bins (c .before .before .before .before .before .before .args .level) (c .before .before .before .before .before .before .args .table .now) (length (c .before .before .before .before .before .before .args .reals .now)) (length (c .before .before .before .before .before .before .args .counts .now)) (c .before .before .before .before .before .before .args .w) (c .before .before .before .before .before .before .pre .1 .0) (c .before .if1 .left)) in omega (arith, d .level, c .before .before .before .before .before .before .pre .1 .1)
 
--- src/along.rt:53:14
 estimate-along-add-if3 : (t : ℕ) → estimate-along-lts.Need-add-if3 (
   estimate-of-bin-reads.Asked,
   estimate-of-bin-reads.Learnt,
@@ -100,7 +93,6 @@ estimate-along-add-if3 : (t : ℕ) → estimate-along-lts.Need-add-if3 (
 ) (estimate-along-at t) estimate-along.Post
 estimate-along-add-if3 t c = omega (arith, laid-head (c .before .before .before .before .before .before .args .level) (c .before .before .before .before .before .before .args .table .now) (length (c .before .before .before .before .before .before .args .reals .now)) (length (c .before .before .before .before .before .before .args .counts .now)) (c .before .before .before .before .before .before .args .w) (c .before .before .before .before .before .before .pre .1 .0))
 
--- src/along.rt:53:8
 estimate-along-mul-if3 : (t : ℕ) → estimate-along-lts.Need-mul-if3 (
   estimate-of-bin-reads.Asked,
   estimate-of-bin-reads.Learnt,
@@ -109,7 +101,6 @@ estimate-along-mul-if3 : (t : ℕ) → estimate-along-lts.Need-mul-if3 (
 ) (estimate-along-at t) estimate-along.Post
 estimate-along-mul-if3 t c = omega (arith, laid-head (c .before .before .before .before .before .before .args .level) (c .before .before .before .before .before .before .args .table .now) (length (c .before .before .before .before .before .before .args .reals .now)) (length (c .before .before .before .before .before .before .args .counts .now)) (c .before .before .before .before .before .before .args .w) (c .before .before .before .before .before .before .pre .1 .0))
 
--- src/along.rt:53:8
 estimate-along-shared-slice-read-if3 : (t : ℕ) → estimate-along-lts.Need-shared-slice-read-if3 (
   estimate-of-bin-reads.Asked,
   estimate-of-bin-reads.Learnt,
@@ -118,7 +109,6 @@ estimate-along-shared-slice-read-if3 : (t : ℕ) → estimate-along-lts.Need-sha
 ) (estimate-along-at t) estimate-along.Post
 estimate-along-shared-slice-read-if3 t c = omega (arith, laid-head (c .before .before .before .before .before .before .before .args .level) (c .before .before .before .before .before .before .before .args .table .now) (length (c .before .before .before .before .before .before .before .args .reals .now)) (length (c .before .before .before .before .before .before .before .args .counts .now)) (c .before .before .before .before .before .before .before .args .w) (c .before .before .before .before .before .before .before .pre .1 .0))
 
--- src/along.rt:54:9
 estimate-along-returns-3 : (t : ℕ) → estimate-along-lts.Need-returns-3 (
   estimate-of-bin-reads.Asked,
   estimate-of-bin-reads.Learnt,
@@ -128,7 +118,6 @@ estimate-along-returns-3 : (t : ℕ) → estimate-along-lts.Need-returns-3 (
 unfolding paperEstimated
 estimate-along-returns-3 t c = bin-past (c .before .before .before .before .before .before .before .before .args .level) (c .before .before .before .before .before .before .before .before .args .table .now) (c .before .before .before .before .before .before .before .before .args .reals .now) (c .before .before .before .before .before .before .before .before .args .counts .now) (c .before .before .before .before .before .before .before .before .args .w) (c .before .before .before .before .before .before .before .before .args .t6) (c .before .before .before .before .before .before .before .before .args .levels) (c .before .before .before .before .before .before .before .before .args .depth) (c .before .before .before .if1 .left) ((laid-bins (c .before .before .before .before .before .before .before .before .args .level) (c .before .before .before .before .before .before .before .before .args .table .now) (length (c .before .before .before .before .before .before .before .before .args .reals .now)) (length (c .before .before .before .before .before .before .before .before .args .counts .now)) (c .before .before .before .before .before .before .before .before .args .w) (c .before .before .before .before .before .before .before .before .pre .1 .0) (c .before .before .before .if1 .left)) .level) (c .before .before .if2 .left) (c .if3 .taken)
 
--- src/along.rt:56:17
 estimate-along-sub-below : (t : ℕ) → estimate-along-lts.Need-sub-below (
   estimate-of-bin-reads.Asked,
   estimate-of-bin-reads.Learnt,
@@ -137,7 +126,6 @@ estimate-along-sub-below : (t : ℕ) → estimate-along-lts.Need-sub-below (
 ) (estimate-along-at t) estimate-along.Post
 estimate-along-sub-below t c = let d = (laid-bins (c .before .before .before .before .before .before .before .before .args .level) (c .before .before .before .before .before .before .before .before .args .table .now) (length (c .before .before .before .before .before .before .before .before .args .reals .now)) (length (c .before .before .before .before .before .before .before .before .args .counts .now)) (c .before .before .before .before .before .before .before .before .args .w) (c .before .before .before .before .before .before .before .before .pre .1 .0) (c .before .before .before .if1 .left)) in omega (arith, d .level)
 
--- src/along.rt:57:18
 estimate-along-add-if4 : (t : ℕ) → estimate-along-lts.Need-add-if4 (
   estimate-of-bin-reads.Asked,
   estimate-of-bin-reads.Learnt,
@@ -146,7 +134,6 @@ estimate-along-add-if4 : (t : ℕ) → estimate-along-lts.Need-add-if4 (
 ) (estimate-along-at t) estimate-along.Post
 estimate-along-add-if4 t c = omega (arith, c .before .before .before .before .before .before .before .before .pre .1 .1)
 
--- src/along.rt:58:9
 estimate-along-estimate-of-bin-requires :
     (t : ℕ) → estimate-along-lts.Need-estimate-of-bin-requires (
       estimate-of-bin-reads.Asked,
@@ -156,7 +143,6 @@ estimate-along-estimate-of-bin-requires :
     ) (estimate-along-at t) estimate-along.Post
 estimate-along-estimate-of-bin-requires t c κs = let d = (laid-bins (c .before .before .before .before .before .before .before .before .before .args .level) (c .before .before .before .before .before .before .before .before .before .args .table .now) (length (c .before .before .before .before .before .before .before .before .before .args .reals .now)) (length (c .before .before .before .before .before .before .before .before .before .args .counts .now)) (c .before .before .before .before .before .before .before .before .before .args .w) (c .before .before .before .before .before .before .before .before .before .pre .1 .0) (c .before .before .before .before .if1 .left)) in (d .bins, c .before .if3 .left)
 
--- src/along.rt:58:9
 estimate-along-returns-4 : (t : ℕ) → estimate-along-lts.Need-returns-4 (
   estimate-of-bin-reads.Asked,
   estimate-of-bin-reads.Learnt,
@@ -165,7 +151,6 @@ estimate-along-returns-4 : (t : ℕ) → estimate-along-lts.Need-returns-4 (
 ) (estimate-along-at t) estimate-along.Post
 estimate-along-returns-4 t c = c .estimate-of-bin .ensures ∙ bin-here (c .before .before .before .before .before .before .before .before .before .before .args .level) (c .before .before .before .before .before .before .before .before .before .before .args .table .now) (c .before .before .before .before .before .before .before .before .before .before .args .reals .now) (c .before .before .before .before .before .before .before .before .before .before .args .counts .now) (c .before .before .before .before .before .before .before .before .before .before .args .w) (c .before .before .before .before .before .before .before .before .before .before .args .t6) (c .before .before .before .before .before .before .before .before .before .before .args .levels) (c .before .before .before .before .before .before .before .before .before .before .args .depth) (c .before .before .before .before .before .if1 .left) ((laid-bins (c .before .before .before .before .before .before .before .before .before .before .args .level) (c .before .before .before .before .before .before .before .before .before .before .args .table .now) (length (c .before .before .before .before .before .before .before .before .before .before .args .reals .now)) (length (c .before .before .before .before .before .before .before .before .before .before .args .counts .now)) (c .before .before .before .before .before .before .before .before .before .before .args .w) (c .before .before .before .before .before .before .before .before .before .before .pre .1 .0) (c .before .before .before .before .before .if1 .left)) .level) (c .before .before .before .before .if2 .left) (c .before .before .if3 .left) (c .before .if4 .taken)
 
--- src/along.rt:60:22
 estimate-along-add-link : (t : ℕ) → estimate-along-lts.Need-add-link (
   estimate-of-bin-reads.Asked,
   estimate-of-bin-reads.Learnt,
@@ -174,7 +159,6 @@ estimate-along-add-link : (t : ℕ) → estimate-along-lts.Need-add-link (
 ) (estimate-along-at t) estimate-along.Post
 estimate-along-add-link t c = let d = (laid-bins (c .before .before .before .before .before .before .before .before .before .args .level) (c .before .before .before .before .before .before .before .before .before .args .table .now) (length (c .before .before .before .before .before .before .before .before .before .args .reals .now)) (length (c .before .before .before .before .before .before .before .before .before .args .counts .now)) (c .before .before .before .before .before .before .before .before .before .args .w) (c .before .before .before .before .before .before .before .before .before .pre .1 .0) (c .before .before .before .before .if1 .left)) in omega (arith, d .bins .head, c .before .if3 .left)
 
--- src/along.rt:60:22
 estimate-along-add-link-2 : (t : ℕ) → estimate-along-lts.Need-add-link-2 (
   estimate-of-bin-reads.Asked,
   estimate-of-bin-reads.Learnt,
@@ -183,7 +167,6 @@ estimate-along-add-link-2 : (t : ℕ) → estimate-along-lts.Need-add-link-2 (
 ) (estimate-along-at t) estimate-along.Post
 estimate-along-add-link-2 t c = let d = (laid-bins (c .before .before .before .before .before .before .before .before .before .args .level) (c .before .before .before .before .before .before .before .before .before .args .table .now) (length (c .before .before .before .before .before .before .before .before .before .args .reals .now)) (length (c .before .before .before .before .before .before .before .before .before .args .counts .now)) (c .before .before .before .before .before .before .before .before .before .args .w) (c .before .before .before .before .before .before .before .before .before .pre .1 .0) (c .before .before .before .before .if1 .left)) in omega (arith, d .bins .head, c .before .if3 .left)
 
--- src/along.rt:60:16
 estimate-along-mul-link : (t : ℕ) → estimate-along-lts.Need-mul-link (
   estimate-of-bin-reads.Asked,
   estimate-of-bin-reads.Learnt,
@@ -192,7 +175,6 @@ estimate-along-mul-link : (t : ℕ) → estimate-along-lts.Need-mul-link (
 ) (estimate-along-at t) estimate-along.Post
 estimate-along-mul-link t c = let d = (laid-bins (c .before .before .before .before .before .before .before .before .before .args .level) (c .before .before .before .before .before .before .before .before .before .args .table .now) (length (c .before .before .before .before .before .before .before .before .before .args .reals .now)) (length (c .before .before .before .before .before .before .before .before .before .args .counts .now)) (c .before .before .before .before .before .before .before .before .before .args .w) (c .before .before .before .before .before .before .before .before .before .pre .1 .0) (c .before .before .before .before .if1 .left)) in omega (arith, d .bins .head, c .before .if3 .left)
 
--- src/along.rt:60:16
 estimate-along-shared-slice-read-link : (t : ℕ) → estimate-along-lts.Need-shared-slice-read-link (
   estimate-of-bin-reads.Asked,
   estimate-of-bin-reads.Learnt,
@@ -201,7 +183,6 @@ estimate-along-shared-slice-read-link : (t : ℕ) → estimate-along-lts.Need-sh
 ) (estimate-along-at t) estimate-along.Post
 estimate-along-shared-slice-read-link t c = let d = (laid-bins (c .before .before .before .before .before .before .before .before .before .before .args .level) (c .before .before .before .before .before .before .before .before .before .before .args .table .now) (length (c .before .before .before .before .before .before .before .before .before .before .args .reals .now)) (length (c .before .before .before .before .before .before .before .before .before .before .args .counts .now)) (c .before .before .before .before .before .before .before .before .before .before .args .w) (c .before .before .before .before .before .before .before .before .before .before .pre .1 .0) (c .before .before .before .before .before .if1 .left)) in omega (arith, d .bins .head, c .before .before .if3 .left)
 
--- src/along.rt:62:9
 estimate-along-returns-5 : (t : ℕ) → estimate-along-lts.Need-returns-5 (
   estimate-of-bin-reads.Asked,
   estimate-of-bin-reads.Learnt,
@@ -211,7 +192,6 @@ estimate-along-returns-5 : (t : ℕ) → estimate-along-lts.Need-returns-5 (
 unfolding paperEstimated
 estimate-along-returns-5 t c = bin-bare (c .before .before .before .before .before .before .before .before .before .before .before .args .level) (c .before .before .before .before .before .before .before .before .before .before .before .args .table .now) (c .before .before .before .before .before .before .before .before .before .before .before .args .reals .now) (c .before .before .before .before .before .before .before .before .before .before .before .args .counts .now) (c .before .before .before .before .before .before .before .before .before .before .before .args .w) (c .before .before .before .before .before .before .before .before .before .before .before .args .t6) (c .before .before .before .before .before .before .before .before .before .before .before .args .levels) (c .before .before .before .before .before .before .before .before .before .before .before .args .depth) (c .before .before .before .before .before .before .if1 .left) ((laid-bins (c .before .before .before .before .before .before .before .before .before .before .before .args .level) (c .before .before .before .before .before .before .before .before .before .before .before .args .table .now) (length (c .before .before .before .before .before .before .before .before .before .before .before .args .reals .now)) (length (c .before .before .before .before .before .before .before .before .before .before .before .args .counts .now)) (c .before .before .before .before .before .before .before .before .before .before .before .args .w) (c .before .before .before .before .before .before .before .before .before .before .before .pre .1 .0) (c .before .before .before .before .before .before .if1 .left)) .level) (c .before .before .before .before .before .if2 .left) (c .before .before .before .if3 .left) (c .before .before .if4 .left) (c .if5 .taken)
 
--- src/along.rt:64:69
 estimate-along-add-estimate-along : (t : ℕ) → estimate-along-lts.Need-add-estimate-along (
   estimate-of-bin-reads.Asked,
   estimate-of-bin-reads.Learnt,
@@ -220,7 +200,6 @@ estimate-along-add-estimate-along : (t : ℕ) → estimate-along-lts.Need-add-es
 ) (estimate-along-at t) estimate-along.Post
 estimate-along-add-estimate-along t c = omega (arith, c .before .before .before .before .before .before .before .before .before .before .before .pre .1 .1)
 
--- src/along.rt:64:5
 estimate-along-estimate-along-requires : (t : ℕ) → estimate-along-lts.Need-estimate-along-requires (
   estimate-of-bin-reads.Asked,
   estimate-of-bin-reads.Learnt,
@@ -229,7 +208,6 @@ estimate-along-estimate-along-requires : (t : ℕ) → estimate-along-lts.Need-e
 ) (estimate-along-at t) estimate-along.Post
 estimate-along-estimate-along-requires t c κs = let d = (laid-bins (c .before .before .before .before .before .before .before .before .before .before .before .args .level) (c .before .before .before .before .before .before .before .before .before .before .before .args .table .now) (length (c .before .before .before .before .before .before .before .before .before .before .before .args .reals .now)) (length (c .before .before .before .before .before .before .before .before .before .before .before .args .counts .now)) (c .before .before .before .before .before .before .before .before .before .before .before .args .w) (c .before .before .before .before .before .before .before .before .before .before .before .pre .1 .0) (c .before .before .before .before .before .before .if1 .left)) in (omega (arith, c .before .before .before .before .before .before .before .before .before .before .before .pre .0, d .level), (d .bins .children (getD (c .before .before .before .before .before .before .before .before .before .before .before .args .t6) (c .before .before .before .before .before .before .before .before .before .before .before .args .depth) 0) (c .before .before .before .if3 .left) (c .if5 .left), omega (arith, c .before .before .before .before .before .before .before .before .before .before .before .pre .1 .1, d .level)))
 
--- src/along.rt:33:1
 estimate-along-returns-6 : (t : ℕ) → estimate-along-lts.Need-returns-6 (
   estimate-of-bin-reads.Asked,
   estimate-of-bin-reads.Learnt,

@@ -4,84 +4,61 @@ use Rattle.lent.specs.Tree.{binIn}
 use native.Mathlib.Omega.{arith}
 use Rattle.quiet.proofs.along.estimate_of_bin.Statement.{statement}
 use Rattle.quiet.proofs.along.estimate_of_bin.Tie as tie
-use Rattle.quiet.proofs.along.estimate_of_bin.Reads as reads
-use Rattle.quiet.proofs.along.estimate_of_bin.Lts as lts
-use Rattle.accumulator.proofs.StatisticsAccumulator.get_live_estimate.Reads as get-live-estimate-reads
-use Rattle.ground.proofs.accounts.load.Reads as load-reads
 
--- src/along.rt:25:22
 add-held : tie.Need-add-held
 add-held c = omega arith
 
--- src/along.rt:25:16
 mul-held : tie.Need-mul-held
 mul-held c = omega arith
 
--- src/along.rt:25:16
 shared-slice-read-held : tie.Need-shared-slice-read-held
 shared-slice-read-held c = omega arith
 
--- src/along.rt:26:23
 add-first : tie.Need-add-first
 add-first c = omega arith
 
--- src/along.rt:26:17
 mul-first : tie.Need-mul-first
 mul-first c = omega arith
 
--- src/along.rt:26:17
 shared-slice-read-first : tie.Need-shared-slice-read-first
 shared-slice-read-first c = omega arith
 
--- src/along.rt:26:17
 add-first-2 : tie.Need-add-first-2
 add-first-2 c = omega arith
 
--- src/along.rt:26:17
 add-first-3 : tie.Need-add-first-3
 add-first-3 c = omega arith
 
--- src/along.rt:27:23
 add-start : tie.Need-add-start
 add-start c = omega arith
 
--- src/along.rt:27:17
 mul-start : tie.Need-mul-start
 mul-start c = omega arith
 
--- src/along.rt:27:17
 shared-slice-read-start : tie.Need-shared-slice-read-start
 shared-slice-read-start c = omega arith
 
--- src/along.rt:27:17
 add-start-2 : tie.Need-add-start-2
 add-start-2 c = omega arith
 
--- src/along.rt:28:43
 mul-load : tie.Need-mul-load
 mul-load c = omega arith
 
--- src/along.rt:28:35
 add-load : tie.Need-add-load
 add-load c = omega arith
 
--- src/along.rt:28:59
 mul-load-2 : tie.Need-mul-load-2
 mul-load-2 c = omega arith
 
--- src/along.rt:28:51
 add-load-2 : tie.Need-add-load-2
 add-load-2 c = omega arith
 
--- src/along.rt:28:5
 load-requires : tie.Need-load-requires
 load-requires c κs = tt
 
--- src/along.rt:28:5
 get-live-estimate-requires : tie.Need-get-live-estimate-requires
 get-live-estimate-requires c κs = tt
 
--- src/along.rt:13:1
 returns : tie.Need-returns
 unfolding binIn
 returns c = c .get-live-estimate .ensures ∙ ap liveEstimateOf (c .before .load .ensures)

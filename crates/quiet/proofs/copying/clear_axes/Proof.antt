@@ -13,10 +13,6 @@ use Rattle.lent.proofs.Rooms.{waitless-known}
 use Rattle.lent.proofs.Copies.{cleared-next, cleared-done, cleared-apart}
 use Rattle.quiet.proofs.copying.clear_axes.Statement.{statement}
 use Rattle.quiet.proofs.copying.clear_axes.Tie as tie
-use Rattle.quiet.proofs.copying.clear_axes.Reads as reads
-use Rattle.quiet.proofs.copying.clear_axes.Lts as lts
-use Rattle.ground.proofs.laying.clear_waiting.Reads as clear-waiting-reads
-use Rattle.quiet.proofs.onward.after_first.Reads as after-first-reads
 
 abbrev Inv-loop : tie.InvT-loop
 Inv-loop reals₀ counts₀ left₀ reals counts left =
@@ -26,32 +22,25 @@ Inv-loop reals₀ counts₀ left₀ reals counts left =
 abbrev μ-loop : tie.MeasureT-loop
 μ-loop reals₀ counts₀ left₀ reals counts left = left .axes
 
--- src/copying.rt:16:5
 loop-holds : tie.Need-loop-holds Inv-loop μ-loop
 loop-holds c = (c .before .before .pre, refl, same-refl 0 (c .before .before .args .g .counts) (length (c .before .before .args .counts .now)) (c .before .before .args .counts .now), refl)
 
--- src/copying.rt:20:20
 mul-held : tie.Need-mul-held Inv-loop μ-loop
 mul-held c = let n = first (c .before .before .before .before .before .args .reals .now) (c .before .before .before .before .before .args .counts .now) (c .before .before .loop .left) (c .if1 .taken) (c .before .before .loop .inv .0) in let size = c .before .before .loop .inv .2 .size in omega arith
 
--- src/copying.rt:20:20
 slice-read-held : tie.Need-slice-read-held Inv-loop μ-loop
 slice-read-held c = let n = first (c .before .before .before .before .before .before .args .reals .now) (c .before .before .before .before .before .before .args .counts .now) (c .before .before .before .loop .left) (c .before .if1 .taken) (c .before .before .before .loop .inv .0) in let size = c .before .before .before .loop .inv .2 .size in omega arith
 
--- src/copying.rt:21:9
 clear-waiting-requires : tie.Need-clear-waiting-requires Inv-loop μ-loop
 clear-waiting-requires c κs = tt
 
--- src/copying.rt:22:9
 after-first-requires : tie.Need-after-first-requires Inv-loop μ-loop
 unfolding axisReals axisCounts
 after-first-requires c κs = let n = first (c .before .before .before .before .before .before .before .before .before .before .before .before .before .args .reals .now) (c .before .before .before .before .before .before .before .before .before .before .before .before .before .args .counts .now) (c .before .before .before .before .before .before .before .before .before .before .loop .left) (c .before .before .before .before .before .before .before .before .if1 .taken) (c .before .before .before .before .before .before .before .before .before .before .loop .inv .0) in (c .before .before .before .before .before .before .before .before .if1 .taken, n .few, omega arith, omega arith)
 
--- src/copying.rt:16:5
 loop-less : tie.Need-loop-less Inv-loop μ-loop
 loop-less c = omega (arith, one-less (c .before .before .before .before .before .before .before .before .before .before .before .loop .left) (c .after-first .result) (c .after-first .ensures), c .before .before .before .before .before .before .before .before .before .if1 .taken)
 
--- src/copying.rt:16:5
 loop-again : tie.Need-loop-again Inv-loop μ-loop
 unfolding axisReals axisCounts
 loop-again c = let n = first (c .before .before .before .before .before .before .before .before .before .before .before .before .before .before .args .reals .now) (c .before .before .before .before .before .before .before .before .before .before .before .before .before .before .args .counts .now) (c .before .before .before .before .before .before .before .before .before .before .before .loop .left) (c .before .before .before .before .before .before .before .before .before .if1 .taken) (c .before .before .before .before .before .before .before .before .before .before .before .loop .inv .0) in let held : getD (c .before .before .before .before .before .before .before .before .before .before .before .loop .counts) (c .before .before .before .before .before .before .before .before .before .before .before .loop .left .counts) 0 ≡ getD (c .before .before .before .before .before .before .before .before .before .before .before .before .before .before .args .counts .now) (c .before .before .before .before .before .before .before .before .before .before .before .loop .left .counts) 0 = c .before .before .before .before .before .before .before .before .before .before .before .loop .inv .2 .cells (c .before .before .before .before .before .before .before .before .before .before .before .loop .left .counts) (omega arith) (omega arith) in let size = c .before .before .before .before .before .before .before .before .before .before .before .loop .inv .2 .size in
@@ -64,15 +53,12 @@ loop-again c = let n = first (c .before .before .before .before .before .before 
       cleared-next (c .before .before .before .before .before .before .before .before .before .before .before .loop .left) (c .after-first .result) (getD (c .before .before .before .before .before .before .before .before .before .before .before .loop .counts) (c .before .before .before .before .before .before .before .before .before .before .before .loop .left .counts) 0) (memory (c .before .before .before .before .before .before .before .before .before .before .before .loop .reals) (c .before .before .before .before .before .before .before .before .before .before .before .loop .counts)) (memory (c .before .before .before .before .before .clear-waiting .last .0) (c .before .before .before .before .before .clear-waiting .last .1 .0)) (c .before .before .before .before .before .before .before .before .before .if1 .taken) (c .after-first .ensures) refl made ∙ c .before .before .before .before .before .before .before .before .before .before .before .loop .inv .3,
     )
 
--- src/copying.rt:11:1
 same-length : tie.Need-same-length Inv-loop μ-loop
 same-length c = c .before .before .loop .inv .1
 
--- src/copying.rt:11:1
 same-length-2 : tie.Need-same-length-2 Inv-loop μ-loop
 same-length-2 c = c .before .before .loop .inv .2 .size
 
--- src/copying.rt:11:1
 returns : tie.Need-returns Inv-loop μ-loop
 returns c = sym (cleared-done (c .before .before .loop .left) (memory (c .before .before .loop .reals) (c .before .before .loop .counts)) (c .if1 .left)) ∙ c .before .before .loop .inv .3
 

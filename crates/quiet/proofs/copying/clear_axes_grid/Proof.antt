@@ -9,61 +9,44 @@ use native.Mathlib.Omega.{arith}
 use borrow.Author.Needs.{needs}
 use Rattle.quiet.proofs.copying.clear_axes_grid.Statement.{statement}
 use Rattle.quiet.proofs.copying.clear_axes_grid.Tie as tie
-use Rattle.quiet.proofs.copying.clear_axes_grid.Reads as reads
-use Rattle.quiet.proofs.copying.clear_axes_grid.Lts as lts
-use Rattle.ground.proofs.accounts.clear.Reads as clear-reads
-use Rattle.quiet.proofs.copying.clear_axes.Reads as clear-axes-reads
-use Rattle.lent.proofs.layout.axes_place.Reads as axes-place-reads
 
 -- where the axes stand
 there : (c : tie.After-axes-place) → c .axes-place .result ≡ axesPlace (c .before .before .before .before .args .table .now) (c .before .before .before .before .args .w)
 there c = placed (c .before .before .before .before .args .table .now) (c .before .before .before .before .args .w) (c .axes-place .ensures) (search needs)
 
--- src/copying.rt:44:9
 axes-place-requires : tie.Need-axes-place-requires
 axes-place-requires c κs = tt
 
--- src/copying.rt:45:19
 add-r : tie.Need-add-r
 add-r c = omega arith
 
--- src/copying.rt:45:13
 mul-r : tie.Need-mul-r
 mul-r c = omega arith
 
--- src/copying.rt:45:13
 shared-slice-read-r : tie.Need-shared-slice-read-r
 shared-slice-read-r c = omega arith
 
--- src/copying.rt:46:19
 add-c : tie.Need-add-c
 add-c c = omega arith
 
--- src/copying.rt:46:13
 mul-c : tie.Need-mul-c
 mul-c c = omega arith
 
--- src/copying.rt:46:13
 shared-slice-read-c : tie.Need-shared-slice-read-c
 shared-slice-read-c c = omega arith
 
--- src/copying.rt:47:5
 clear-axes-requires : tie.Need-clear-axes-requires
 clear-axes-requires c κs = subst (λ (g : AxesAt). Stands (c .before .before .before .before .before .before .before .before .args .reals .now) (c .before .before .before .before .before .before .before .before .args .counts .now) g) (sym (there (c .before .before .before .before))) (c .before .before .before .before .before .before .before .before .pre .1)
 
--- src/copying.rt:48:5
 clear-requires : tie.Need-clear-requires
 clear-requires c κs = tt
 
--- src/copying.rt:40:1
 same-length : tie.Need-same-length
 same-length c = omega arith
 
--- src/copying.rt:40:1
 same-length-2 : tie.Need-same-length-2
 same-length-2 c = omega arith
 
--- src/copying.rt:40:1
 returns : tie.Need-returns
 returns c = axes-emptied (c .before .before .before .before .before .before .before .before .before .before .before .before .before .before .before .before .before .before .before .before .args .table .now) (c .before .before .before .before .before .before .before .before .before .before .before .before .before .before .before .before .before .before .before .before .args .w) (c .before .before .before .before .before .before .before .before .before .before .before .before .before .before .before .before .axes-place .result) (memory (c .before .before .before .before .before .before .before .before .before .before .before .before .before .before .before .before .before .before .before .before .args .reals .now) (c .before .before .before .before .before .before .before .before .before .before .before .before .before .before .before .before .before .before .before .before .args .counts .now)) (memory (c .before .before .before .before .before .before .before .before .before .before .before .clear-axes .last .0) (c .before .before .before .before .before .before .before .before .before .before .before .clear-axes .last .1 .0)) (memory (c .before .before .before .before .clear .last .0) (c .before .before .before .before .clear .last .1 .0)) (there (c .before .before .before .before .before .before .before .before .before .before .before .before .before .before .before .before)) (c .before .before .before .before .before .before .before .before .before .before .before .clear-axes .ensures) (c .before .before .before .before .clear .ensures)
 

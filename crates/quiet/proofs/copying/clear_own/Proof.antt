@@ -8,9 +8,6 @@ use Rattle.lent.specs.Cleared.{clearedFrom}
 use Rattle.lent.proofs.Clones.{bins-on, bins-out, own-emptied}
 use Rattle.quiet.proofs.copying.clear_own.Statement.{statement}
 use Rattle.quiet.proofs.copying.clear_own.Tie as tie
-use Rattle.quiet.proofs.copying.clear_own.Reads as reads
-use Rattle.quiet.proofs.copying.clear_own.Lts as lts
-use Rattle.ground.proofs.accounts.clear.Reads as clear-reads
 
 abbrev Inv-loop : tie.InvT-loop
 Inv-loop table reals₀ counts₀ level w r c n i₀ reals counts i = (i ≤ n) × (length reals ≡ length reals₀) × (length counts ≡ length counts₀) × (clearedFrom table w i (n - i) (memory reals counts) ≡ clearedFrom table w 0 n (memory reals₀ counts₀))
@@ -18,103 +15,78 @@ Inv-loop table reals₀ counts₀ level w r c n i₀ reals counts i = (i ≤ n) 
 abbrev μ-loop : tie.MeasureT-loop
 μ-loop table reals₀ counts₀ level w r c n i₀ reals counts i = n - i
 
--- src/copying.rt:56:19
 add-r : tie.Need-add-r Inv-loop μ-loop
 add-r c = omega (arith, c .before .before .before .pre)
 
--- src/copying.rt:56:13
 mul-r : tie.Need-mul-r Inv-loop μ-loop
 mul-r c = omega (arith, c .before .before .before .pre)
 
--- src/copying.rt:56:13
 shared-slice-read-r : tie.Need-shared-slice-read-r Inv-loop μ-loop
 shared-slice-read-r c = omega (arith, c .before .before .before .before .pre)
 
--- src/copying.rt:57:19
 add-c : tie.Need-add-c Inv-loop μ-loop
 add-c c = omega (arith, c .before .before .before .before .pre)
 
--- src/copying.rt:57:13
 mul-c : tie.Need-mul-c Inv-loop μ-loop
 mul-c c = omega (arith, c .before .before .before .before .pre)
 
--- src/copying.rt:57:13
 shared-slice-read-c : tie.Need-shared-slice-read-c Inv-loop μ-loop
 shared-slice-read-c c = omega (arith, c .before .before .before .before .before .pre)
 
--- src/copying.rt:58:19
 add-n : tie.Need-add-n Inv-loop μ-loop
 add-n c = omega (arith, c .before .before .before .before .before .pre)
 
--- src/copying.rt:58:13
 mul-n : tie.Need-mul-n Inv-loop μ-loop
 mul-n c = omega (arith, c .before .before .before .before .before .pre)
 
--- src/copying.rt:58:13
 shared-slice-read-n : tie.Need-shared-slice-read-n Inv-loop μ-loop
 shared-slice-read-n c = omega (arith, c .before .before .before .before .before .before .pre)
 
--- src/copying.rt:60:5
 loop-holds : tie.Need-loop-holds Inv-loop μ-loop
 loop-holds c = let e : (getD (c .before .before .before .before .before .before .args .table .now) (c .before .before .before .before .before .before .args .w + 2) 0) - 0 ≡ (getD (c .before .before .before .before .before .before .args .table .now) (c .before .before .before .before .before .before .args .w + 2) 0) = omega arith in (omega arith, refl, refl, rw e)
 
--- src/copying.rt:61:40
 add-clear : tie.Need-add-clear Inv-loop μ-loop
 add-clear c = omega (arith, c .before .before .before .before .before .before .before .before .before .before .pre, c .before .before .loop-test .taken)
 
--- src/copying.rt:61:40
 add-clear-2 : tie.Need-add-clear-2 Inv-loop μ-loop
 add-clear-2 c = omega (arith, c .before .before .before .before .before .before .before .before .before .before .pre, c .before .before .loop-test .taken)
 
--- src/copying.rt:61:53
 mul-clear : tie.Need-mul-clear Inv-loop μ-loop
 mul-clear c = omega (arith, c .before .before .before .before .before .before .before .before .before .before .pre, c .before .before .loop-test .taken)
 
--- src/copying.rt:61:40
 add-clear-3 : tie.Need-add-clear-3 Inv-loop μ-loop
 add-clear-3 c = omega (arith, c .before .before .before .before .before .before .before .before .before .before .pre, c .before .before .loop-test .taken)
 
--- src/copying.rt:61:61
 add-clear-4 : tie.Need-add-clear-4 Inv-loop μ-loop
 add-clear-4 c = omega (arith, c .before .before .before .before .before .before .before .before .before .before .pre, c .before .before .loop-test .taken)
 
--- src/copying.rt:61:69
 mul-clear-2 : tie.Need-mul-clear-2 Inv-loop μ-loop
 mul-clear-2 c = omega (arith, c .before .before .before .before .before .before .before .before .before .before .pre, c .before .before .loop-test .taken)
 
--- src/copying.rt:61:61
 add-clear-5 : tie.Need-add-clear-5 Inv-loop μ-loop
 add-clear-5 c = omega (arith, c .before .before .before .before .before .before .before .before .before .before .pre, c .before .before .loop-test .taken)
 
--- src/copying.rt:61:9
 clear-requires : tie.Need-clear-requires Inv-loop μ-loop
 clear-requires c κs = tt
 
--- src/copying.rt:62:9
 add-i : tie.Need-add-i Inv-loop μ-loop
 add-i c = omega (arith, c .before .before .before .before .before .before .before .before .before .before .before .before .before .before .before .pre, c .before .before .before .before .before .before .before .loop-test .taken)
 
--- src/copying.rt:60:5
 loop-less : tie.Need-loop-less Inv-loop μ-loop
 loop-less c = omega (arith, c .before .before .before .before .before .before .before .loop-test .taken)
 
--- src/copying.rt:60:5
 loop-again : tie.Need-loop-again Inv-loop μ-loop
 loop-again c = (omega (arith, c .before .before .before .before .before .before .before .loop-test .taken), c .before .before .before .before .clear .kept .0 ∙ c .before .before .before .before .before .before .before .before .loop .inv .1, c .before .before .before .before .clear .kept .1 .0 ∙ c .before .before .before .before .before .before .before .before .loop .inv .2, bins-on (c .before .before .before .before .before .before .before .before .before .before .before .before .before .before .before .args .table .now) (c .before .before .before .before .before .before .before .before .before .before .before .before .before .before .before .args .w) (getD (c .before .before .before .before .before .before .before .before .before .before .before .before .before .before .before .args .table .now) (c .before .before .before .before .before .before .before .before .before .before .before .before .before .before .before .args .w + 2) 0) (c .before .before .before .before .before .before .before .before .loop .i) (memory (c .before .before .before .before .before .before .before .before .loop .reals) (c .before .before .before .before .before .before .before .before .loop .counts)) (memory (c .before .before .before .before .clear .last .0) (c .before .before .before .before .clear .last .1 .0)) (c .before .before .before .before .before .before .before .loop-test .taken) (c .before .before .before .before .clear .ensures) ∙ c .before .before .before .before .before .before .before .before .loop .inv .3)
 
--- src/copying.rt:64:5
 clear-requires-2 : tie.Need-clear-requires-2 Inv-loop μ-loop
 clear-requires-2 c κs = tt
 
--- src/copying.rt:52:1
 same-length : tie.Need-same-length Inv-loop μ-loop
 same-length c = c .before .before .before .before .clear2 .kept .0 ∙ c .before .before .before .before .before .before .before .before .loop .inv .1
 
--- src/copying.rt:52:1
 same-length-2 : tie.Need-same-length-2 Inv-loop μ-loop
 same-length-2 c = c .before .before .before .before .clear2 .kept .1 .0 ∙ c .before .before .before .before .before .before .before .before .loop .inv .2
 
--- src/copying.rt:52:1
 returns : tie.Need-returns Inv-loop μ-loop
 returns c = own-emptied (c .before .before .before .before .before .before .before .before .before .before .before .before .before .before .before .args .table .now) (c .before .before .before .before .before .before .before .before .before .before .before .before .before .before .before .args .w) (memory (c .before .before .before .before .before .before .before .before .before .before .before .before .before .before .before .args .reals .now) (c .before .before .before .before .before .before .before .before .before .before .before .before .before .before .before .args .counts .now)) (memory (c .before .before .before .before .before .before .before .before .loop .reals) (c .before .before .before .before .before .before .before .before .loop .counts)) (memory (c .before .before .before .before .clear2 .last .0) (c .before .before .before .before .clear2 .last .1 .0)) (sym (bins-out (c .before .before .before .before .before .before .before .before .before .before .before .before .before .before .before .args .table .now) (c .before .before .before .before .before .before .before .before .before .before .before .before .before .before .before .args .w) (getD (c .before .before .before .before .before .before .before .before .before .before .before .before .before .before .before .args .table .now) (c .before .before .before .before .before .before .before .before .before .before .before .before .before .before .before .args .w + 2) 0) (c .before .before .before .before .before .before .before .before .loop .i) (memory (c .before .before .before .before .before .before .before .before .loop .reals) (c .before .before .before .before .before .before .before .before .loop .counts)) (c .before .before .before .before .before .before .before .loop-test .left)) ∙ c .before .before .before .before .before .before .before .before .loop .inv .3) (c .before .before .before .before .clear2 .ensures)
 

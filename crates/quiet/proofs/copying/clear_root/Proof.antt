@@ -9,44 +9,31 @@ use Rattle.lent.proofs.Samples.{sound-stands}
 use Rattle.lent.proofs.Clones.{root-axes, root-bins}
 use Rattle.quiet.proofs.copying.clear_root.Statement.{statement}
 use Rattle.quiet.proofs.copying.clear_root.Tie as tie
-use Rattle.quiet.proofs.copying.clear_root.Reads as reads
-use Rattle.quiet.proofs.copying.clear_root.Lts as lts
-use Rattle.quiet.proofs.copying.clear_axes_grid.Reads as clear-axes-grid-reads
-use Rattle.quiet.proofs.copying.clear_own.Reads as clear-own-reads
 
--- src/copying.rt:72:8
 shared-slice-read-if1 : tie.Need-shared-slice-read-if1
 shared-slice-read-if1 c = omega (arith, laid-head 4 (c .before .before .before .before .args .table .now) (length (c .before .before .before .before .args .reals .now)) (length (c .before .before .before .before .args .counts .now)) 0 (c .before .before .before .before .pre .0))
 
--- src/copying.rt:73:9
 clear-axes-grid-requires : tie.Need-clear-axes-grid-requires
 clear-axes-grid-requires c κs = ((laid-axes 4 (c .before .before .before .before .before .before .before .args .table .now) (length (c .before .before .before .before .before .before .before .args .reals .now)) (length (c .before .before .before .before .before .before .before .args .counts .now)) 0 (c .before .before .before .before .before .before .before .pre .0) (c .before .before .if1 .taken)), sound-stands (c .before .before .before .before .before .before .before .args .table .now) (c .before .before .before .before .before .before .before .args .reals .now) (c .before .before .before .before .before .before .before .args .counts .now) 0 (laid-axes 4 (c .before .before .before .before .before .before .before .args .table .now) (length (c .before .before .before .before .before .before .before .args .reals .now)) (length (c .before .before .before .before .before .before .before .args .counts .now)) 0 (c .before .before .before .before .before .before .before .pre .0) (c .before .before .if1 .taken)) (sym (ap sound (node-axes 4 (c .before .before .before .before .before .before .before .args .table .now) (c .before .before .before .before .before .before .before .args .reals .now) (c .before .before .before .before .before .before .before .args .counts .now) 0 (c .before .before .if1 .taken))) ∙ c .before .before .before .before .before .before .before .pre .1))
 
--- src/copying.rt:74:9
 same-length : tie.Need-same-length
 same-length c = omega arith
 
--- src/copying.rt:74:9
 same-length-2 : tie.Need-same-length-2
 same-length-2 c = omega arith
 
--- src/copying.rt:74:9
 returns : tie.Need-returns
 returns c = c .before .before .before .before .clear-axes-grid .ensures ∙ root-axes (c .before .before .before .before .before .before .before .before .before .before .before .before .args .table .now) (memory (c .before .before .before .before .before .before .before .before .before .before .before .before .args .reals .now) (c .before .before .before .before .before .before .before .before .before .before .before .before .args .counts .now)) (c .before .before .before .before .before .before .before .if1 .taken)
 
--- src/copying.rt:76:5
 clear-own-requires : tie.Need-clear-own-requires
 clear-own-requires c κs = laid-bins 4 (c .before .before .before .before .before .before .before .args .table .now) (length (c .before .before .before .before .before .before .before .args .reals .now)) (length (c .before .before .before .before .before .before .before .args .counts .now)) 0 (c .before .before .before .before .before .before .before .pre .0) (c .before .before .if1 .left) .bins
 
--- src/copying.rt:68:1
 same-length-3 : tie.Need-same-length-3
 same-length-3 c = omega arith
 
--- src/copying.rt:68:1
 same-length-4 : tie.Need-same-length-4
 same-length-4 c = omega arith
 
--- src/copying.rt:68:1
 returns-2 : tie.Need-returns-2
 returns-2 c = c .before .before .before .before .clear-own .ensures ∙ root-bins (c .before .before .before .before .before .before .before .before .before .before .before .before .args .table .now) (memory (c .before .before .before .before .before .before .before .before .before .before .before .before .args .reals .now) (c .before .before .before .before .before .before .before .before .before .before .before .before .args .counts .now)) (c .before .before .before .before .before .before .before .if1 .left)
 

@@ -75,7 +75,6 @@ abbrev probe-grid-below : ℕ → In 3 probe-grid-kinds.ps
 probe-grid-below t =
     and 3 probe-grid-kinds.ps (falls 3 probe-grid-kinds.ps _<_ μ-probe-grid t) probe-grid.Pre
 
--- src/descent.rt:74:8
 probe-child-ends-at-requires : (t : ℕ) → probe-child-lts.Need-ends-at-requires (
   ends-at-reads.Asked,
   ends-at-reads.Learnt,
@@ -84,7 +83,6 @@ probe-child-ends-at-requires : (t : ℕ) → probe-child-lts.Need-ends-at-requir
 ) (probe-child-at t) probe-child.Post
 probe-child-ends-at-requires t c κs = tt
 
--- src/descent.rt:75:9
 probe-child-returns : (t : ℕ) → probe-child-lts.Need-returns (
   ends-at-reads.Asked,
   ends-at-reads.Learnt,
@@ -94,7 +92,6 @@ probe-child-returns : (t : ℕ) → probe-child-lts.Need-returns (
 unfolding paperProbed
 probe-child-returns t c = sym (child-ended (childIn (gridAt (c .before .before .before .before .before .args .level) (c .before .before .before .before .before .args .table .now) (c .before .before .before .before .before .args .reals .now) (c .before .before .before .before .before .args .counts .now)) (c .before .before .before .before .before .args .link)) (c .before .before .before .before .before .args .p) (c .before .before .before .before .before .args .depth) (c .before .ends-at .result) (c .before .ends-at .ensures) (c .if1 .taken))
 
--- src/descent.rt:78:9
 probe-child-returns-2 : (t : ℕ) → probe-child-lts.Need-returns-2 (
   ends-at-reads.Asked,
   ends-at-reads.Learnt,
@@ -104,7 +101,6 @@ probe-child-returns-2 : (t : ℕ) → probe-child-lts.Need-returns-2 (
 unfolding paperProbed
 probe-child-returns-2 t c = sym (child-missing (gridAt (c .before .before .before .before .before .before .args .level) (c .before .before .before .before .before .before .args .table .now) (c .before .before .before .before .before .before .args .reals .now) (c .before .before .before .before .before .before .args .counts .now)) (c .before .before .before .before .before .before .args .link) (c .before .before .before .before .before .before .args .p) (c .before .before .before .before .before .before .args .depth) (c .before .before .ends-at .result) (c .before .before .ends-at .ensures) (c .before .if1 .left) (c .if2 .taken))
 
--- src/descent.rt:80:5
 probe-child-probe-grid-requires : (t : ℕ) → probe-child-lts.Need-probe-grid-requires (
   ends-at-reads.Asked,
   ends-at-reads.Learnt,
@@ -114,7 +110,6 @@ probe-child-probe-grid-requires : (t : ℕ) → probe-child-lts.Need-probe-grid-
 unfolding ChildLaid
 probe-child-probe-grid-requires t c κs = (omega (arith, c .before .before .before .before .before .before .pre .0), ((c .before .before .before .before .before .before .pre .1) .0 (c .if2 .left), (c .before .before .before .before .before .before .pre .1) .1, child-sound (gridAt (c .before .before .before .before .before .before .args .level) (c .before .before .before .before .before .before .args .table .now) (c .before .before .before .before .before .before .args .reals .now) (c .before .before .before .before .before .before .args .counts .now)) (c .before .before .before .before .before .before .args .link) (c .if2 .left) ((c .before .before .before .before .before .before .pre .1) .2)))
 
--- src/descent.rt:61:1
 probe-child-returns-3 : (t : ℕ) → probe-child-lts.Need-returns-3 (
   ends-at-reads.Asked,
   ends-at-reads.Learnt,
@@ -123,7 +118,6 @@ probe-child-returns-3 : (t : ℕ) → probe-child-lts.Need-returns-3 (
 ) (probe-child-at t) probe-child.Post
 probe-child-returns-3 t c = c .probe-grid .ensures ∙ sym (child-hung (gridAt (c .before .before .before .before .before .before .before .args .level) (c .before .before .before .before .before .before .before .args .table .now) (c .before .before .before .before .before .before .before .args .reals .now) (c .before .before .before .before .before .before .before .args .counts .now)) (c .before .before .before .before .before .before .before .args .link) (c .before .before .before .before .before .before .before .args .p) (c .before .before .before .before .before .before .before .args .depth) (c .before .before .before .ends-at .result) (c .before .before .before .ends-at .ensures) (c .before .before .if1 .left) (c .before .if2 .left))
 
--- src/descent.rt:101:9
 probe-from-bins-returns : (t : ℕ) → probe-from-bins-lts.Need-returns (
   probe-child-below t,
   probe-child.Post,
@@ -135,7 +129,6 @@ probe-from-bins-returns : (t : ℕ) → probe-from-bins-lts.Need-returns (
 unfolding paperProbed
 probe-from-bins-returns t c = sym (bins-ended (headAt (c .before .before .before .before .before .args .table .now) (c .before .before .before .before .before .args .reals .now) (c .before .before .before .before .before .args .counts .now) (c .before .before .before .before .before .args .w)) (binsIn (gridAt (c .before .before .before .before .before .args .level) (c .before .before .before .before .before .args .table .now) (c .before .before .before .before .before .args .reals .now) (c .before .before .before .before .before .args .counts .now)) (c .before .before .before .before .before .args .table .now) (c .before .before .before .before .before .args .reals .now) (c .before .before .before .before .before .args .counts .now) (c .before .before .before .before .before .args .w) 0 (getD (c .before .before .before .before .before .args .table .now) ((c .before .before .before .before .before .args .w) + 2) 0)) (c .before .before .before .before .before .args .p) (c .before .before .before .before .before .args .depth) (coordinatesOf (c .before .before .before .before .before .args .p .coordinates)) (c .if1 .taken))
 
--- src/descent.rt:104:15
 probe-from-bins-mul-bin : (t : ℕ) → probe-from-bins-lts.Need-mul-bin (
   probe-child-below t,
   probe-child.Post,
@@ -146,7 +139,6 @@ probe-from-bins-mul-bin : (t : ℕ) → probe-from-bins-lts.Need-mul-bin (
 ) (probe-from-bins-at t) probe-from-bins.Post
 probe-from-bins-mul-bin t c = omega (arith, (c .before .before .before .before .before .before .pre .1) .1)
 
--- src/descent.rt:104:15
 probe-from-bins-array-read-bin : (t : ℕ) → probe-from-bins-lts.Need-array-read-bin (
   probe-child-below t,
   probe-child.Post,
@@ -157,7 +149,6 @@ probe-from-bins-array-read-bin : (t : ℕ) → probe-from-bins-lts.Need-array-re
 ) (probe-from-bins-at t) probe-from-bins.Post
 probe-from-bins-array-read-bin t c = omega (arith, (c .before .before .before .before .before .before .pre .1) .1)
 
--- src/descent.rt:105:22
 probe-from-bins-add-held : (t : ℕ) → probe-from-bins-lts.Need-add-held (
   probe-child-below t,
   probe-child.Post,
@@ -168,7 +159,6 @@ probe-from-bins-add-held : (t : ℕ) → probe-from-bins-lts.Need-add-held (
 ) (probe-from-bins-at t) probe-from-bins.Post
 probe-from-bins-add-held t c = omega (arith, (c .before .before .before .before .before .before .pre .1) .0)
 
--- src/descent.rt:105:16
 probe-from-bins-mul-held : (t : ℕ) → probe-from-bins-lts.Need-mul-held (
   probe-child-below t,
   probe-child.Post,
@@ -179,7 +169,6 @@ probe-from-bins-mul-held : (t : ℕ) → probe-from-bins-lts.Need-mul-held (
 ) (probe-from-bins-at t) probe-from-bins.Post
 probe-from-bins-mul-held t c = omega (arith, (c .before .before .before .before .before .before .pre .1) .0)
 
--- src/descent.rt:105:16
 probe-from-bins-shared-slice-read-held : (t : ℕ) → probe-from-bins-lts.Need-shared-slice-read-held (
   probe-child-below t,
   probe-child.Post,
@@ -190,7 +179,6 @@ probe-from-bins-shared-slice-read-held : (t : ℕ) → probe-from-bins-lts.Need-
 ) (probe-from-bins-at t) probe-from-bins.Post
 probe-from-bins-shared-slice-read-held t c = omega (arith, (c .before .before .before .before .before .before .before .pre .1) .0)
 
--- src/descent.rt:107:9
 probe-from-bins-returns-2 : (t : ℕ) → probe-from-bins-lts.Need-returns-2 (
   probe-child-below t,
   probe-child.Post,
@@ -202,7 +190,6 @@ probe-from-bins-returns-2 : (t : ℕ) → probe-from-bins-lts.Need-returns-2 (
 unfolding paperProbed
 probe-from-bins-returns-2 t c = sym (bins-strayed (gridAt (c .before .before .before .before .before .before .before .before .args .level) (c .before .before .before .before .before .before .before .before .args .table .now) (c .before .before .before .before .before .before .before .before .args .reals .now) (c .before .before .before .before .before .before .before .before .args .counts .now)) (c .before .before .before .before .before .before .before .before .args .table .now) (c .before .before .before .before .before .before .before .before .args .reals .now) (c .before .before .before .before .before .before .before .before .args .counts .now) (c .before .before .before .before .before .before .before .before .args .w) (headAt (c .before .before .before .before .before .before .before .before .args .table .now) (c .before .before .before .before .before .before .before .before .args .reals .now) (c .before .before .before .before .before .before .before .before .args .counts .now) (c .before .before .before .before .before .before .before .before .args .w)) (getD (c .before .before .before .before .before .before .before .before .args .table .now) ((c .before .before .before .before .before .before .before .before .args .w) + 2) 0) (c .before .before .before .before .before .before .before .before .args .p) (c .before .before .before .before .before .before .before .before .args .depth) (coordinatesOf (c .before .before .before .before .before .before .before .before .args .p .coordinates)) (c .before .before .before .if1 .left) (c .if2 .taken))
 
--- src/descent.rt:109:23
 probe-from-bins-add-first : (t : ℕ) → probe-from-bins-lts.Need-add-first (
   probe-child-below t,
   probe-child.Post,
@@ -213,7 +200,6 @@ probe-from-bins-add-first : (t : ℕ) → probe-from-bins-lts.Need-add-first (
 ) (probe-from-bins-at t) probe-from-bins.Post
 probe-from-bins-add-first t c = omega (arith, (c .before .before .before .before .before .before .before .before .pre .1) .0, c .if2 .left)
 
--- src/descent.rt:109:17
 probe-from-bins-mul-first : (t : ℕ) → probe-from-bins-lts.Need-mul-first (
   probe-child-below t,
   probe-child.Post,
@@ -224,7 +210,6 @@ probe-from-bins-mul-first : (t : ℕ) → probe-from-bins-lts.Need-mul-first (
 ) (probe-from-bins-at t) probe-from-bins.Post
 probe-from-bins-mul-first t c = omega (arith, (c .before .before .before .before .before .before .before .before .pre .1) .0, c .if2 .left)
 
--- src/descent.rt:109:17
 probe-from-bins-shared-slice-read-first :
     (t : ℕ) → probe-from-bins-lts.Need-shared-slice-read-first (
       probe-child-below t,
@@ -236,7 +221,6 @@ probe-from-bins-shared-slice-read-first :
     ) (probe-from-bins-at t) probe-from-bins.Post
 probe-from-bins-shared-slice-read-first t c = omega (arith, (c .before .before .before .before .before .before .before .before .before .pre .1) .0, c .before .if2 .left)
 
--- src/descent.rt:109:17
 probe-from-bins-add-first-2 : (t : ℕ) → probe-from-bins-lts.Need-add-first-2 (
   probe-child-below t,
   probe-child.Post,
@@ -247,7 +231,6 @@ probe-from-bins-add-first-2 : (t : ℕ) → probe-from-bins-lts.Need-add-first-2
 ) (probe-from-bins-at t) probe-from-bins.Post
 probe-from-bins-add-first-2 t c = omega (arith, (c .before .before .before .before .before .before .before .before .before .pre .1) .0, c .before .if2 .left)
 
--- src/descent.rt:110:24
 probe-from-bins-add-chance : (t : ℕ) → probe-from-bins-lts.Need-add-chance (
   probe-child-below t,
   probe-child.Post,
@@ -258,7 +241,6 @@ probe-from-bins-add-chance : (t : ℕ) → probe-from-bins-lts.Need-add-chance (
 ) (probe-from-bins-at t) probe-from-bins.Post
 probe-from-bins-add-chance t c = omega (arith, (c .before .before .before .before .before .before .before .before .before .pre .1) .0, c .before .if2 .left)
 
--- src/descent.rt:110:18
 probe-from-bins-mul-chance : (t : ℕ) → probe-from-bins-lts.Need-mul-chance (
   probe-child-below t,
   probe-child.Post,
@@ -269,7 +251,6 @@ probe-from-bins-mul-chance : (t : ℕ) → probe-from-bins-lts.Need-mul-chance (
 ) (probe-from-bins-at t) probe-from-bins.Post
 probe-from-bins-mul-chance t c = omega (arith, (c .before .before .before .before .before .before .before .before .before .pre .1) .0, c .before .if2 .left)
 
--- src/descent.rt:110:18
 probe-from-bins-shared-slice-read-chance :
     (t : ℕ) → probe-from-bins-lts.Need-shared-slice-read-chance (
       probe-child-below t,
@@ -281,7 +262,6 @@ probe-from-bins-shared-slice-read-chance :
     ) (probe-from-bins-at t) probe-from-bins.Post
 probe-from-bins-shared-slice-read-chance t c = omega (arith, (c .before .before .before .before .before .before .before .before .before .before .pre .1) .0, c .before .before .if2 .left)
 
--- src/descent.rt:111:22
 probe-from-bins-add-link : (t : ℕ) → probe-from-bins-lts.Need-add-link (
   probe-child-below t,
   probe-child.Post,
@@ -292,7 +272,6 @@ probe-from-bins-add-link : (t : ℕ) → probe-from-bins-lts.Need-add-link (
 ) (probe-from-bins-at t) probe-from-bins.Post
 probe-from-bins-add-link t c = omega (arith, (c .before .before .before .before .before .before .before .before .before .before .pre .1) .0, c .before .before .if2 .left)
 
--- src/descent.rt:111:22
 probe-from-bins-add-link-2 : (t : ℕ) → probe-from-bins-lts.Need-add-link-2 (
   probe-child-below t,
   probe-child.Post,
@@ -303,7 +282,6 @@ probe-from-bins-add-link-2 : (t : ℕ) → probe-from-bins-lts.Need-add-link-2 (
 ) (probe-from-bins-at t) probe-from-bins.Post
 probe-from-bins-add-link-2 t c = omega (arith, (c .before .before .before .before .before .before .before .before .before .before .pre .1) .0, c .before .before .if2 .left)
 
--- src/descent.rt:111:16
 probe-from-bins-mul-link : (t : ℕ) → probe-from-bins-lts.Need-mul-link (
   probe-child-below t,
   probe-child.Post,
@@ -314,7 +292,6 @@ probe-from-bins-mul-link : (t : ℕ) → probe-from-bins-lts.Need-mul-link (
 ) (probe-from-bins-at t) probe-from-bins.Post
 probe-from-bins-mul-link t c = omega (arith, (c .before .before .before .before .before .before .before .before .before .before .pre .1) .0, c .before .before .if2 .left)
 
--- src/descent.rt:111:16
 probe-from-bins-shared-slice-read-link : (t : ℕ) → probe-from-bins-lts.Need-shared-slice-read-link (
   probe-child-below t,
   probe-child.Post,
@@ -325,7 +302,6 @@ probe-from-bins-shared-slice-read-link : (t : ℕ) → probe-from-bins-lts.Need-
 ) (probe-from-bins-at t) probe-from-bins.Post
 probe-from-bins-shared-slice-read-link t c = omega (arith, (c .before .before .before .before .before .before .before .before .before .before .before .pre .1) .0, c .before .before .before .if2 .left)
 
--- src/descent.rt:112:67
 probe-from-bins-add-probe-child : (t : ℕ) → probe-from-bins-lts.Need-add-probe-child (
   probe-child-below t,
   probe-child.Post,
@@ -336,7 +312,6 @@ probe-from-bins-add-probe-child : (t : ℕ) → probe-from-bins-lts.Need-add-pro
 ) (probe-from-bins-at t) probe-from-bins.Post
 probe-from-bins-add-probe-child t c = omega (arith, (c .before .before .before .before .before .before .before .before .before .before .before .pre .1) .1)
 
--- src/descent.rt:112:9
 probe-from-bins-probe-child-requires : (t : ℕ) → probe-from-bins-lts.Need-probe-child-requires (
   probe-child-below t,
   probe-child.Post,
@@ -348,7 +323,6 @@ probe-from-bins-probe-child-requires : (t : ℕ) → probe-from-bins-lts.Need-pr
 unfolding ChildLaid
 probe-from-bins-probe-child-requires t c κs = (omega (arith, c .before .before .before .before .before .before .before .before .before .before .before .pre .0), (λ z. (c .before .before .before .before .before .before .before .before .before .before .before .pre .1) .0 .children (getD ((c .before .before .before .before .before .before .before .before .before .before .before .args .p) .path) (c .before .before .before .before .before .before .before .before .before .before .before .args .depth) 0) (c .before .before .before .if2 .left) z, omega (arith, (c .before .before .before .before .before .before .before .before .before .before .before .pre .1) .1), sound-below (binIn (c .before .before .before .before .before .before .before .before .before .before .before .args .table .now) (c .before .before .before .before .before .before .before .before .before .before .before .args .reals .now) (c .before .before .before .before .before .before .before .before .before .before .before .args .counts .now) (c .before .before .before .before .before .before .before .before .before .before .before .args .w) (getD ((c .before .before .before .before .before .before .before .before .before .before .before .args .p) .path) (c .before .before .before .before .before .before .before .before .before .before .before .args .depth) 0)) (childIn (gridAt (c .before .before .before .before .before .before .before .before .before .before .before .args .level) (c .before .before .before .before .before .before .before .before .before .before .before .args .table .now) (c .before .before .before .before .before .before .before .before .before .before .before .args .reals .now) (c .before .before .before .before .before .before .before .before .before .before .before .args .counts .now)) (getD (c .before .before .before .before .before .before .before .before .before .before .before .args .table .now) ((c .before .before .before .before .before .before .before .before .before .before .before .args .w) + 7 + (getD ((c .before .before .before .before .before .before .before .before .before .before .before .args .p) .path) (c .before .before .before .before .before .before .before .before .before .before .before .args .depth) 0)) 0)) (sound-in (gridAt (c .before .before .before .before .before .before .before .before .before .before .before .args .level) (c .before .before .before .before .before .before .before .before .before .before .before .args .table .now) (c .before .before .before .before .before .before .before .before .before .before .before .args .reals .now) (c .before .before .before .before .before .before .before .before .before .before .before .args .counts .now)) (c .before .before .before .before .before .before .before .before .before .before .before .args .table .now) (c .before .before .before .before .before .before .before .before .before .before .before .args .reals .now) (c .before .before .before .before .before .before .before .before .before .before .before .args .counts .now) (c .before .before .before .before .before .before .before .before .before .before .before .args .w) (headAt (c .before .before .before .before .before .before .before .before .before .before .before .args .table .now) (c .before .before .before .before .before .before .before .before .before .before .before .args .reals .now) (c .before .before .before .before .before .before .before .before .before .before .before .args .counts .now) (c .before .before .before .before .before .before .before .before .before .before .before .args .w)) (getD (c .before .before .before .before .before .before .before .before .before .before .before .args .table .now) ((c .before .before .before .before .before .before .before .before .before .before .before .args .w) + 2) 0) (getD ((c .before .before .before .before .before .before .before .before .before .before .before .args .p) .path) (c .before .before .before .before .before .before .before .before .before .before .before .args .depth) 0) (c .before .before .before .if2 .left) ((c .before .before .before .before .before .before .before .before .before .before .before .pre .1) .2))))
 
--- src/descent.rt:113:17
 probe-from-bins-inv-requires : (t : ℕ) → probe-from-bins-lts.Need-inv-requires (
   probe-child-below t,
   probe-child.Post,
@@ -359,7 +333,6 @@ probe-from-bins-inv-requires : (t : ℕ) → probe-from-bins-lts.Need-inv-requir
 ) (probe-from-bins-at t) probe-from-bins.Post
 probe-from-bins-inv-requires t c κs = tt
 
--- src/descent.rt:113:5
 probe-from-bins-through-bin-requires : (t : ℕ) → probe-from-bins-lts.Need-through-bin-requires (
   probe-child-below t,
   probe-child.Post,
@@ -370,7 +343,6 @@ probe-from-bins-through-bin-requires : (t : ℕ) → probe-from-bins-lts.Need-th
 ) (probe-from-bins-at t) probe-from-bins.Post
 probe-from-bins-through-bin-requires t c κs = tt
 
--- src/descent.rt:85:1
 probe-from-bins-returns-3 : (t : ℕ) → probe-from-bins-lts.Need-returns-3 (
   probe-child-below t,
   probe-child.Post,
@@ -381,7 +353,6 @@ probe-from-bins-returns-3 : (t : ℕ) → probe-from-bins-lts.Need-returns-3 (
 ) (probe-from-bins-at t) probe-from-bins.Post
 probe-from-bins-returns-3 t c = c .through-bin .ensures ∙ ap₂ (λ (a : Float) (q : Paper Float). through (mul binary64 a) q) (c .before .inv .ensures) (c .before .before .probe-child .ensures) ∙ sym (bins-through (gridAt (c .before .before .before .before .before .before .before .before .before .before .before .before .before .before .args .level) (c .before .before .before .before .before .before .before .before .before .before .before .before .before .before .args .table .now) (c .before .before .before .before .before .before .before .before .before .before .before .before .before .before .args .reals .now) (c .before .before .before .before .before .before .before .before .before .before .before .before .before .before .args .counts .now)) (c .before .before .before .before .before .before .before .before .before .before .before .before .before .before .args .table .now) (c .before .before .before .before .before .before .before .before .before .before .before .before .before .before .args .reals .now) (c .before .before .before .before .before .before .before .before .before .before .before .before .before .before .args .counts .now) (c .before .before .before .before .before .before .before .before .before .before .before .before .before .before .args .w) (headAt (c .before .before .before .before .before .before .before .before .before .before .before .before .before .before .args .table .now) (c .before .before .before .before .before .before .before .before .before .before .before .before .before .before .args .reals .now) (c .before .before .before .before .before .before .before .before .before .before .before .before .before .before .args .counts .now) (c .before .before .before .before .before .before .before .before .before .before .before .before .before .before .args .w)) (getD (c .before .before .before .before .before .before .before .before .before .before .before .before .before .before .args .table .now) ((c .before .before .before .before .before .before .before .before .before .before .before .before .before .before .args .w) + 2) 0) (c .before .before .before .before .before .before .before .before .before .before .before .before .before .before .args .p) (c .before .before .before .before .before .before .before .before .before .before .before .before .before .before .args .depth) (coordinatesOf (c .before .before .before .before .before .before .before .before .before .before .before .before .before .before .args .p .coordinates)) (c .before .before .before .before .before .before .before .before .before .if1 .left) (c .before .before .before .before .before .before .if2 .left))
 
--- src/descent.rt:129:8
 probe-grid-mul-if1 : (t : ℕ) → probe-grid-lts.Need-mul-if1 (
   probe-at-axes-reads.Asked,
   probe-at-axes-reads.Learnt,
@@ -390,7 +361,6 @@ probe-grid-mul-if1 : (t : ℕ) → probe-grid-lts.Need-mul-if1 (
 ) (probe-grid-at t) probe-grid.Post
 probe-grid-mul-if1 t c = omega (arith, laid-head (c .before .before .before .args .level) (c .before .before .before .args .table .now) (length (c .before .before .before .args .reals .now)) (length (c .before .before .before .args .counts .now)) (c .before .before .before .args .w) ((c .before .before .before .pre .1) .0))
 
--- src/descent.rt:129:8
 probe-grid-shared-slice-read-if1 : (t : ℕ) → probe-grid-lts.Need-shared-slice-read-if1 (
   probe-at-axes-reads.Asked,
   probe-at-axes-reads.Learnt,
@@ -399,7 +369,6 @@ probe-grid-shared-slice-read-if1 : (t : ℕ) → probe-grid-lts.Need-shared-slic
 ) (probe-grid-at t) probe-grid.Post
 probe-grid-shared-slice-read-if1 t c = omega (arith, laid-head (c .before .before .before .before .args .level) (c .before .before .before .before .args .table .now) (length (c .before .before .before .before .args .reals .now)) (length (c .before .before .before .before .args .counts .now)) (c .before .before .before .before .args .w) ((c .before .before .before .before .pre .1) .0))
 
--- src/descent.rt:130:9
 probe-grid-probe-at-axes-requires : (t : ℕ) → probe-grid-lts.Need-probe-at-axes-requires (
   probe-at-axes-reads.Asked,
   probe-at-axes-reads.Learnt,
@@ -408,7 +377,6 @@ probe-grid-probe-at-axes-requires : (t : ℕ) → probe-grid-lts.Need-probe-at-a
 ) (probe-grid-at t) probe-grid.Post
 probe-grid-probe-at-axes-requires t c κs = (laid-axes (c .before .before .before .before .before .args .level) (c .before .before .before .before .before .args .table .now) (length (c .before .before .before .before .before .args .reals .now)) (length (c .before .before .before .before .before .args .counts .now)) (c .before .before .before .before .before .args .w) ((c .before .before .before .before .before .pre .1) .0) (c .if1 .taken), sym (ap sound (node-axes (c .before .before .before .before .before .args .level) (c .before .before .before .before .before .args .table .now) (c .before .before .before .before .before .args .reals .now) (c .before .before .before .before .before .args .counts .now) (c .before .before .before .before .before .args .w) (c .if1 .taken))) ∙ (c .before .before .before .before .before .pre .1) .2)
 
--- src/descent.rt:130:9
 probe-grid-returns : (t : ℕ) → probe-grid-lts.Need-returns (
   probe-at-axes-reads.Asked,
   probe-at-axes-reads.Learnt,
@@ -417,7 +385,6 @@ probe-grid-returns : (t : ℕ) → probe-grid-lts.Need-returns (
 ) (probe-grid-at t) probe-grid.Post
 probe-grid-returns t c = c .probe-at-axes .ensures ∙ ap (λ (g : Grid). probeGrid g (pathFrom (c .before .before .before .before .before .before .args .p) (c .before .before .before .before .before .before .args .depth)) (coordinatesOf (c .before .before .before .before .before .before .args .p .coordinates))) (sym (node-axes (c .before .before .before .before .before .before .args .level) (c .before .before .before .before .before .before .args .table .now) (c .before .before .before .before .before .before .args .reals .now) (c .before .before .before .before .before .before .args .counts .now) (c .before .before .before .before .before .before .args .w) (c .before .if1 .taken)))
 
--- src/descent.rt:132:43
 probe-grid-sub-probe-from-bins : (t : ℕ) → probe-grid-lts.Need-sub-probe-from-bins (
   probe-at-axes-reads.Asked,
   probe-at-axes-reads.Learnt,
@@ -426,7 +393,6 @@ probe-grid-sub-probe-from-bins : (t : ℕ) → probe-grid-lts.Need-sub-probe-fro
 ) (probe-grid-at t) probe-grid.Post
 probe-grid-sub-probe-from-bins t c = let d = (laid-bins (c .before .before .before .before .before .args .level) (c .before .before .before .before .before .args .table .now) (length (c .before .before .before .before .before .args .reals .now)) (length (c .before .before .before .before .before .args .counts .now)) (c .before .before .before .before .before .args .w) ((c .before .before .before .before .before .pre .1) .0) (c .if1 .left)) in omega (arith, d .level)
 
--- src/descent.rt:132:5
 probe-grid-probe-from-bins-requires : (t : ℕ) → probe-grid-lts.Need-probe-from-bins-requires (
   probe-at-axes-reads.Asked,
   probe-at-axes-reads.Learnt,
@@ -435,7 +401,6 @@ probe-grid-probe-from-bins-requires : (t : ℕ) → probe-grid-lts.Need-probe-fr
 ) (probe-grid-at t) probe-grid.Post
 probe-grid-probe-from-bins-requires t c κs = let d = (laid-bins (c .before .before .before .before .before .args .level) (c .before .before .before .before .before .args .table .now) (length (c .before .before .before .before .before .args .reals .now)) (length (c .before .before .before .before .before .args .counts .now)) (c .before .before .before .before .before .args .w) ((c .before .before .before .before .before .pre .1) .0) (c .if1 .left)) in (omega (arith, c .before .before .before .before .before .pre .0, d .level), (d .bins, omega (arith, (c .before .before .before .before .before .pre .1) .1, d .level), sym (ap sound (node-bins (c .before .before .before .before .before .args .level) (c .before .before .before .before .before .args .table .now) (c .before .before .before .before .before .args .reals .now) (c .before .before .before .before .before .args .counts .now) (c .before .before .before .before .before .args .w) (c .if1 .left) (d .level))) ∙ (c .before .before .before .before .before .pre .1) .2))
 
--- src/descent.rt:117:1
 probe-grid-returns-2 : (t : ℕ) → probe-grid-lts.Need-returns-2 (
   probe-at-axes-reads.Asked,
   probe-at-axes-reads.Learnt,

@@ -1,14 +1,10 @@
 use Rattle.lent.proofs.Paths.{ends-over, ends-bare}
 use Rattle.quiet.proofs.descent.ends_at.Statement.{statement}
 use Rattle.quiet.proofs.descent.ends_at.Tie as tie
-use Rattle.quiet.proofs.descent.ends_at.Reads as reads
-use Rattle.quiet.proofs.descent.ends_at.Lts as lts
 
--- src/descent.rt:24:9
 returns : tie.Need-returns
 returns c = ends-over (c .before .before .args .p) (c .before .before .args .depth) (c .if1 .taken)
 
--- src/descent.rt:20:1
 returns-2 : tie.Need-returns-2
 returns-2 c = ends-bare (c .before .before .before .before .args .p) (c .before .before .before .before .args .depth) (c .before .before .if1 .left)
 

@@ -10,25 +10,17 @@ use Rattle.lent.proofs.Paths.{axes-passed, axes-met, axes-probed}
 use borrow.Author.Needs.{needs}
 use Rattle.quiet.proofs.descent.probe_at_axes.Statement.{statement}
 use Rattle.quiet.proofs.descent.probe_at_axes.Tie as tie
-use Rattle.quiet.proofs.descent.probe_at_axes.Reads as reads
-use Rattle.quiet.proofs.descent.probe_at_axes.Lts as lts
-use Rattle.lent.proofs.layout.axes_place.Reads as axes-place-reads
-use Rattle.quiet.proofs.probing.probe_axes.Reads as probe-axes-reads
 
--- src/descent.rt:53:9
 returns : tie.Need-returns
 unfolding paperProbed
 returns c = sym (axes-passed (axesGridAt (c .before .before .before .before .before .args .table .now) (c .before .before .before .before .before .args .reals .now) (c .before .before .before .before .before .args .counts .now) (c .before .before .before .before .before .args .w)) (c .before .before .before .before .before .args .p) (c .before .before .before .before .before .args .depth) (coordinatesOf (c .before .before .before .before .before .args .p .coordinates)) (c .if1 .taken))
 
--- src/descent.rt:55:9
 axes-place-requires : tie.Need-axes-place-requires
 axes-place-requires c κs = tt
 
--- src/descent.rt:57:5
 probe-axes-requires : tie.Need-probe-axes-requires
 probe-axes-requires c κs = subst (λ (g : AxesAt). Stands (c .before .before .before .before .before .before .before .args .reals .now) (c .before .before .before .before .before .before .before .args .counts .now) g) (sym (placed (c .before .before .before .before .before .before .before .args .table .now) (c .before .before .before .before .before .before .before .args .w) (c .before .axes-place .ensures) (search needs))) (sound-stands (c .before .before .before .before .before .before .before .args .table .now) (c .before .before .before .before .before .before .before .args .reals .now) (c .before .before .before .before .before .before .before .args .counts .now) (c .before .before .before .before .before .before .before .args .w) (c .before .before .before .before .before .before .before .pre .0) (c .before .before .before .before .before .before .before .pre .1))
 
--- src/descent.rt:41:1
 returns-2 : tie.Need-returns-2
 returns-2 c = c .probe-axes .ensures ∙ axes-probed (c .before .before .before .before .before .before .before .before .args .table .now) (c .before .before .before .before .before .before .before .before .args .reals .now) (c .before .before .before .before .before .before .before .before .args .counts .now) (c .before .before .before .before .before .before .before .before .args .w) (c .before .before .axes-place .result) (coordinatesOf (c .before .before .before .before .before .before .before .before .args .p .coordinates)) (placed (c .before .before .before .before .before .before .before .before .args .table .now) (c .before .before .before .before .before .before .before .before .args .w) (c .before .before .axes-place .ensures) (search needs)) ∙ sym (axes-met (axesGridAt (c .before .before .before .before .before .before .before .before .args .table .now) (c .before .before .before .before .before .before .before .before .args .reals .now) (c .before .before .before .before .before .before .before .before .args .counts .now) (c .before .before .before .before .before .before .before .before .args .w)) (c .before .before .before .before .before .before .before .before .args .p) (c .before .before .before .before .before .before .before .before .args .depth) (coordinatesOf (c .before .before .before .before .before .before .before .before .args .p .coordinates)) (c .before .before .before .if1 .left))
 

@@ -3,22 +3,16 @@ use Rattle.lent.proofs.Paths.{through-weight, through-refusal}
 use native.Mathlib.Omega.{arith}
 use Rattle.quiet.proofs.descent.through_bin.Statement.{statement}
 use Rattle.quiet.proofs.descent.through_bin.Tie as tie
-use Rattle.quiet.proofs.descent.through_bin.Reads as reads
-use Rattle.quiet.proofs.descent.through_bin.Lts as lts
 
--- src/descent.rt:35:24
 enum-known-probed : tie.Need-enum-known-probed
 enum-known-probed c = omega arith
 
--- src/descent.rt:36:25
 enum-known-probed-2 : tie.Need-enum-known-probed-2
 enum-known-probed-2 c = omega arith
 
--- src/descent.rt:31:1
 returns : tie.Need-returns
 returns c = through-weight (mul binary64 (c .before .before .before .args .inverse)) _ _ (c .before .probed .given .1)
 
--- src/descent.rt:31:1
 returns-2 : tie.Need-returns-2
 returns-2 c = through-refusal (mul binary64 (c .before .before .before .args .inverse)) _ _ (c .before .probed2 .given .1)
 

@@ -58,20 +58,17 @@ abbrev lay-grid-below : ℕ → In 3 lay-grid-kinds.ps
 lay-grid-below t =
     and 3 lay-grid-kinds.ps (falls 3 lay-grid-kinds.ps _<_ μ-lay-grid t) lay-grid.Pre
 
--- src/founding.rt:57:9
 lay-child-returns :
     (t : ℕ) →
     lay-child-lts.Need-returns (lay-grid-below t, lay-grid.Post) (lay-child-at t) lay-child.Post
 lay-child-returns t c = nothing-laid (laidGrid (c .before .before .before .before .args .level) (c .before .before .before .before .args .table .now)) (c .before .before .before .before .args .link) (memory (c .before .before .before .before .args .reals .now) (c .before .before .before .before .args .counts .now)) (c .if1 .taken)
 
--- src/founding.rt:59:5
 lay-child-lay-grid-requires : (t : ℕ) → lay-child-lts.Need-lay-grid-requires (
   lay-grid-below t,
   lay-grid.Post,
 ) (lay-child-at t) lay-child.Post
 lay-child-lay-grid-requires t c κs = (omega (arith, c .before .before .before .before .before .before .pre .0), c .before .before .before .before .before .before .pre .1 (c .before .before .if1 .left))
 
--- src/founding.rt:51:1
 lay-child-same-length :
     (t : ℕ) →
     lay-child-lts.Need-same-length
@@ -80,14 +77,12 @@ lay-child-same-length :
     lay-child.Post
 lay-child-same-length t c = c .before .before .before .before .lay-grid .kept .1 .0
 
--- src/founding.rt:51:1
 lay-child-same-length-2 : (t : ℕ) → lay-child-lts.Need-same-length-2 (
   lay-grid-below t,
   lay-grid.Post,
 ) (lay-child-at t) lay-child.Post
 lay-child-same-length-2 t c = c .before .before .before .before .lay-grid .kept .1 .1 .0
 
--- src/founding.rt:51:1
 lay-child-returns-2 :
     (t : ℕ) →
     lay-child-lts.Need-returns-2 (lay-grid-below t, lay-grid.Post) (lay-child-at t) lay-child.Post
@@ -99,7 +94,6 @@ lay-children-Inv-loop table reals₀ counts₀ level w n i₀ reals counts i = (
 abbrev lay-children-μ-loop : lay-children-lts.MeasureT-loop
 lay-children-μ-loop table reals₀ counts₀ level w n i₀ reals counts i = n - i
 
--- src/founding.rt:68:19
 lay-children-add-n :
     (t : ℕ) →
     lay-children-lts.Need-add-n
@@ -110,7 +104,6 @@ lay-children-add-n :
     lay-children-μ-loop
 lay-children-add-n t c = omega (arith, c .before .before .before .pre .1)
 
--- src/founding.rt:68:13
 lay-children-mul-n :
     (t : ℕ) →
     lay-children-lts.Need-mul-n
@@ -121,56 +114,48 @@ lay-children-mul-n :
     lay-children-μ-loop
 lay-children-mul-n t c = omega (arith, c .before .before .before .pre .1)
 
--- src/founding.rt:68:13
 lay-children-shared-slice-read-n : (t : ℕ) → lay-children-lts.Need-shared-slice-read-n (
   lay-child-below t,
   lay-child.Post,
 ) (lay-children-at t) lay-children.Post lay-children-Inv-loop lay-children-μ-loop
 lay-children-shared-slice-read-n t c = omega (arith, c .before .before .before .before .pre .1)
 
--- src/founding.rt:70:5
 lay-children-loop-holds : (t : ℕ) → lay-children-lts.Need-loop-holds (
   lay-child-below t,
   lay-child.Post,
 ) (lay-children-at t) lay-children.Post lay-children-Inv-loop lay-children-μ-loop
 lay-children-loop-holds t c = let e : (getD (c .before .before .before .before .args .table .now) ((c .before .before .before .before .args .w) + 2) 0) - 0 ≡ (getD (c .before .before .before .before .args .table .now) ((c .before .before .before .before .args .w) + 2) 0) = omega arith in (omega arith, refl, refl, rw e)
 
--- src/founding.rt:71:26
 lay-children-add-link : (t : ℕ) → lay-children-lts.Need-add-link (
   lay-child-below t,
   lay-child.Post,
 ) (lay-children-at t) lay-children.Post lay-children-Inv-loop lay-children-μ-loop
 lay-children-add-link t c = omega (arith, c .before .before .before .before .before .before .pre .1, c .loop-test .taken)
 
--- src/founding.rt:71:26
 lay-children-add-link-2 : (t : ℕ) → lay-children-lts.Need-add-link-2 (
   lay-child-below t,
   lay-child.Post,
 ) (lay-children-at t) lay-children.Post lay-children-Inv-loop lay-children-μ-loop
 lay-children-add-link-2 t c = omega (arith, c .before .before .before .before .before .before .pre .1, c .loop-test .taken)
 
--- src/founding.rt:71:20
 lay-children-mul-link : (t : ℕ) → lay-children-lts.Need-mul-link (
   lay-child-below t,
   lay-child.Post,
 ) (lay-children-at t) lay-children.Post lay-children-Inv-loop lay-children-μ-loop
 lay-children-mul-link t c = omega (arith, c .before .before .before .before .before .before .pre .1, c .loop-test .taken)
 
--- src/founding.rt:71:20
 lay-children-shared-slice-read-link : (t : ℕ) → lay-children-lts.Need-shared-slice-read-link (
   lay-child-below t,
   lay-child.Post,
 ) (lay-children-at t) lay-children.Post lay-children-Inv-loop lay-children-μ-loop
 lay-children-shared-slice-read-link t c = omega (arith, c .before .before .before .before .before .before .before .pre .1, c .before .loop-test .taken)
 
--- src/founding.rt:72:9
 lay-children-lay-child-requires : (t : ℕ) → lay-children-lts.Need-lay-child-requires (
   lay-child-below t,
   lay-child.Post,
 ) (lay-children-at t) lay-children.Post lay-children-Inv-loop lay-children-μ-loop
 lay-children-lay-child-requires t c κs = (omega (arith, c .before .before .before .before .before .before .before .before .before .pre .0), λ z. laid-kept (c .before .before .before .before .before .before .before .before .before .args .level) (c .before .before .before .before .before .before .before .before .before .args .table .now) (length (c .before .before .before .before .before .before .before .before .before .args .reals .now)) (length (c .before .before .before .before .before .before .before .before .before .args .counts .now)) (length (c .before .before .before .before .loop .reals)) (length (c .before .before .before .before .loop .counts)) (getD (c .before .before .before .before .before .before .before .before .before .args .table .now) ((c .before .before .before .before .before .before .before .before .before .args .w) + 7 + (c .before .before .before .before .loop .i)) 0) (c .before .before .before .before .loop .inv .1) (c .before .before .before .before .loop .inv .2) (c .before .before .before .before .before .before .before .before .before .pre .1 .children (c .before .before .before .before .loop .i) (c .before .before .before .loop-test .taken) z))
 
--- src/founding.rt:73:9
 lay-children-add-i :
     (t : ℕ) →
     lay-children-lts.Need-add-i
@@ -181,35 +166,30 @@ lay-children-add-i :
     lay-children-μ-loop
 lay-children-add-i t c = omega (arith, c .before .before .before .before .before .before .before .before .before .before .before .before .before .before .pre .1, c .before .before .before .before .before .before .before .before .loop-test .taken)
 
--- src/founding.rt:70:5
 lay-children-loop-less : (t : ℕ) → lay-children-lts.Need-loop-less (
   lay-child-below t,
   lay-child.Post,
 ) (lay-children-at t) lay-children.Post lay-children-Inv-loop lay-children-μ-loop
 lay-children-loop-less t c = omega (arith, c .before .before .before .before .before .before .before .before .loop-test .taken)
 
--- src/founding.rt:70:5
 lay-children-loop-again : (t : ℕ) → lay-children-lts.Need-loop-again (
   lay-child-below t,
   lay-child.Post,
 ) (lay-children-at t) lay-children.Post lay-children-Inv-loop lay-children-μ-loop
 lay-children-loop-again t c = (omega (arith, c .before .before .before .before .before .before .before .before .loop-test .taken), c .before .before .before .before .lay-child .kept .1 .0 ∙ c .before .before .before .before .before .before .before .before .before .loop .inv .1, c .before .before .before .before .lay-child .kept .1 .1 .0 ∙ c .before .before .before .before .before .before .before .before .before .loop .inv .2, children-next (laidGrid (c .before .before .before .before .before .before .before .before .before .before .before .before .before .before .args .level) (c .before .before .before .before .before .before .before .before .before .before .before .before .before .before .args .table .now)) (c .before .before .before .before .before .before .before .before .before .before .before .before .before .before .args .table .now) (c .before .before .before .before .before .before .before .before .before .before .before .before .before .before .args .w) (getD (c .before .before .before .before .before .before .before .before .before .before .before .before .before .before .args .table .now) ((c .before .before .before .before .before .before .before .before .before .before .before .before .before .before .args .w) + 2) 0) (c .before .before .before .before .before .before .before .before .before .loop .i) (memory (c .before .before .before .before .before .before .before .before .before .loop .reals) (c .before .before .before .before .before .before .before .before .before .loop .counts)) (memory (c .before .before .before .before .lay-child .last .1 .0) (c .before .before .before .before .lay-child .last .1 .1 .0)) (c .before .before .before .before .before .before .before .before .loop-test .taken) (c .before .before .before .before .lay-child .ensures) ∙ c .before .before .before .before .before .before .before .before .before .loop .inv .3)
 
--- src/founding.rt:63:1
 lay-children-same-length : (t : ℕ) → lay-children-lts.Need-same-length (
   lay-child-below t,
   lay-child.Post,
 ) (lay-children-at t) lay-children.Post lay-children-Inv-loop lay-children-μ-loop
 lay-children-same-length t c = c .before .loop .inv .1
 
--- src/founding.rt:63:1
 lay-children-same-length-2 : (t : ℕ) → lay-children-lts.Need-same-length-2 (
   lay-child-below t,
   lay-child.Post,
 ) (lay-children-at t) lay-children.Post lay-children-Inv-loop lay-children-μ-loop
 lay-children-same-length-2 t c = c .before .loop .inv .2
 
--- src/founding.rt:63:1
 lay-children-returns :
     (t : ℕ) →
     lay-children-lts.Need-returns
@@ -220,7 +200,6 @@ lay-children-returns :
     lay-children-μ-loop
 lay-children-returns t c = sym (children-done (laidGrid (c .before .before .before .before .before .before .args .level) (c .before .before .before .before .before .before .args .table .now)) (c .before .before .before .before .before .before .args .table .now) (c .before .before .before .before .before .before .args .w) (getD (c .before .before .before .before .before .before .args .table .now) ((c .before .before .before .before .before .before .args .w) + 2) 0) (c .before .loop .i) (memory (c .before .loop .reals) (c .before .loop .counts)) (c .loop-test .left)) ∙ c .before .loop .inv .3
 
--- src/founding.rt:83:8
 lay-grid-mul-if1 : (t : ℕ) → lay-grid-lts.Need-mul-if1 (
   lay-axes-grid-reads.Asked,
   lay-axes-grid-reads.Learnt,
@@ -231,7 +210,6 @@ lay-grid-mul-if1 : (t : ℕ) → lay-grid-lts.Need-mul-if1 (
 ) (lay-grid-at t) lay-grid.Post
 lay-grid-mul-if1 t c = omega (arith, laid-head (c .before .before .before .args .level) (c .before .before .before .args .table .now) (length (c .before .before .before .args .reals .now)) (length (c .before .before .before .args .counts .now)) (c .before .before .before .args .w) (c .before .before .before .pre .1))
 
--- src/founding.rt:83:8
 lay-grid-shared-slice-read-if1 : (t : ℕ) → lay-grid-lts.Need-shared-slice-read-if1 (
   lay-axes-grid-reads.Asked,
   lay-axes-grid-reads.Learnt,
@@ -242,7 +220,6 @@ lay-grid-shared-slice-read-if1 : (t : ℕ) → lay-grid-lts.Need-shared-slice-re
 ) (lay-grid-at t) lay-grid.Post
 lay-grid-shared-slice-read-if1 t c = omega (arith, laid-head (c .before .before .before .before .args .level) (c .before .before .before .before .args .table .now) (length (c .before .before .before .before .args .reals .now)) (length (c .before .before .before .before .args .counts .now)) (c .before .before .before .before .args .w) (c .before .before .before .before .pre .1))
 
--- src/founding.rt:84:9
 lay-grid-lay-axes-grid-requires : (t : ℕ) → lay-grid-lts.Need-lay-axes-grid-requires (
   lay-axes-grid-reads.Asked,
   lay-axes-grid-reads.Learnt,
@@ -253,7 +230,6 @@ lay-grid-lay-axes-grid-requires : (t : ℕ) → lay-grid-lts.Need-lay-axes-grid-
 ) (lay-grid-at t) lay-grid.Post
 lay-grid-lay-axes-grid-requires t c κs = laid-axes (c .before .before .before .before .before .before .before .args .level) (c .before .before .before .before .before .before .before .args .table .now) (length (c .before .before .before .before .before .before .before .args .reals .now)) (length (c .before .before .before .before .before .before .before .args .counts .now)) (c .before .before .before .before .before .before .before .args .w) (c .before .before .before .before .before .before .before .pre .1) (c .before .before .if1 .taken)
 
--- src/founding.rt:85:9
 lay-grid-same-length : (t : ℕ) → lay-grid-lts.Need-same-length (
   lay-axes-grid-reads.Asked,
   lay-axes-grid-reads.Learnt,
@@ -264,7 +240,6 @@ lay-grid-same-length : (t : ℕ) → lay-grid-lts.Need-same-length (
 ) (lay-grid-at t) lay-grid.Post
 lay-grid-same-length t c = c .before .before .before .before .lay-axes-grid .kept .1 .0
 
--- src/founding.rt:85:9
 lay-grid-same-length-2 : (t : ℕ) → lay-grid-lts.Need-same-length-2 (
   lay-axes-grid-reads.Asked,
   lay-axes-grid-reads.Learnt,
@@ -275,7 +250,6 @@ lay-grid-same-length-2 : (t : ℕ) → lay-grid-lts.Need-same-length-2 (
 ) (lay-grid-at t) lay-grid.Post
 lay-grid-same-length-2 t c = c .before .before .before .before .lay-axes-grid .kept .1 .1 .0
 
--- src/founding.rt:85:9
 lay-grid-returns : (t : ℕ) → lay-grid-lts.Need-returns (
   lay-axes-grid-reads.Asked,
   lay-axes-grid-reads.Learnt,
@@ -286,7 +260,6 @@ lay-grid-returns : (t : ℕ) → lay-grid-lts.Need-returns (
 ) (lay-grid-at t) lay-grid.Post
 lay-grid-returns t c = c .before .before .before .before .lay-axes-grid .ensures ∙ grid-axes (c .before .before .before .before .before .before .before .before .before .before .before .before .args .level) (c .before .before .before .before .before .before .before .before .before .before .before .before .args .table .now) (c .before .before .before .before .before .before .before .before .before .before .before .before .args .w) (memory (c .before .before .before .before .before .before .before .before .before .before .before .before .args .reals .now) (c .before .before .before .before .before .before .before .before .before .before .before .before .args .counts .now)) (c .before .before .before .before .before .before .before .if1 .taken)
 
--- src/founding.rt:87:17
 lay-grid-sub-below : (t : ℕ) → lay-grid-lts.Need-sub-below (
   lay-axes-grid-reads.Asked,
   lay-axes-grid-reads.Learnt,
@@ -297,7 +270,6 @@ lay-grid-sub-below : (t : ℕ) → lay-grid-lts.Need-sub-below (
 ) (lay-grid-at t) lay-grid.Post
 lay-grid-sub-below t c = omega (arith, (laid-bins (c .before .before .before .before .before .args .level) (c .before .before .before .before .before .args .table .now) (length (c .before .before .before .before .before .args .reals .now)) (length (c .before .before .before .before .before .args .counts .now)) (c .before .before .before .before .before .args .w) (c .before .before .before .before .before .pre .1) (c .if1 .left)) .level)
 
--- src/founding.rt:88:5
 lay-grid-lay-own-requires : (t : ℕ) → lay-grid-lts.Need-lay-own-requires (
   lay-axes-grid-reads.Asked,
   lay-axes-grid-reads.Learnt,
@@ -308,7 +280,6 @@ lay-grid-lay-own-requires : (t : ℕ) → lay-grid-lts.Need-lay-own-requires (
 ) (lay-grid-at t) lay-grid.Post
 lay-grid-lay-own-requires t c κs = (laid-bins (c .before .before .before .before .before .before .before .args .level) (c .before .before .before .before .before .before .before .args .table .now) (length (c .before .before .before .before .before .before .before .args .reals .now)) (length (c .before .before .before .before .before .before .before .args .counts .now)) (c .before .before .before .before .before .before .before .args .w) (c .before .before .before .before .before .before .before .pre .1) (c .before .before .if1 .left)) .bins
 
--- src/founding.rt:89:5
 lay-grid-lay-children-requires : (t : ℕ) → lay-grid-lts.Need-lay-children-requires (
   lay-axes-grid-reads.Asked,
   lay-axes-grid-reads.Learnt,
@@ -319,7 +290,6 @@ lay-grid-lay-children-requires : (t : ℕ) → lay-grid-lts.Need-lay-children-re
 ) (lay-grid-at t) lay-grid.Post
 lay-grid-lay-children-requires t c κs = (omega (arith, c .before .before .before .before .before .before .before .before .before .before .before .before .before .before .pre .0, (laid-bins (c .before .before .before .before .before .before .before .before .before .before .before .before .before .before .args .level) (c .before .before .before .before .before .before .before .before .before .before .before .before .before .before .args .table .now) (length (c .before .before .before .before .before .before .before .before .before .before .before .before .before .before .args .reals .now)) (length (c .before .before .before .before .before .before .before .before .before .before .before .before .before .before .args .counts .now)) (c .before .before .before .before .before .before .before .before .before .before .before .before .before .before .args .w) (c .before .before .before .before .before .before .before .before .before .before .before .before .before .before .pre .1) (c .before .before .before .before .before .before .before .before .before .if1 .left)) .level), bins-kept ((c .before .before .before .before .before .before .before .before .before .before .before .before .before .before .args .level) - 1) (c .before .before .before .before .before .before .before .before .before .before .before .before .before .before .args .table .now) (length (c .before .before .before .before .before .before .before .before .before .before .before .before .before .before .args .reals .now)) (length (c .before .before .before .before .before .before .before .before .before .before .before .before .before .before .args .counts .now)) (length (c .before .before .before .before .before .before .lay-own .last .1 .0)) (length (c .before .before .before .before .before .before .lay-own .last .1 .1 .0)) (c .before .before .before .before .before .before .before .before .before .before .before .before .before .before .args .w) (c .before .before .before .before .before .before .lay-own .kept .1 .0) (c .before .before .before .before .before .before .lay-own .kept .1 .1 .0) ((laid-bins (c .before .before .before .before .before .before .before .before .before .before .before .before .before .before .args .level) (c .before .before .before .before .before .before .before .before .before .before .before .before .before .before .args .table .now) (length (c .before .before .before .before .before .before .before .before .before .before .before .before .before .before .args .reals .now)) (length (c .before .before .before .before .before .before .before .before .before .before .before .before .before .before .args .counts .now)) (c .before .before .before .before .before .before .before .before .before .before .before .before .before .before .args .w) (c .before .before .before .before .before .before .before .before .before .before .before .before .before .before .pre .1) (c .before .before .before .before .before .before .before .before .before .if1 .left)) .bins))
 
--- src/founding.rt:78:1
 lay-grid-same-length-3 : (t : ℕ) → lay-grid-lts.Need-same-length-3 (
   lay-axes-grid-reads.Asked,
   lay-axes-grid-reads.Learnt,
@@ -330,7 +300,6 @@ lay-grid-same-length-3 : (t : ℕ) → lay-grid-lts.Need-same-length-3 (
 ) (lay-grid-at t) lay-grid.Post
 lay-grid-same-length-3 t c = c .before .before .before .before .lay-children .kept .1 .0 ∙ c .before .before .before .before .before .before .before .before .before .before .before .lay-own .kept .1 .0
 
--- src/founding.rt:78:1
 lay-grid-same-length-4 : (t : ℕ) → lay-grid-lts.Need-same-length-4 (
   lay-axes-grid-reads.Asked,
   lay-axes-grid-reads.Learnt,
@@ -341,7 +310,6 @@ lay-grid-same-length-4 : (t : ℕ) → lay-grid-lts.Need-same-length-4 (
 ) (lay-grid-at t) lay-grid.Post
 lay-grid-same-length-4 t c = c .before .before .before .before .lay-children .kept .1 .1 .0 ∙ c .before .before .before .before .before .before .before .before .before .before .before .lay-own .kept .1 .1 .0
 
--- src/founding.rt:78:1
 lay-grid-returns-2 : (t : ℕ) → lay-grid-lts.Need-returns-2 (
   lay-axes-grid-reads.Asked,
   lay-axes-grid-reads.Learnt,

@@ -7,12 +7,6 @@ use Rattle.lent.specs.Founded.{laidBins}
 use Rattle.lent.proofs.Founds.{bins-next, bins-done, own-founded}
 use Rattle.quiet.proofs.founding.lay_own.Statement.{statement}
 use Rattle.quiet.proofs.founding.lay_own.Tie as tie
-use Rattle.quiet.proofs.founding.lay_own.Reads as reads
-use Rattle.quiet.proofs.founding.lay_own.Lts as lts
-use Rattle.accumulator.proofs.StatisticsAccumulator.new.Reads as new-reads
-use Rattle.ground.proofs.accounts.store.Reads as store-reads
-use Rattle.plain.proofs.count.Reads as count-reads
-use Rattle.plain.proofs.inv.Reads as inv-reads
 
 abbrev Inv-loop : tie.InvT-loop
 Inv-loop table reals₀ counts₀ level w r c n even i₀ reals counts i = (i ≤ n) × (length reals ≡ length reals₀) × (length counts ≡ length counts₀) × (laidBins table w i (n - i) (memory reals counts) ≡ laidBins table w 0 n (memory reals₀ counts₀))
@@ -20,135 +14,102 @@ Inv-loop table reals₀ counts₀ level w r c n even i₀ reals counts i = (i �
 abbrev μ-loop : tie.MeasureT-loop
 μ-loop table reals₀ counts₀ level w r c n even i₀ reals counts i = n - i
 
--- src/founding.rt:31:19
 add-r : tie.Need-add-r Inv-loop μ-loop
 add-r c = omega (arith, c .before .before .before .pre)
 
--- src/founding.rt:31:13
 mul-r : tie.Need-mul-r Inv-loop μ-loop
 mul-r c = omega (arith, c .before .before .before .pre)
 
--- src/founding.rt:31:13
 shared-slice-read-r : tie.Need-shared-slice-read-r Inv-loop μ-loop
 shared-slice-read-r c = omega (arith, c .before .before .before .before .pre)
 
--- src/founding.rt:32:19
 add-c : tie.Need-add-c Inv-loop μ-loop
 add-c c = omega (arith, c .before .before .before .before .pre)
 
--- src/founding.rt:32:13
 mul-c : tie.Need-mul-c Inv-loop μ-loop
 mul-c c = omega (arith, c .before .before .before .before .pre)
 
--- src/founding.rt:32:13
 shared-slice-read-c : tie.Need-shared-slice-read-c Inv-loop μ-loop
 shared-slice-read-c c = omega (arith, c .before .before .before .before .before .pre)
 
--- src/founding.rt:33:19
 add-n : tie.Need-add-n Inv-loop μ-loop
 add-n c = omega (arith, c .before .before .before .before .before .pre)
 
--- src/founding.rt:33:13
 mul-n : tie.Need-mul-n Inv-loop μ-loop
 mul-n c = omega (arith, c .before .before .before .before .before .pre)
 
--- src/founding.rt:33:13
 shared-slice-read-n : tie.Need-shared-slice-read-n Inv-loop μ-loop
 shared-slice-read-n c = omega (arith, c .before .before .before .before .before .before .pre)
 
--- src/founding.rt:34:26
 count-requires : tie.Need-count-requires Inv-loop μ-loop
 count-requires c κs = tt
 
--- src/founding.rt:34:9
 inv-requires : tie.Need-inv-requires Inv-loop μ-loop
 inv-requires c κs = tt
 
--- src/founding.rt:35:42
 new-requires : tie.Need-new-requires Inv-loop μ-loop
 new-requires c κs = tt
 
--- src/founding.rt:35:5
 store-requires : tie.Need-store-requires Inv-loop μ-loop
 store-requires c κs = tt
 
--- src/founding.rt:37:5
 loop-holds : tie.Need-loop-holds Inv-loop μ-loop
 loop-holds c = let e : (getD (c .before .before .before .before .before .before .before .before .before .before .before .before .before .before .before .before .args .table .now) ((c .before .before .before .before .before .before .before .before .before .before .before .before .before .before .before .before .args .w) + 2) 0) - 0 ≡ (getD (c .before .before .before .before .before .before .before .before .before .before .before .before .before .before .before .before .args .table .now) ((c .before .before .before .before .before .before .before .before .before .before .before .before .before .before .before .before .args .w) + 2) 0) = omega arith in (omega arith, refl, refl, rw e)
 
--- src/founding.rt:38:15
 add-reals : tie.Need-add-reals Inv-loop μ-loop
 add-reals c = omega (arith, c .before .before .before .before .before .before .before .before .before .before .before .before .before .before .before .before .before .before .pre, c .loop-test .taken)
 
--- src/founding.rt:38:15
 add-reals-2 : tie.Need-add-reals-2 Inv-loop μ-loop
 add-reals-2 c = omega (arith, c .before .before .before .before .before .before .before .before .before .before .before .before .before .before .before .before .before .before .pre, c .loop-test .taken)
 
--- src/founding.rt:38:9
 mul-reals : tie.Need-mul-reals Inv-loop μ-loop
 mul-reals c = omega (arith, c .before .before .before .before .before .before .before .before .before .before .before .before .before .before .before .before .before .before .pre, c .loop-test .taken)
 
--- src/founding.rt:38:9
 slice-write-reals : tie.Need-slice-write-reals Inv-loop μ-loop
 slice-write-reals c = omega (arith, c .before .before .before .before .before .before .before .before .before .before .before .before .before .before .before .before .before .before .pre, c .loop-test .taken, c .before .loop .inv .1, c .before .before .before .before .before .before .store .kept .0)
 
--- src/founding.rt:42:13
 add-store : tie.Need-add-store Inv-loop μ-loop
 add-store c = omega (arith, c .before .before .before .before .before .before .before .before .before .before .before .before .before .before .before .before .before .before .before .before .pre, c .before .before .loop-test .taken)
 
--- src/founding.rt:42:13
 add-store-2 : tie.Need-add-store-2 Inv-loop μ-loop
 add-store-2 c = omega (arith, c .before .before .before .before .before .before .before .before .before .before .before .before .before .before .before .before .before .before .before .before .pre, c .before .before .loop-test .taken)
 
--- src/founding.rt:42:26
 mul-store : tie.Need-mul-store Inv-loop μ-loop
 mul-store c = omega (arith, c .before .before .before .before .before .before .before .before .before .before .before .before .before .before .before .before .before .before .before .before .pre, c .before .before .loop-test .taken)
 
--- src/founding.rt:42:13
 add-store-3 : tie.Need-add-store-3 Inv-loop μ-loop
 add-store-3 c = omega (arith, c .before .before .before .before .before .before .before .before .before .before .before .before .before .before .before .before .before .before .before .before .pre, c .before .before .loop-test .taken)
 
--- src/founding.rt:43:13
 add-store-4 : tie.Need-add-store-4 Inv-loop μ-loop
 add-store-4 c = omega (arith, c .before .before .before .before .before .before .before .before .before .before .before .before .before .before .before .before .before .before .before .before .pre, c .before .before .loop-test .taken)
 
--- src/founding.rt:43:21
 mul-store-2 : tie.Need-mul-store-2 Inv-loop μ-loop
 mul-store-2 c = omega (arith, c .before .before .before .before .before .before .before .before .before .before .before .before .before .before .before .before .before .before .before .before .pre, c .before .before .loop-test .taken)
 
--- src/founding.rt:43:13
 add-store-5 : tie.Need-add-store-5 Inv-loop μ-loop
 add-store-5 c = omega (arith, c .before .before .before .before .before .before .before .before .before .before .before .before .before .before .before .before .before .before .before .before .pre, c .before .before .loop-test .taken)
 
--- src/founding.rt:44:13
 new-requires-2 : tie.Need-new-requires-2 Inv-loop μ-loop
 new-requires-2 c κs = tt
 
--- src/founding.rt:39:9
 store-requires-2 : tie.Need-store-requires-2 Inv-loop μ-loop
 store-requires-2 c κs = tt
 
--- src/founding.rt:46:9
 add-i : tie.Need-add-i Inv-loop μ-loop
 add-i c = omega (arith, c .before .before .before .before .before .before .before .before .before .before .before .before .before .before .before .before .before .before .before .before .before .before .before .before .before .before .pre, c .before .before .before .before .before .before .before .before .loop-test .taken)
 
--- src/founding.rt:37:5
 loop-less : tie.Need-loop-less Inv-loop μ-loop
 loop-less c = omega (arith, c .before .before .before .before .before .before .before .before .loop-test .taken)
 
--- src/founding.rt:37:5
 loop-again : tie.Need-loop-again Inv-loop μ-loop
 loop-again c = (omega (arith, c .before .before .before .before .before .before .before .before .loop-test .taken), c .before .before .before .before .store2 .kept .0 ∙ length-set (c .before .before .before .before .before .before .before .before .before .loop .reals) (getD (c .before .before .before .before .before .before .before .before .before .before .before .before .before .before .before .before .before .before .before .before .before .before .before .before .before .before .args .table .now) ((c .before .before .before .before .before .before .before .before .before .before .before .before .before .before .before .before .before .before .before .before .before .before .before .before .before .before .args .w) + 5) 0 + 14 + (c .before .before .before .before .before .before .before .before .before .loop .i)) (c .before .before .before .before .before .before .before .before .before .before .before .before .before .before .before .before .before .before .inv .result) ∙ c .before .before .before .before .before .before .before .before .before .loop .inv .1, c .before .before .before .before .store2 .kept .1 .0 ∙ c .before .before .before .before .before .before .before .before .before .loop .inv .2, bins-next (c .before .before .before .before .before .before .before .before .before .before .before .before .before .before .before .before .before .before .before .before .before .before .before .before .before .before .args .table .now) (c .before .before .before .before .before .before .before .before .before .before .before .before .before .before .before .before .before .before .before .before .before .before .before .before .before .before .args .w) (getD (c .before .before .before .before .before .before .before .before .before .before .before .before .before .before .before .before .before .before .before .before .before .before .before .before .before .before .args .table .now) ((c .before .before .before .before .before .before .before .before .before .before .before .before .before .before .before .before .before .before .before .before .before .before .before .before .before .before .args .w) + 2) 0) (c .before .before .before .before .before .before .before .before .before .loop .i) (memory (c .before .before .before .before .before .before .before .before .before .loop .reals) (c .before .before .before .before .before .before .before .before .before .loop .counts)) (memory (c .before .before .before .before .store2 .last .0) (c .before .before .before .before .store2 .last .1 .0)) (c .before .before .before .before .before .before .before .before .before .before .before .before .before .before .before .before .before .before .before .count .result) (c .before .before .before .before .before .before .before .before .before .before .before .before .before .before .before .before .before .before .inv .result) (c .before .before .before .before .before .new2 .result) (c .before .before .before .before .before .before .before .before .loop-test .taken) (c .before .before .before .before .before .before .before .before .before .before .before .before .before .before .before .before .before .before .before .count .ensures) (c .before .before .before .before .before .before .before .before .before .before .before .before .before .before .before .before .before .before .inv .ensures) (c .before .before .before .before .before .new2 .ensures) (c .before .before .before .before .store2 .ensures) ∙ c .before .before .before .before .before .before .before .before .before .loop .inv .3)
 
--- src/founding.rt:27:1
 same-length : tie.Need-same-length Inv-loop μ-loop
 same-length c = c .before .loop .inv .1 ∙ c .before .before .before .before .before .before .store .kept .0
 
--- src/founding.rt:27:1
 same-length-2 : tie.Need-same-length-2 Inv-loop μ-loop
 same-length-2 c = c .before .loop .inv .2 ∙ c .before .before .before .before .before .before .store .kept .1 .0
 
--- src/founding.rt:27:1
 returns : tie.Need-returns Inv-loop μ-loop
 returns c = own-founded (c .before .before .before .before .before .before .before .before .before .before .before .before .before .before .before .before .before .before .args .table .now) (c .before .before .before .before .before .before .before .before .before .before .before .before .before .before .before .before .before .before .args .w) (memory (c .before .before .before .before .before .before .before .before .before .before .before .before .before .before .before .before .before .before .args .reals .now) (c .before .before .before .before .before .before .before .before .before .before .before .before .before .before .before .before .before .before .args .counts .now)) (memory (c .before .before .before .before .before .before .store .last .0) (c .before .before .before .before .before .before .store .last .1 .0)) (memory (c .before .loop .reals) (c .before .loop .counts)) (c .before .before .before .before .before .before .before .new .result) (c .before .before .before .before .before .before .before .new .ensures) (c .before .before .before .before .before .before .store .ensures) (sym (bins-done (c .before .before .before .before .before .before .before .before .before .before .before .before .before .before .before .before .before .before .args .table .now) (c .before .before .before .before .before .before .before .before .before .before .before .before .before .before .before .before .before .before .args .w) (getD (c .before .before .before .before .before .before .before .before .before .before .before .before .before .before .before .before .before .before .args .table .now) ((c .before .before .before .before .before .before .before .before .before .before .before .before .before .before .before .before .before .before .args .w) + 2) 0) (c .before .loop .i) (memory (c .before .loop .reals) (c .before .loop .counts)) (c .loop-test .left)) ∙ c .before .loop .inv .3)
 

@@ -4,9 +4,6 @@ use Rattle.lent.proofs.Runs.{sets-put}
 use native.Mathlib.Omega.{arith}
 use Rattle.quiet.proofs.parts.put_counts.Statement.{statement}
 use Rattle.quiet.proofs.parts.put_counts.Tie as tie
-use Rattle.quiet.proofs.parts.put_counts.Reads as reads
-use Rattle.quiet.proofs.parts.put_counts.Lts as lts
-use Rattle.ground.proofs.parts.set_counts.Reads as set-counts-reads
 
 set-counts-requires : tie.Need-set-counts-requires
 set-counts-requires c κs = tt

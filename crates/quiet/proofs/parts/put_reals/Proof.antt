@@ -4,9 +4,6 @@ use Rattle.lent.proofs.Runs.{sets-put}
 use native.Mathlib.Omega.{arith}
 use Rattle.quiet.proofs.parts.put_reals.Statement.{statement}
 use Rattle.quiet.proofs.parts.put_reals.Tie as tie
-use Rattle.quiet.proofs.parts.put_reals.Reads as reads
-use Rattle.quiet.proofs.parts.put_reals.Lts as lts
-use Rattle.ground.proofs.parts.set_reals.Reads as set-reals-reads
 
 set-reals-requires : tie.Need-set-reals-requires
 set-reals-requires c κs = tt

@@ -9,29 +9,20 @@ use Rattle.axis.specs.Calls.{paperProbed}
 use Rattle.lent.specs.Probed.{coordinatesOf, probedOf}
 use Rattle.lent.proofs.Probes.{coordinates-length}
 use Rattle.lent.proofs.Reading.{length-axes}
-use native.Mathlib.Omega.{arith}
 use borrow.Author.Needs.{needs}
 use Rattle.quiet.proofs.probing.probe_axes.Statement.{statement}
 use Rattle.quiet.proofs.probing.probe_axes.Tie as tie
-use Rattle.quiet.proofs.probing.probe_axes.Reads as reads
-use Rattle.quiet.proofs.probing.probe_axes.Lts as lts
-use Rattle.quiet.proofs.probing.under_floor.Reads as under-floor-reads
-use Rattle.quiet.proofs.probing.weigh_axes.Reads as weigh-axes-reads
 
--- src/probing.rt:84:9
 returns : tie.Need-returns
 unfolding paperProbed probedOf coordinatesOf
 returns c = rw (coordinates-length, length-axes, ne-eqb _ _ (c .if1 .taken))
 
--- src/probing.rt:86:26
 weigh-axes-requires : tie.Need-weigh-axes-requires
 weigh-axes-requires c κs = search needs
 
--- src/probing.rt:86:5
 under-floor-requires : tie.Need-under-floor-requires
 under-floor-requires c κs = tt
 
--- src/probing.rt:79:1
 returns-2 : tie.Need-returns-2
 unfolding probedOf coordinatesOf
 returns-2 c = rw (coordinates-length, length-axes, eq-eqb _ _ (c .before .before .if1 .left)) (c .under-floor .ensures ∙ ap (λ (a : Paper Float). through (flooredOf (c .before .before .before .before .before .before .before .args .g .floor)) a) (c .before .weigh-axes .ensures))

@@ -3,27 +3,19 @@ use Rattle.lent.proofs.Probes.{floors-weight, floors-refusal}
 use native.Mathlib.Omega.{arith}
 use Rattle.quiet.proofs.probing.under_floor.Statement.{statement}
 use Rattle.quiet.proofs.probing.under_floor.Tie as tie
-use Rattle.quiet.proofs.probing.under_floor.Reads as reads
-use Rattle.quiet.proofs.probing.under_floor.Lts as lts
-use Rattle.ground.proofs.floors.floored.Reads as floored-reads
 
--- src/probing.rt:73:24
 enum-known-probed : tie.Need-enum-known-probed
 enum-known-probed c = omega arith
 
--- src/probing.rt:73:50
 floored-requires : tie.Need-floored-requires
 floored-requires c κs = tt
 
--- src/probing.rt:74:25
 enum-known-probed-2 : tie.Need-enum-known-probed-2
 enum-known-probed-2 c = omega arith
 
--- src/probing.rt:69:1
 returns : tie.Need-returns
 returns c = floors-weight _ _ _ _ (c .before .before .probed .given .1) (c .floored .ensures)
 
--- src/probing.rt:69:1
 returns-2 : tie.Need-returns-2
 returns-2 c = floors-refusal _ _ _ (c .before .probed2 .given .1)
 

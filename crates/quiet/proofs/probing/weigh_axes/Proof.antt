@@ -16,11 +16,6 @@ use Rattle.lent.proofs.Probes.{leftOf, probed-stop, probed-next, probed-out}
 use Rattle.lent.proofs.Draws.{asked-part}
 use Rattle.quiet.proofs.probing.weigh_axes.Statement.{statement}
 use Rattle.quiet.proofs.probing.weigh_axes.Tie as tie
-use Rattle.quiet.proofs.probing.weigh_axes.Reads as reads
-use Rattle.quiet.proofs.probing.weigh_axes.Lts as lts
-use Rattle.quiet.proofs.onward.after_first.Reads as after-first-reads
-use Rattle.quiet.proofs.probing.is_fit.Reads as is-fit-reads
-use Rattle.quiet.proofs.probing.weigh_on.Reads as weigh-on-reads
 
 abbrev Inv-loop : tie.InvT-loop
 Inv-loop reals counts p weight₀ left₀ done₀ weight left done =
@@ -29,82 +24,63 @@ Inv-loop reals counts p weight₀ left₀ done₀ weight left done =
 abbrev μ-loop : tie.MeasureT-loop
 μ-loop reals counts p weight₀ left₀ done₀ weight left done = left .axes
 
--- src/probing.rt:51:5
 loop-holds : tie.Need-loop-holds Inv-loop μ-loop
 unfolding coordinatesOf
 loop-holds c = (c .before .before .pre .0, omega (arith, c .before .before .pre .1), omega (arith, c .before .before .pre .0 .0, c .before .before .pre .1), rw (c .before .before .pre .1))
 
--- src/probing.rt:52:20
 element-copy-out-free : tie.Need-element-copy-out-free Inv-loop μ-loop
 element-copy-out-free c = omega (arith, c .before .before .loop .inv .1, c .before .before .loop .inv .2, c .if1 .taken)
 
--- src/probing.rt:53:17
 mul-x : tie.Need-mul-x Inv-loop μ-loop
 mul-x c = omega (arith, c .before .before .before .loop .inv .1, c .before .before .before .loop .inv .2, c .before .if1 .taken)
 
--- src/probing.rt:53:17
 element-copy-out-x : tie.Need-element-copy-out-x Inv-loop μ-loop
 element-copy-out-x c = omega (arith, c .before .before .before .loop .inv .1, c .before .before .before .loop .inv .2, c .before .if1 .taken)
 
--- src/probing.rt:54:13
 is-fit-requires : tie.Need-is-fit-requires Inv-loop μ-loop
 is-fit-requires c κs = tt
 
--- src/probing.rt:55:13
 returns : tie.Need-returns Inv-loop μ-loop
 unfolding paperProbed
 returns c = sym (probed-stop (c .before .before .before .before .before .before .before .before .before .args .reals .now) (c .before .before .before .before .before .before .before .before .before .args .counts .now) (c .before .before .before .before .before .before .before .before .before .args .t4) (c .before .before .before .before .before .before .loop .left) (c .before .before .before .before .before .before .loop .done) (c .before .before .before .before .before .before .loop .weight) (c .before .is-fit .result) (c .before .before .before .before .if1 .taken) (c .before .is-fit .ensures) (c .if2 .taken)) ∙ c .before .before .before .before .before .before .loop .inv .3
 
--- src/probing.rt:58:20
 mul-held : tie.Need-mul-held Inv-loop μ-loop
 mul-held c = let n = first (c .before .before .before .before .before .before .before .before .before .args .reals .now) (c .before .before .before .before .before .before .before .before .before .args .counts .now) (c .before .before .before .before .before .before .loop .left) (c .before .before .before .before .if1 .taken) (c .before .before .before .before .before .before .loop .inv .0) in omega arith
 
--- src/probing.rt:58:20
 shared-slice-read-held : tie.Need-shared-slice-read-held Inv-loop μ-loop
 shared-slice-read-held c = let n = first (c .before .before .before .before .before .before .before .before .before .before .args .reals .now) (c .before .before .before .before .before .before .before .before .before .before .args .counts .now) (c .before .before .before .before .before .before .before .loop .left) (c .before .before .before .before .before .if1 .taken) (c .before .before .before .before .before .before .before .loop .inv .0) in omega arith
 
--- src/probing.rt:60:19
 add-end : tie.Need-add-end Inv-loop μ-loop
 add-end c = let n = first (c .before .before .before .before .before .before .before .before .before .before .args .reals .now) (c .before .before .before .before .before .before .before .before .before .before .args .counts .now) (c .before .before .before .before .before .before .before .loop .left) (c .before .before .before .before .before .if1 .taken) (c .before .before .before .before .before .before .before .loop .inv .0) in omega arith
 
--- src/probing.rt:60:19
 add-end-2 : tie.Need-add-end-2 Inv-loop μ-loop
 add-end-2 c = let n = first (c .before .before .before .before .before .before .before .before .before .before .args .reals .now) (c .before .before .before .before .before .before .before .before .before .before .args .counts .now) (c .before .before .before .before .before .before .before .loop .left) (c .before .before .before .before .before .if1 .taken) (c .before .before .before .before .before .before .before .loop .inv .0) in omega arith
 
--- src/probing.rt:61:27
 mul-weigh-on : tie.Need-mul-weigh-on Inv-loop μ-loop
 mul-weigh-on c = let n = first (c .before .before .before .before .before .before .before .before .before .before .args .reals .now) (c .before .before .before .before .before .before .before .before .before .before .args .counts .now) (c .before .before .before .before .before .before .before .loop .left) (c .before .before .before .before .before .if1 .taken) (c .before .before .before .before .before .before .before .loop .inv .0) in omega arith
 
--- src/probing.rt:61:27
 sub-weigh-on : tie.Need-sub-weigh-on Inv-loop μ-loop
 sub-weigh-on c = let n = first (c .before .before .before .before .before .before .before .before .before .before .args .reals .now) (c .before .before .before .before .before .before .before .before .before .before .args .counts .now) (c .before .before .before .before .before .before .before .loop .left) (c .before .before .before .before .before .if1 .taken) (c .before .before .before .before .before .before .before .loop .inv .0) in omega arith
 
--- src/probing.rt:61:27
 part-weigh-on-start : tie.Need-part-weigh-on-start Inv-loop μ-loop
 part-weigh-on-start c = let n = first (c .before .before .before .before .before .before .before .before .before .before .args .reals .now) (c .before .before .before .before .before .before .before .before .before .before .args .counts .now) (c .before .before .before .before .before .before .before .loop .left) (c .before .before .before .before .before .if1 .taken) (c .before .before .before .before .before .before .before .loop .inv .0) in omega arith
 
--- src/probing.rt:61:27
 part-weigh-on-end : tie.Need-part-weigh-on-end Inv-loop μ-loop
 part-weigh-on-end c = let n = first (c .before .before .before .before .before .before .before .before .before .before .args .reals .now) (c .before .before .before .before .before .before .before .before .before .before .args .counts .now) (c .before .before .before .before .before .before .before .loop .left) (c .before .before .before .before .before .if1 .taken) (c .before .before .before .before .before .before .before .loop .inv .0) in omega arith
 
--- src/probing.rt:61:9
 weigh-on-requires : tie.Need-weigh-on-requires Inv-loop μ-loop
 weigh-on-requires c κs = let n = first (c .before .before .before .before .before .before .before .before .before .before .before .args .reals .now) (c .before .before .before .before .before .before .before .before .before .before .before .args .counts .now) (c .before .before .before .before .before .before .before .before .loop .left) (c .before .before .before .before .before .before .if1 .taken) (c .before .before .before .before .before .before .before .before .loop .inv .0) in (asked-part (c .before .before .before .before .before .before .before .before .loop .left .reals) _ (c .before .before .before .before .before .before .before .before .before .before .before .args .reals .now) (n .edges), passed (c .before .before .before .is-fit .ensures) (c .before .before .if2 .left))
 
--- src/probing.rt:62:9
 after-first-requires : tie.Need-after-first-requires Inv-loop μ-loop
 unfolding axisReals axisCounts
 after-first-requires c κs = let n = first (c .before .before .before .before .before .before .before .before .before .before .before .before .args .reals .now) (c .before .before .before .before .before .before .before .before .before .before .before .before .args .counts .now) (c .before .before .before .before .before .before .before .before .before .loop .left) (c .before .before .before .before .before .before .before .if1 .taken) (c .before .before .before .before .before .before .before .before .before .loop .inv .0) in (c .before .before .before .before .before .before .before .if1 .taken, n .few, omega arith, omega arith)
 
--- src/probing.rt:63:9
 add-done : tie.Need-add-done Inv-loop μ-loop
 add-done c = omega (arith, c .before .before .before .before .before .before .before .before .before .before .loop .inv .1, c .before .before .before .before .before .before .before .before .before .before .loop .inv .2, c .before .before .before .before .before .before .before .before .if1 .taken)
 
--- src/probing.rt:51:5
 loop-less : tie.Need-loop-less Inv-loop μ-loop
 loop-less c = let e = one-less (c .before .before .before .before .before .before .before .before .before .before .loop .left) (c .after-first .result) (c .after-first .ensures) in omega (arith, e, c .before .before .before .before .before .before .before .before .if1 .taken)
 
--- src/probing.rt:51:5
 loop-again : tie.Need-loop-again Inv-loop μ-loop
 loop-again c = let e = one-less (c .before .before .before .before .before .before .before .before .before .before .loop .left) (c .after-first .result) (c .after-first .ensures) in (
   stands-on (c .before .before .before .before .before .before .before .before .before .before .before .before .before .args .reals .now) (c .before .before .before .before .before .before .before .before .before .before .before .before .before .args .counts .now) (c .before .before .before .before .before .before .before .before .before .before .loop .left) (c .after-first .result) (c .before .before .before .before .before .before .before .before .if1 .taken) (c .before .before .before .before .before .before .before .before .before .before .loop .inv .0) (c .after-first .ensures),
@@ -113,7 +89,6 @@ loop-again c = let e = one-less (c .before .before .before .before .before .befo
   probed-next (c .before .before .before .before .before .before .before .before .before .before .before .before .before .args .reals .now) (c .before .before .before .before .before .before .before .before .before .before .before .before .before .args .counts .now) (c .before .before .before .before .before .before .before .before .before .before .before .before .before .args .t4) (c .before .before .before .before .before .before .before .before .before .before .loop .left) (c .after-first .result) (c .before .before .before .before .before .before .before .before .before .before .loop .done) (c .before .before .before .before .before .before .before .before .before .before .loop .weight) (c .before .weigh-on .result) (c .before .before .before .before .before .is-fit .result) (c .before .before .before .before .before .before .before .before .if1 .taken) (c .after-first .ensures) (c .before .before .before .before .before .is-fit .ensures) (c .before .before .before .before .if2 .left) (c .before .weigh-on .ensures) ∙ c .before .before .before .before .before .before .before .before .before .before .loop .inv .3,
 )
 
--- src/probing.rt:44:1
 returns-2 : tie.Need-returns-2 Inv-loop μ-loop
 unfolding paperProbed
 returns-2 c = sym (probed-out (c .before .before .before .before .before .args .reals .now) (c .before .before .before .before .before .args .counts .now) (c .before .before .before .before .before .args .t4) (c .before .before .loop .left) (c .before .before .loop .done) (c .before .before .loop .weight) (c .if1 .left)) ∙ c .before .before .loop .inv .3

@@ -1,27 +1,18 @@
 -- `probing::weigh_on` meets its contract: the search by halves finds the rule's bin on well-formed edges.
 use Rattle.axis.proofs.Searches.{search-is}
-use native.Mathlib.Omega.{arith}
 use borrow.Author.Needs.{needs}
 use Rattle.quiet.proofs.probing.weigh_on.Statement.{statement}
 use Rattle.quiet.proofs.probing.weigh_on.Tie as tie
-use Rattle.quiet.proofs.probing.weigh_on.Reads as reads
-use Rattle.quiet.proofs.probing.weigh_on.Lts as lts
-use Rattle.axis.proofs.edges.bin_of.Reads as bin-of-reads
-use Rattle.axis.proofs.edges.weight_of.Reads as weight-of-reads
 
--- src/probing.rt:38:9
 returns : tie.Need-returns
 returns c = search needs
 
--- src/probing.rt:40:44
 bin-of-requires : tie.Need-bin-of-requires
 bin-of-requires c κs = tt
 
--- src/probing.rt:40:14
 weight-of-requires : tie.Need-weight-of-requires
 weight-of-requires c κs = tt
 
--- src/probing.rt:33:1
 returns-2 : tie.Need-returns-2
 returns-2 c = rw (c .before .before .if1 .left, c .weight-of .ensures, c .before .bin-of .ensures, search-is (c .before .before .before .before .args .edges .now) (c .before .before .before .before .args .x) (c .before .before .before .before .pre .0) (rw (c .before .before .if1 .left) at (c .before .before .before .before .pre .1)))
 

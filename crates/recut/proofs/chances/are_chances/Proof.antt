@@ -7,9 +7,6 @@ use Rattle.recut.specs.Chances.{allChances}
 use Rattle.recut.proofs.Shares.{chances-next, chances-end}
 use Rattle.recut.proofs.chances.are_chances.Statement.{statement}
 use Rattle.recut.proofs.chances.are_chances.Tie as tie
-use Rattle.recut.proofs.chances.are_chances.Reads as reads
-use Rattle.recut.proofs.chances.are_chances.Lts as lts
-use Rattle.recut.proofs.chances.is_chance.Reads as is-chance-reads
 
 abbrev Inv-loop : tie.InvT-loop
 Inv-loop ps ok₀ i₀ ok i = (ok && allChances (drop i ps)) ≡ allChances ps
@@ -17,35 +14,27 @@ Inv-loop ps ok₀ i₀ ok i = (ok && allChances (drop i ps)) ≡ allChances ps
 abbrev μ-loop : tie.MeasureT-loop
 μ-loop ps ok₀ i₀ ok i = length ps - i
 
--- src/chances.rt:82:5
 loop-holds : tie.Need-loop-holds Inv-loop μ-loop
 loop-holds c = refl
 
--- src/chances.rt:83:29
 mul-is-chance : tie.Need-mul-is-chance Inv-loop μ-loop
 mul-is-chance c = omega arith
 
--- src/chances.rt:83:29
 shared-slice-read-is-chance : tie.Need-shared-slice-read-is-chance Inv-loop μ-loop
 shared-slice-read-is-chance c = omega arith
 
--- src/chances.rt:83:19
 is-chance-requires : tie.Need-is-chance-requires Inv-loop μ-loop
 is-chance-requires c κs = tt
 
--- src/chances.rt:84:9
 add-i : tie.Need-add-i Inv-loop μ-loop
 add-i c = omega arith
 
--- src/chances.rt:82:5
 loop-less : tie.Need-loop-less Inv-loop μ-loop
 loop-less c = omega arith
 
--- src/chances.rt:82:5
 loop-again : tie.Need-loop-again Inv-loop μ-loop
 loop-again c = ap (λ (t : Bool). (c .before .before .before .loop .ok && t) && allChances (drop (c .before .before .before .loop .i + 1) (c .before .before .before .before .before .args .ps .now))) (c .is-chance .ensures) ∙ chances-next (c .before .before .before .before .before .args .ps .now) (c .before .before .before .loop .i) (c .before .before .before .loop .ok) (c .before .before .loop-test .taken) ∙ c .before .before .before .loop .inv
 
--- src/chances.rt:77:1
 returns : tie.Need-returns Inv-loop μ-loop
 returns c = sym (chances-end (c .before .before .before .args .ps .now) (c .before .loop .i) (c .before .loop .ok) (c .loop-test .left)) ∙ c .before .loop .inv
 

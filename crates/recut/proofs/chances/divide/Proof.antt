@@ -7,9 +7,6 @@ use Rattle.recut.specs.Chances.{shareOf}
 use Rattle.recut.proofs.Shares.{map-next, map-end}
 use Rattle.recut.proofs.chances.divide.Statement.{statement}
 use Rattle.recut.proofs.chances.divide.Tie as tie
-use Rattle.recut.proofs.chances.divide.Reads as reads
-use Rattle.recut.proofs.chances.divide.Lts as lts
-use Rattle.recut.proofs.chances.share_of.Reads as share-of-reads
 
 abbrev Inv-loop : tie.InvT-loop
 Inv-loop ps₀ total i₀ ps i = (i ≤ length ps) × (length ps ≡ length ps₀) × (take i ps ++ map (shareOf total) (drop i ps) ≡ map (shareOf total) ps₀)
@@ -17,47 +14,36 @@ Inv-loop ps₀ total i₀ ps i = (i ≤ length ps) × (length ps ≡ length ps�
 abbrev μ-loop : tie.MeasureT-loop
 μ-loop ps₀ total i₀ ps i = length ps - i
 
--- src/chances.rt:63:5
 loop-holds : tie.Need-loop-holds Inv-loop μ-loop
 loop-holds c = (zero-le, refl, refl)
 
--- src/chances.rt:64:33
 mul-share-of : tie.Need-mul-share-of Inv-loop μ-loop
 mul-share-of c = omega arith
 
--- src/chances.rt:64:33
 slice-read-share-of : tie.Need-slice-read-share-of Inv-loop μ-loop
 slice-read-share-of c = omega arith
 
--- src/chances.rt:64:17
 share-of-requires : tie.Need-share-of-requires Inv-loop μ-loop
 share-of-requires c κs = tt
 
--- src/chances.rt:64:9
 mul-ps : tie.Need-mul-ps Inv-loop μ-loop
 mul-ps c = omega arith
 
--- src/chances.rt:64:9
 slice-write-ps : tie.Need-slice-write-ps Inv-loop μ-loop
 slice-write-ps c = omega arith
 
--- src/chances.rt:65:9
 add-i : tie.Need-add-i Inv-loop μ-loop
 add-i c = omega arith
 
--- src/chances.rt:63:5
 loop-less : tie.Need-loop-less Inv-loop μ-loop
 loop-less c = simp length-set (omega arith)
 
--- src/chances.rt:63:5
 loop-again : tie.Need-loop-again Inv-loop μ-loop
 loop-again c = (simp length-set (omega arith), simp length-set (c .before .before .before .loop .inv .1), map-next _ _ _ _ (c .before .before .loop-test .taken) (c .share-of .ensures) ∙ c .before .before .before .loop .inv .2)
 
--- src/chances.rt:59:1
 same-length : tie.Need-same-length Inv-loop μ-loop
 same-length c = c .before .loop .inv .1
 
--- src/chances.rt:59:1
 returns : tie.Need-returns Inv-loop μ-loop
 returns c = sym (map-end _ _ _ (c .loop-test .left)) ∙ c .before .loop .inv .2
 

@@ -1,15 +1,11 @@
 use Rattle.recut.specs.Chances.{higher}
 use Rattle.recut.proofs.chances.higher_of.Statement.{statement}
 use Rattle.recut.proofs.chances.higher_of.Tie as tie
-use Rattle.recut.proofs.chances.higher_of.Reads as reads
-use Rattle.recut.proofs.chances.higher_of.Lts as lts
 
--- src/chances.rt:12:9
 returns : tie.Need-returns
 unfolding higher
 returns c = rw (c .if1 .taken)
 
--- src/chances.rt:8:1
 returns-2 : tie.Need-returns-2
 unfolding higher
 returns-2 c = rw (c .if1 .left)

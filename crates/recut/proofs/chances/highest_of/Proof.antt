@@ -8,9 +8,6 @@ use Rattle.recut.specs.Chances.{highest}
 use Rattle.recut.proofs.Shares.{highest-next, highest-end}
 use Rattle.recut.proofs.chances.highest_of.Statement.{statement}
 use Rattle.recut.proofs.chances.highest_of.Tie as tie
-use Rattle.recut.proofs.chances.highest_of.Reads as reads
-use Rattle.recut.proofs.chances.highest_of.Lts as lts
-use Rattle.recut.proofs.chances.higher_of.Reads as higher-of-reads
 
 abbrev Inv-loop : tie.InvT-loop
 Inv-loop ps top₀ i₀ top i = (i ≤ length ps) × (highest zero64 ps ≡ highest top (drop i ps))
@@ -18,35 +15,27 @@ Inv-loop ps top₀ i₀ top i = (i ≤ length ps) × (highest zero64 ps ≡ high
 abbrev μ-loop : tie.MeasureT-loop
 μ-loop ps top₀ i₀ top i = length ps - i
 
--- src/chances.rt:23:5
 loop-holds : tie.Need-loop-holds Inv-loop μ-loop
 loop-holds c = (zero-le, refl)
 
--- src/chances.rt:24:30
 mul-higher-of : tie.Need-mul-higher-of Inv-loop μ-loop
 mul-higher-of c = omega arith
 
--- src/chances.rt:24:30
 shared-slice-read-higher-of : tie.Need-shared-slice-read-higher-of Inv-loop μ-loop
 shared-slice-read-higher-of c = omega arith
 
--- src/chances.rt:24:9
 higher-of-requires : tie.Need-higher-of-requires Inv-loop μ-loop
 higher-of-requires c κs = tt
 
--- src/chances.rt:25:9
 add-i : tie.Need-add-i Inv-loop μ-loop
 add-i c = omega arith
 
--- src/chances.rt:23:5
 loop-less : tie.Need-loop-less Inv-loop μ-loop
 loop-less c = omega arith
 
--- src/chances.rt:23:5
 loop-again : tie.Need-loop-again Inv-loop μ-loop
 loop-again c = (omega arith, c .before .before .before .loop .inv .1 ∙ highest-next _ _ _ (c .before .before .loop-test .taken) ∙ ap (λ (t : Float). highest t (drop (c .before .before .before .loop .i + 1) (c .before .before .before .before .before .args .ps .now))) (sym (c .higher-of .ensures)))
 
--- src/chances.rt:18:1
 returns : tie.Need-returns Inv-loop μ-loop
 returns c = sym (c .before .loop .inv .1 ∙ highest-end _ _ _ (c .loop-test .left))
 

@@ -7,9 +7,6 @@ use Rattle.recut.specs.Chances.{raisedTo}
 use Rattle.recut.proofs.Shares.{map-next, map-end}
 use Rattle.recut.proofs.chances.raise.Statement.{statement}
 use Rattle.recut.proofs.chances.raise.Tie as tie
-use Rattle.recut.proofs.chances.raise.Reads as reads
-use Rattle.recut.proofs.chances.raise.Lts as lts
-use Rattle.recut.proofs.chances.raised.Reads as raised-reads
 
 abbrev Inv-loop : tie.InvT-loop
 Inv-loop ps₀ least i₀ ps i = (i ≤ length ps) × (length ps ≡ length ps₀) × (take i ps ++ map (raisedTo least) (drop i ps) ≡ map (raisedTo least) ps₀)
@@ -17,47 +14,36 @@ Inv-loop ps₀ least i₀ ps i = (i ≤ length ps) × (length ps ≡ length ps�
 abbrev μ-loop : tie.MeasureT-loop
 μ-loop ps₀ least i₀ ps i = length ps - i
 
--- src/chances.rt:45:5
 loop-holds : tie.Need-loop-holds Inv-loop μ-loop
 loop-holds c = (zero-le, refl, refl)
 
--- src/chances.rt:46:31
 mul-raised : tie.Need-mul-raised Inv-loop μ-loop
 mul-raised c = omega arith
 
--- src/chances.rt:46:31
 slice-read-raised : tie.Need-slice-read-raised Inv-loop μ-loop
 slice-read-raised c = omega arith
 
--- src/chances.rt:46:17
 raised-requires : tie.Need-raised-requires Inv-loop μ-loop
 raised-requires c κs = tt
 
--- src/chances.rt:46:9
 mul-ps : tie.Need-mul-ps Inv-loop μ-loop
 mul-ps c = omega arith
 
--- src/chances.rt:46:9
 slice-write-ps : tie.Need-slice-write-ps Inv-loop μ-loop
 slice-write-ps c = omega arith
 
--- src/chances.rt:47:9
 add-i : tie.Need-add-i Inv-loop μ-loop
 add-i c = omega arith
 
--- src/chances.rt:45:5
 loop-less : tie.Need-loop-less Inv-loop μ-loop
 loop-less c = simp length-set (omega arith)
 
--- src/chances.rt:45:5
 loop-again : tie.Need-loop-again Inv-loop μ-loop
 loop-again c = (simp length-set (omega arith), simp length-set (c .before .before .before .loop .inv .1), map-next _ _ _ _ (c .before .before .loop-test .taken) (c .raised .ensures) ∙ c .before .before .before .loop .inv .2)
 
--- src/chances.rt:41:1
 same-length : tie.Need-same-length Inv-loop μ-loop
 same-length c = c .before .loop .inv .1
 
--- src/chances.rt:41:1
 returns : tie.Need-returns Inv-loop μ-loop
 returns c = sym (map-end _ _ _ (c .loop-test .left)) ∙ c .before .loop .inv .2
 

@@ -1,15 +1,11 @@
 use Rattle.recut.specs.Chances.{raisedTo}
 use Rattle.recut.proofs.chances.raised.Statement.{statement}
 use Rattle.recut.proofs.chances.raised.Tie as tie
-use Rattle.recut.proofs.chances.raised.Reads as reads
-use Rattle.recut.proofs.chances.raised.Lts as lts
 
--- src/chances.rt:35:9
 returns : tie.Need-returns
 unfolding raisedTo
 returns c = rw (c .if1 .taken)
 
--- src/chances.rt:31:1
 returns-2 : tie.Need-returns-2
 unfolding raisedTo
 returns-2 c = rw (c .if1 .left)

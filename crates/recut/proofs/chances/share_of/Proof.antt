@@ -2,10 +2,7 @@ use Rattle.recut.specs.Chances.{shareOf}
 use mathlib.Core.Path.{refl}
 use Rattle.recut.proofs.chances.share_of.Statement.{statement}
 use Rattle.recut.proofs.chances.share_of.Tie as tie
-use Rattle.recut.proofs.chances.share_of.Reads as reads
-use Rattle.recut.proofs.chances.share_of.Lts as lts
 
--- src/chances.rt:52:1
 returns : tie.Need-returns
 unfolding shareOf
 returns c = refl

@@ -1,6 +1,5 @@
 -- `recut::weights::damp_one` meets its contract: the definition, with the tests that were met.
 use Rattle.recut.specs.Weights.{dampOne}
-use native.Mathlib.Omega.{arith}
 use Rattle.recut.proofs.weights.damp_one.Statement.{statement}
 use Rattle.recut.proofs.weights.damp_one.Tie as tie
 

@@ -1,6 +1,5 @@
 -- `recut::weights::damp_share` meets its contract: the definition, with the test that was met.
 use Rattle.recut.specs.Weights.{dampShare}
-use native.Mathlib.Omega.{arith}
 use Rattle.recut.proofs.weights.damp_share.Statement.{statement}
 use Rattle.recut.proofs.weights.damp_share.Tie as tie
 

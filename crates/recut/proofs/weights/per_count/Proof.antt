@@ -1,7 +1,6 @@
 -- `recut::weights::per_count` meets its contract: the definition, with the test that was met.
 use borrow.Author.Tests.{lt-ltb, le-ltb}
 use Rattle.recut.specs.Weights.{perCount}
-use native.Mathlib.Omega.{arith}
 use Rattle.recut.proofs.weights.per_count.Statement.{statement}
 use Rattle.recut.proofs.weights.per_count.Tie as tie
 

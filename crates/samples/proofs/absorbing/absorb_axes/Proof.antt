@@ -10,76 +10,55 @@ use Rattle.lent.specs.Found.{held}
 use borrow.Author.Needs.{needs}
 use Rattle.samples.proofs.absorbing.absorb_axes.Statement.{statement}
 use Rattle.samples.proofs.absorbing.absorb_axes.Tie as tie
-use Rattle.samples.proofs.absorbing.absorb_axes.Reads as reads
-use Rattle.samples.proofs.absorbing.absorb_axes.Lts as lts
-use Rattle.samples.proofs.adding.put.Reads as put-reads
-use Rattle.samples.proofs.adding.gain_at.Reads as gain-at-reads
-use Rattle.lent.proofs.layout.axes_place.Reads as axes-place-reads
-use Rattle.samples.proofs.training.train_axes.Reads as train-axes-reads
 
--- src/absorbing.rt:35:18
 mul-weight : tie.Need-mul-weight
 mul-weight c = omega arith
 
--- src/absorbing.rt:35:18
 element-copy-out-weight : tie.Need-element-copy-out-weight
 element-copy-out-weight c = omega arith
 
--- src/absorbing.rt:36:9
 axes-place-requires : tie.Need-axes-place-requires
 axes-place-requires c κs = tt
 
--- src/absorbing.rt:37:19
 add-r : tie.Need-add-r
 add-r c = omega arith
 
--- src/absorbing.rt:37:13
 mul-r : tie.Need-mul-r
 mul-r c = omega arith
 
--- src/absorbing.rt:37:13
 shared-slice-read-r : tie.Need-shared-slice-read-r
 shared-slice-read-r c = omega arith
 
--- src/absorbing.rt:38:19
 add-c : tie.Need-add-c
 add-c c = omega arith
 
--- src/absorbing.rt:38:13
 mul-c : tie.Need-mul-c
 mul-c c = omega arith
 
--- src/absorbing.rt:38:13
 shared-slice-read-c : tie.Need-shared-slice-read-c
 shared-slice-read-c c = omega arith
 
--- src/absorbing.rt:40:9
 gain-at-requires : tie.Need-gain-at-requires
 gain-at-requires c κs =
     let o = c .before .before .before .before .before .before .before .before .before in
     let s = held (o .pre .2) in
     (omega (arith, o .pre .0), omega (arith, o .pre .0), own-sound (o .args .table .now) (o .args .reals .now) (o .args .counts .now) (o .args .w) s (o .args .depth) (o .pre .2 .offer .takes .well))
 
--- src/absorbing.rt:41:5
 train-axes-requires : tie.Need-train-axes-requires
 train-axes-requires c κs =
     let o = c .before .before .before .before .before .before .before .before .before .before .before .before in
     let s = held (o .pre .2) in
     found-asked (o .args .table .now) (o .args .reals .now) (o .args .counts .now) (o .args .w) s (o .args .depth) (o .args .number) (o .pre .0) (o .pre .2 .offer .takes) (c .before .before .before .before .before .before .before .axes-place .result) (placed (o .args .table .now) (o .args .w) (c .before .before .before .before .before .before .before .axes-place .ensures) (search needs)) (o .args .spots .now) (o .pre .2 .found)
 
--- src/absorbing.rt:42:5
 put-requires : tie.Need-put-requires
 put-requires c κs = let o = c .before .before .before .before .before .before .before .before .before .before .before .before .before .before .before .before .before .before .before in (omega (arith, o .pre .0, c .before .before .before .before .before .before .train-axes .kept .0), omega (arith, o .pre .0, c .before .before .before .before .before .before .train-axes .kept .1 .0))
 
--- src/absorbing.rt:16:1
 same-length : tie.Need-same-length
 same-length c = omega arith
 
--- src/absorbing.rt:16:1
 same-length-2 : tie.Need-same-length-2
 same-length-2 c = omega arith
 
--- src/absorbing.rt:16:1
 returns : tie.Need-returns
 returns c h =
     let o = c .before .before .before .before .before .before .before .before .before .before .before .before .before .before .before .before .before .before .before .before .before .before .before .before in

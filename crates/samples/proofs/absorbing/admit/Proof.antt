@@ -9,28 +9,19 @@ use Rattle.lent.proofs.Finds.{held-of}
 use Rattle.lent.proofs.Absorbs.{admitted-all, admitted-none}
 use Rattle.samples.proofs.absorbing.admit.Statement.{statement}
 use Rattle.samples.proofs.absorbing.admit.Tie as tie
-use Rattle.samples.proofs.absorbing.admit.Reads as reads
-use Rattle.samples.proofs.absorbing.admit.Lts as lts
-use Rattle.samples.proofs.absorbing.absorb_grid.Reads as absorb-grid-reads
-use Rattle.samples.proofs.acceptance.objection.Reads as objection-reads
 
--- src/absorbing.rt:227:9
 objection-requires : tie.Need-objection-requires
 objection-requires c κs = let o = c .before .before .before .before .before .before in (o .pre .0, o .pre .1, o .pre .2, o .pre .3)
 
--- src/absorbing.rt:242:9
 same-length : tie.Need-same-length
 same-length c = omega arith
 
--- src/absorbing.rt:242:9
 same-length-2 : tie.Need-same-length-2
 same-length-2 c = omega arith
 
--- src/absorbing.rt:242:9
 returns : tie.Need-returns
 returns c = (c .before .objection .ensures .0, sym (admitted-none (c .before .objection .result) (c .before .before .before .before .before .before .before .before .args .table .now) (sampleIn (c .before .before .before .before .before .before .before .before .args .path .now) (c .before .before .before .before .before .before .before .before .args .levels) (c .before .before .before .before .before .before .before .before .args .weights .now) (c .before .before .before .before .before .before .before .before .args .weighed) (c .before .before .before .before .before .before .before .before .args .coordinates .now) (c .before .before .before .before .before .before .before .before .args .many)) (c .before .before .before .before .before .before .before .before .args .evaluation) (c .before .before .before .before .before .before .before .before .args .number) (memory (c .before .before .before .before .before .before .before .before .args .reals .now) (c .before .before .before .before .before .before .before .before .args .counts .now)) (c .if1 .taken)))
 
--- src/absorbing.rt:244:5
 absorb-grid-requires : tie.Need-absorb-grid-requires
 absorb-grid-requires c κs =
     let o = c .before .before .before .before .before .before .before .before .before .before .before in
@@ -39,15 +30,12 @@ absorb-grid-requires c κs =
     let s = sampleIn (o .args .path .now) (o .args .levels) (o .args .weights .now) (o .args .weighed) (o .args .coordinates .now) (o .args .many) in
     (o .pre .0, omega arith, held-of s (takes-root (rootOf (o .args .table .now) (o .args .reals .now) (o .args .counts .now)) s (o .args .evaluation) (o .args .number) (o .pre .1) (sym (n .ensures .0) ∙ z)) (n .ensures .1 z))
 
--- src/absorbing.rt:209:1
 same-length-3 : tie.Need-same-length-3
 same-length-3 c = omega arith
 
--- src/absorbing.rt:209:1
 same-length-4 : tie.Need-same-length-4
 same-length-4 c = omega arith
 
--- src/absorbing.rt:209:1
 returns-2 : tie.Need-returns-2
 returns-2 c =
     let o = c .before .before .before .before .before .before .before .before .before .before .before .before .before .before .before .before in

@@ -11,63 +11,46 @@ use Rattle.lent.specs.Absorbed.{offered}
 use borrow.Author.Needs.{needs}
 use Rattle.samples.proofs.acceptance.axes_accept.Statement.{statement}
 use Rattle.samples.proofs.acceptance.axes_accept.Tie as tie
-use Rattle.samples.proofs.acceptance.axes_accept.Reads as reads
-use Rattle.samples.proofs.acceptance.axes_accept.Lts as lts
-use Rattle.samples.proofs.adding.fits_with.Reads as fits-with-reads
-use Rattle.lent.proofs.layout.axes_place.Reads as axes-place-reads
-use Rattle.samples.proofs.training.axes_fit.Reads as axes-fit-reads
 
--- src/acceptance.rt:38:18
 mul-weight : tie.Need-mul-weight
 mul-weight c = omega arith
 
--- src/acceptance.rt:38:18
 element-copy-out-weight : tie.Need-element-copy-out-weight
 element-copy-out-weight c = omega arith
 
--- src/acceptance.rt:39:9
 axes-place-requires : tie.Need-axes-place-requires
 axes-place-requires c κs = tt
 
--- src/acceptance.rt:41:9
 axes-fit-requires : tie.Need-axes-fit-requires
 axes-fit-requires c κs =
     let o = c .before .before .before .before .before .before in
     let s = offered (o .pre .2) in
     (cells-of (o .args .table .now) (o .args .reals .now) (o .args .counts .now) (o .args .w) s (o .args .depth) (o .args .number) (o .pre .0) (o .pre .2 .takes) (c .before .axes-place .result) (placed (o .args .table .now) (o .args .w) (c .before .axes-place .ensures) (search needs)), o .pre .3)
 
--- src/acceptance.rt:42:19
 add-r : tie.Need-add-r
 add-r c = omega arith
 
--- src/acceptance.rt:42:13
 mul-r : tie.Need-mul-r
 mul-r c = omega arith
 
--- src/acceptance.rt:42:13
 shared-slice-read-r : tie.Need-shared-slice-read-r
 shared-slice-read-r c = omega arith
 
--- src/acceptance.rt:43:19
 add-c : tie.Need-add-c
 add-c c = omega arith
 
--- src/acceptance.rt:43:13
 mul-c : tie.Need-mul-c
 mul-c c = omega arith
 
--- src/acceptance.rt:43:13
 shared-slice-read-c : tie.Need-shared-slice-read-c
 shared-slice-read-c c = omega arith
 
--- src/acceptance.rt:44:9
 fits-with-requires : tie.Need-fits-with-requires
 fits-with-requires c κs =
     let o = c .before .before .before .before .before .before .before .before .before in
     let s = offered (o .pre .2) in
     (omega (arith, o .pre .0), omega (arith, o .pre .0), own-sound (o .args .table .now) (o .args .reals .now) (o .args .counts .now) (o .args .w) s (o .args .depth) (o .pre .2 .takes .well), o .pre .2 .takes .number)
 
--- src/acceptance.rt:19:1
 returns : tie.Need-returns
 returns c q =
     let o = c .before .before .before .before .before .before .before .before .before .before in

@@ -12,41 +12,28 @@ use Rattle.lent.proofs.Objections.{five-weights, number-low, number-high, numbe
 use Rattle.lent.proofs.Accepts.{offered-of}
 use Rattle.samples.proofs.acceptance.objection.Statement.{statement}
 use Rattle.samples.proofs.acceptance.objection.Tie as tie
-use Rattle.samples.proofs.acceptance.objection.Reads as reads
-use Rattle.samples.proofs.acceptance.objection.Lts as lts
-use Rattle.samples.proofs.acceptance.grid_accepts.Reads as grid-accepts-reads
-use Rattle.samples.proofs.training.are_finite.Reads as are-finite-reads
-use Rattle.plain.proofs.finite.Reads as finite-reads
 
--- src/acceptance.rt:208:9
 returns : tie.Need-returns
 returns c = (object-number (rootOf (c .before .before .before .before .args .table .now) (c .before .before .before .before .args .reals .now) (c .before .before .before .before .args .counts .now)) (sampleIn (c .before .before .before .before .args .path .now) (c .before .before .before .before .args .levels) (c .before .before .before .before .args .weights .now) (c .before .before .before .before .args .weighed) (c .before .before .before .before .args .coordinates .now) (c .before .before .before .before .args .many)) (c .before .before .before .before .args .evaluation) (c .before .before .before .before .args .number) (number-low (c .before .before .before .before .args .number) (c .if1 .taken)), λ z. absurd (omega (arith, z)))
 
--- src/acceptance.rt:211:9
 returns-2 : tie.Need-returns-2
 returns-2 c = (object-number (rootOf (c .before .before .before .before .before .args .table .now) (c .before .before .before .before .before .args .reals .now) (c .before .before .before .before .before .args .counts .now)) (sampleIn (c .before .before .before .before .before .args .path .now) (c .before .before .before .before .before .args .levels) (c .before .before .before .before .before .args .weights .now) (c .before .before .before .before .before .args .weighed) (c .before .before .before .before .before .args .coordinates .now) (c .before .before .before .before .before .args .many)) (c .before .before .before .before .before .args .evaluation) (c .before .before .before .before .before .args .number) (number-high (c .before .before .before .before .before .args .number) (c .if2 .taken)), λ z. absurd (omega (arith, z)))
 
--- src/acceptance.rt:215:9
 returns-3 : tie.Need-returns-3
 returns-3 c = (object-form (rootOf (c .before .before .before .before .before .before .args .table .now) (c .before .before .before .before .before .before .args .reals .now) (c .before .before .before .before .before .before .args .counts .now)) (sampleIn (c .before .before .before .before .before .before .args .path .now) (c .before .before .before .before .before .before .args .levels) (c .before .before .before .before .before .before .args .weights .now) (c .before .before .before .before .before .before .args .weighed) (c .before .before .before .before .before .before .args .coordinates .now) (c .before .before .before .before .before .before .args .many)) (c .before .before .before .before .before .before .args .evaluation) (c .before .before .before .before .before .before .args .number) (c .before .before .before .before .before .before .args .form) (number-good (c .before .before .before .before .before .before .args .number) (c .before .before .if1 .left) (c .before .if2 .left)) (c .before .before .before .before .before .before .pre .2) (c .if3 .taken), λ z. absurd (c .if3 .taken z))
 
--- src/acceptance.rt:217:9
 finite-requires : tie.Need-finite-requires
 finite-requires c κs = tt
 
--- src/acceptance.rt:218:9
 returns-4 : tie.Need-returns-4
 returns-4 c = (object-finite (rootOf (c .before .before .before .before .before .before .before .before .args .table .now) (c .before .before .before .before .before .before .before .before .args .reals .now) (c .before .before .before .before .before .before .before .before .args .counts .now)) (sampleIn (c .before .before .before .before .before .before .before .before .args .path .now) (c .before .before .before .before .before .before .before .before .args .levels) (c .before .before .before .before .before .before .before .before .args .weights .now) (c .before .before .before .before .before .before .before .before .args .weighed) (c .before .before .before .before .before .before .before .before .args .coordinates .now) (c .before .before .before .before .before .before .before .before .args .many)) (c .before .before .before .before .before .before .before .before .args .evaluation) (c .before .before .before .before .before .before .before .before .args .number) (number-good (c .before .before .before .before .before .before .before .before .args .number) (c .before .before .before .before .if1 .left) (c .before .before .before .if2 .left)) (sym (c .before .before .before .before .before .before .before .before .pre .2) ∙ c .before .before .if3 .left) (ap (λ (b : Bool). b && allFinite (entries nan (c .before .before .before .before .before .before .before .before .args .weights .now) 0 (c .before .before .before .before .before .before .before .before .args .weighed))) (failed (c .before .finite .ensures) (c .if4 .taken))), λ z. absurd (omega (arith, z)))
 
--- src/acceptance.rt:220:9
 are-finite-requires : tie.Need-are-finite-requires
 are-finite-requires c κs = five-weights (c .before .before .before .before .before .before .before .before .args .table .now) (c .before .before .before .before .before .before .before .before .args .reals .now) (c .before .before .before .before .before .before .before .before .args .counts .now) (sampleIn (c .before .before .before .before .before .before .before .before .args .path .now) (c .before .before .before .before .before .before .before .before .args .levels) (c .before .before .before .before .before .before .before .before .args .weights .now) (c .before .before .before .before .before .before .before .before .args .weighed) (c .before .before .before .before .before .before .before .before .args .coordinates .now) (c .before .before .before .before .before .before .before .before .args .many)) (sym (c .before .before .before .before .before .before .before .before .pre .2) ∙ c .before .before .if3 .left)
 
--- src/acceptance.rt:221:9
 returns-5 : tie.Need-returns-5
 returns-5 c = (object-finite (rootOf (c .before .before .before .before .before .before .before .before .before .before .args .table .now) (c .before .before .before .before .before .before .before .before .before .before .args .reals .now) (c .before .before .before .before .before .before .before .before .before .before .args .counts .now)) (sampleIn (c .before .before .before .before .before .before .before .before .before .before .args .path .now) (c .before .before .before .before .before .before .before .before .before .before .args .levels) (c .before .before .before .before .before .before .before .before .before .before .args .weights .now) (c .before .before .before .before .before .before .before .before .before .before .args .weighed) (c .before .before .before .before .before .before .before .before .before .before .args .coordinates .now) (c .before .before .before .before .before .before .before .before .before .before .args .many)) (c .before .before .before .before .before .before .before .before .before .before .args .evaluation) (c .before .before .before .before .before .before .before .before .before .before .args .number) (number-good (c .before .before .before .before .before .before .before .before .before .before .args .number) (c .before .before .before .before .before .before .if1 .left) (c .before .before .before .before .before .if2 .left)) (sym (c .before .before .before .before .before .before .before .before .before .before .pre .2) ∙ c .before .before .before .before .if3 .left) (ap₂ _&&_ (passed (c .before .before .before .finite .ensures) (c .before .before .if4 .left)) (failed (c .before .are-finite .ensures) (c .if5 .taken))), λ z. absurd (omega (arith, z)))
 
--- src/acceptance.rt:223:9
 grid-accepts-requires : tie.Need-grid-accepts-requires
 grid-accepts-requires c κs =
     let o = c .before .before .before .before .before .before .before .before .before .before .before in
@@ -56,7 +43,6 @@ grid-accepts-requires c κs =
     let takes : Takes (rootOf (o .args .table .now) (o .args .reals .now) (o .args .counts .now)) s 0 (o .args .number) = record { well = o .pre .1; form = form; number = number } in
     (o .pre .0, omega arith, offered-of s takes, o .pre .3)
 
--- src/acceptance.rt:224:9
 returns-6 : tie.Need-returns-6
 returns-6 c =
     let o = c .before .before .before .before .before .before .before .before .before .before .before .before .before in
@@ -68,7 +54,6 @@ returns-6 c =
     let kept = c .before .grid-accepts .ensures (offered-of s takes) in
     (object-kept (rootOf (o .args .table .now) (o .args .reals .now) (o .args .counts .now)) s (o .args .evaluation) (o .args .number) number form finite (failed (kept .0) (c .if6 .taken)), λ z. absurd (omega (arith, z)))
 
--- src/acceptance.rt:190:1
 returns-7 : tie.Need-returns-7
 returns-7 c =
     let o = c .before .before .before .before .before .before .before .before .before .before .before .before .before in

@@ -7,12 +7,6 @@ use Rattle.lent.proofs.Trains.{zero-count-small}
 use Rattle.lent.proofs.Adds.{added-fits}
 use Rattle.samples.proofs.adding.fits_with.Statement.{statement}
 use Rattle.samples.proofs.adding.fits_with.Tie as tie
-use Rattle.samples.proofs.adding.fits_with.Reads as reads
-use Rattle.samples.proofs.adding.fits_with.Lts as lts
-use Rattle.samples.proofs.reading.count_at.Reads as count-at-reads
-use Rattle.samples.proofs.reading.real_at.Reads as real-at-reads
-use Rattle.samples.proofs.training.are_sums_finite.Reads as are-sums-finite-reads
-use Rattle.samples.proofs.training.zero_count.Reads as zero-count-reads
 
 real-at-requires : tie.Need-real-at-requires
 real-at-requires c κs = omega arith

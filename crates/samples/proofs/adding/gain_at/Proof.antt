@@ -8,14 +8,6 @@ use Rattle.lent.specs.Absorbed.{gainOf, gainAt}
 use Rattle.lent.proofs.Trains.{zero-count-small}
 use Rattle.samples.proofs.adding.gain_at.Statement.{statement}
 use Rattle.samples.proofs.adding.gain_at.Tie as tie
-use Rattle.samples.proofs.adding.gain_at.Reads as reads
-use Rattle.samples.proofs.adding.gain_at.Lts as lts
-use Rattle.samples.proofs.adding.either.Reads as either-reads
-use Rattle.samples.proofs.adding.either_number.Reads as either-number-reads
-use Rattle.samples.proofs.adding.is_replaced.Reads as is-replaced-reads
-use Rattle.samples.proofs.reading.count_at.Reads as count-at-reads
-use Rattle.samples.proofs.reading.real_at.Reads as real-at-reads
-use Rattle.samples.proofs.training.zero_count.Reads as zero-count-reads
 
 add-real-at : tie.Need-add-real-at
 add-real-at c = omega arith

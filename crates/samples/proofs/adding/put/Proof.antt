@@ -6,106 +6,79 @@ use Rattle.lent.specs.Absorbed.{gained}
 use borrow.Author.Needs.{needs}
 use Rattle.samples.proofs.adding.put.Statement.{statement}
 use Rattle.samples.proofs.adding.put.Tie as tie
-use Rattle.samples.proofs.adding.put.Reads as reads
-use Rattle.samples.proofs.adding.put.Lts as lts
 
--- src/adding.rt:91:5
 mul-reals : tie.Need-mul-reals
 mul-reals c = omega arith
 
--- src/adding.rt:91:5
 slice-write-reals : tie.Need-slice-write-reals
 slice-write-reals c = omega arith
 
--- src/adding.rt:92:11
 add-reals : tie.Need-add-reals
 add-reals c = omega arith
 
--- src/adding.rt:92:5
 mul-reals-2 : tie.Need-mul-reals-2
 mul-reals-2 c = omega arith
 
--- src/adding.rt:92:5
 slice-write-reals-2 : tie.Need-slice-write-reals-2
 slice-write-reals-2 c = simp length-set (omega (arith, c .pre .0))
 
--- src/adding.rt:93:11
 add-reals-2 : tie.Need-add-reals-2
 add-reals-2 c = omega arith
 
--- src/adding.rt:93:5
 mul-reals-3 : tie.Need-mul-reals-3
 mul-reals-3 c = omega arith
 
--- src/adding.rt:93:5
 slice-write-reals-3 : tie.Need-slice-write-reals-3
 slice-write-reals-3 c = simp length-set (omega (arith, c .pre .0))
 
--- src/adding.rt:94:11
 add-reals-3 : tie.Need-add-reals-3
 add-reals-3 c = omega arith
 
--- src/adding.rt:94:5
 mul-reals-4 : tie.Need-mul-reals-4
 mul-reals-4 c = omega arith
 
--- src/adding.rt:94:5
 slice-write-reals-4 : tie.Need-slice-write-reals-4
 slice-write-reals-4 c = simp length-set (omega (arith, c .pre .0))
 
--- src/adding.rt:95:5
 mul-counts : tie.Need-mul-counts
 mul-counts c = omega arith
 
--- src/adding.rt:95:5
 slice-write-counts : tie.Need-slice-write-counts
 slice-write-counts c = omega arith
 
--- src/adding.rt:96:12
 add-counts : tie.Need-add-counts
 add-counts c = omega arith
 
--- src/adding.rt:96:5
 mul-counts-2 : tie.Need-mul-counts-2
 mul-counts-2 c = omega arith
 
--- src/adding.rt:96:5
 slice-write-counts-2 : tie.Need-slice-write-counts-2
 slice-write-counts-2 c = simp length-set (omega (arith, c .pre .1))
 
--- src/adding.rt:97:12
 add-counts-2 : tie.Need-add-counts-2
 add-counts-2 c = omega arith
 
--- src/adding.rt:97:5
 mul-counts-3 : tie.Need-mul-counts-3
 mul-counts-3 c = omega arith
 
--- src/adding.rt:97:5
 slice-write-counts-3 : tie.Need-slice-write-counts-3
 slice-write-counts-3 c = simp length-set (omega (arith, c .pre .1))
 
--- src/adding.rt:98:12
 add-counts-3 : tie.Need-add-counts-3
 add-counts-3 c = omega arith
 
--- src/adding.rt:98:5
 mul-counts-4 : tie.Need-mul-counts-4
 mul-counts-4 c = omega arith
 
--- src/adding.rt:98:5
 slice-write-counts-4 : tie.Need-slice-write-counts-4
 slice-write-counts-4 c = simp length-set (omega (arith, c .pre .1))
 
--- src/adding.rt:87:1
 same-length : tie.Need-same-length
 same-length c = search needs
 
--- src/adding.rt:87:1
 same-length-2 : tie.Need-same-length-2
 same-length-2 c = search needs
 
--- src/adding.rt:87:1
 returns : tie.Need-returns
 unfolding gained
 returns c = refl

@@ -5,28 +5,20 @@ use Rattle.doubles.specs.Numbers.{one64}
 use Rattle.stream.specs.declared.Unit.{Unit}
 use Rattle.stream.specs.Calls.{unitDrawnOf}
 use Rattle.model.specs.Draw.{unitAt, walked, placedFrom}
-use native.Mathlib.Omega.{arith}
 use Rattle.samples.proofs.axes.choose.Statement.{statement}
 use Rattle.samples.proofs.axes.choose.Tie as tie
-use Rattle.samples.proofs.axes.choose.Reads as reads
-use Rattle.samples.proofs.axes.choose.Lts as lts
-use Rattle.stream.proofs.MonteCarloRng.unit.Reads as unit-reads
 
--- src/axes.rt:101:9
 returns : tie.Need-returns
 unfolding placedFrom
 returns c axs = rw (c .if1 .taken)
 
--- src/axes.rt:107:9
 returns-2 : tie.Need-returns-2
 unfolding placedFrom
 returns-2 c axs = rw (c .before .if1 .left, c .if2 .taken)
 
--- src/axes.rt:112:9
 unit-requires : tie.Need-unit-requires
 unit-requires c κs = tt
 
--- src/axes.rt:97:1
 returns-3 : tie.Need-returns-3
 unfolding placedFrom unitDrawnOf unitAt
 returns-3 c axs = rw (c .before .before .before .before .if1 .left, c .before .before .before .if2 .left) (ap (λ (u : Unit). walked (lt (u .value) (c .before .before .before .before .before .args .floor)) axs one64 (u .stream)) (sym (c .before .before .unit .ensures)))

@@ -6,8 +6,6 @@ use lib.Dec.{lit<}
 use borrow.Author.Needs.{needs}
 use Rattle.samples.proofs.axes.guess_of.Statement.{statement}
 use Rattle.samples.proofs.axes.guess_of.Tie as tie
-use Rattle.samples.proofs.axes.guess_of.Reads as reads
-use Rattle.samples.proofs.axes.guess_of.Lts as lts
 
 fits-in : (w n : ℕ) → w < 2 ^ 64 → n ≤ 1024 → w / 2 ^ 32 * n < 2 ^ 64
 fits-in w n h k = let l : w / 2 ^ 32 ≤ 2 ^ 32 = omega arith in lt-of-le-of-lt (mul-le-mul l k) (lit< tt)

@@ -3,34 +3,22 @@ use Rattle.axis.specs.declared.Spot.{Spot}
 use Rattle.axis.specs.Calls.{spotOf}
 use Rattle.axis.proofs.Searches.{search-is}
 use Rattle.model.specs.Draw.{placeOn}
-use native.Mathlib.Omega.{arith}
-use borrow.Author.Needs.{needs}
 use Rattle.samples.proofs.axes.place_on.Statement.{statement}
 use Rattle.samples.proofs.axes.place_on.Tie as tie
-use Rattle.samples.proofs.axes.place_on.Reads as reads
-use Rattle.samples.proofs.axes.place_on.Lts as lts
-use Rattle.axis.proofs.edges.bin_of.Reads as bin-of-reads
-use Rattle.axis.proofs.edges.spot_near.Reads as spot-near-reads
-use Rattle.axis.proofs.edges.weight_of.Reads as weight-of-reads
 
--- src/axes.rt:28:51
 bin-of-requires : tie.Need-bin-of-requires
 bin-of-requires c κs = tt
 
--- src/axes.rt:28:21
 weight-of-requires : tie.Need-weight-of-requires
 weight-of-requires c κs = tt
 
--- src/axes.rt:26:9
 returns : tie.Need-returns
 unfolding placeOn
 returns c = rw (c .before .before .if1 .taken, c .weight-of .ensures, c .before .bin-of .ensures, search-is (c .before .before .before .before .args .edges .now) (c .before .before .before .before .args .unit) (c .before .before .before .before .pre .0) (c .before .before .before .before .pre .1))
 
--- src/axes.rt:31:5
 spot-near-requires : tie.Need-spot-near-requires
 spot-near-requires c κs = tt
 
--- src/axes.rt:21:1
 returns-2 : tie.Need-returns-2
 unfolding placeOn spotOf
 returns-2 c = rw (c .before .if1 .left, ap (λ (s : Spot). s .point) (c .spot-near .ensures))

@@ -10,12 +10,6 @@ use Rattle.lent.proofs.Standing.{next}
 use Rattle.lent.proofs.Draws.{behind, drawn-on, drawn-out, asked-part, asked-unit, kept-on, walk-made}
 use Rattle.samples.proofs.axes.walk_axes.Statement.{statement}
 use Rattle.samples.proofs.axes.walk_axes.Tie as tie
-use Rattle.samples.proofs.axes.walk_axes.Reads as reads
-use Rattle.samples.proofs.axes.walk_axes.Lts as lts
-use Rattle.samples.proofs.axes.place_on.Reads as place-on-reads
-use Rattle.stream.proofs.MonteCarloRng.next_u64.Reads as next-u64-reads
-use Rattle.stream.proofs.unit_of.Reads as unit-of-reads
-use Rattle.samples.proofs.axes.guess_of.Reads as guess-of-reads
 
 abbrev Inv-loop : tie.InvT-loop
 Inv-loop reals counts g evenly coordinates₀ spots₀ weight₀ stream₀ at₀ place₀ done₀ coordinates spots weight stream at place done =
@@ -27,15 +21,12 @@ abbrev μ-loop : tie.MeasureT-loop
 μ-loop reals counts g evenly coordinates₀ spots₀ weight₀ stream₀ at₀ place₀ done₀ coordinates spots weight stream at place done =
     g .axes - done
 
--- src/axes.rt:28:5
 loop-holds : tie.Need-loop-holds Inv-loop μ-loop
 loop-holds c = let e : c .before .before .args .g .axes - 0 ≡ c .before .before .args .g .axes = omega arith in (omega arith, c .before .before .pre .1, rw e (c .before .before .pre .0 .2), rw e, refl, refl)
 
--- src/axes.rt:29:20
 mul-held : tie.Need-mul-held Inv-loop μ-loop
 mul-held c = let n = next (c .before .before .before .before .before .args .g .most) (c .before .before .before .before .before .args .reals .now) (c .before .before .before .before .before .args .counts .now) (c .before .before .before .before .before .args .g .axes) (c .before .before .loop .done) (c .before .before .loop .at) (c .before .before .loop .place) (c .if1 .taken) (c .before .before .loop .inv .2) in omega arith
 
--- src/axes.rt:29:20
 shared-slice-read-held : tie.Need-shared-slice-read-held Inv-loop μ-loop
 shared-slice-read-held c = let n = next (c .before .before .before .before .before .before .args .g .most) (c .before .before .before .before .before .before .args .reals .now) (c .before .before .before .before .before .before .args .counts .now) (c .before .before .before .before .before .before .args .g .axes) (c .before .before .before .loop .done) (c .before .before .before .loop .at) (c .before .before .before .loop .place) (c .before .if1 .taken) (c .before .before .before .loop .inv .2) in omega arith
 
@@ -48,64 +39,49 @@ unit-of-requires c κs = tt
 guess-of-requires : tie.Need-guess-of-requires Inv-loop μ-loop
 guess-of-requires c κs = let n = next (c .before .before .before .before .before .before .before .before .args .g .most) (c .before .before .before .before .before .before .before .before .args .reals .now) (c .before .before .before .before .before .before .before .before .args .counts .now) (c .before .before .before .before .before .before .before .before .args .g .axes) (c .before .before .before .before .before .loop .done) (c .before .before .before .before .before .loop .at) (c .before .before .before .before .before .loop .place) (c .before .before .before .if1 .taken) (c .before .before .before .before .before .loop .inv .2) in omega (arith, c .before .before .before .before .before .before .before .before .pre .0 .1)
 
--- src/axes.rt:31:19
 add-end : tie.Need-add-end Inv-loop μ-loop
 add-end c = let n = next (c .before .before .before .before .before .before .before .before .before .args .g .most) (c .before .before .before .before .before .before .before .before .before .args .reals .now) (c .before .before .before .before .before .before .before .before .before .args .counts .now) (c .before .before .before .before .before .before .before .before .before .args .g .axes) (c .before .before .before .before .before .before .loop .done) (c .before .before .before .before .before .before .loop .at) (c .before .before .before .before .before .before .loop .place) (c .before .before .before .before .if1 .taken) (c .before .before .before .before .before .before .loop .inv .2) in omega arith
 
--- src/axes.rt:31:19
 add-end-2 : tie.Need-add-end-2 Inv-loop μ-loop
 add-end-2 c = let n = next (c .before .before .before .before .before .before .before .before .before .args .g .most) (c .before .before .before .before .before .before .before .before .before .args .reals .now) (c .before .before .before .before .before .before .before .before .before .args .counts .now) (c .before .before .before .before .before .before .before .before .before .args .g .axes) (c .before .before .before .before .before .before .loop .done) (c .before .before .before .before .before .before .loop .at) (c .before .before .before .before .before .before .loop .place) (c .before .before .before .before .if1 .taken) (c .before .before .before .before .before .before .loop .inv .2) in omega arith
 
--- src/axes.rt:32:43
 mul-edges : tie.Need-mul-edges Inv-loop μ-loop
 mul-edges c = let n = next (c .before .before .before .before .before .before .before .before .before .args .g .most) (c .before .before .before .before .before .before .before .before .before .args .reals .now) (c .before .before .before .before .before .before .before .before .before .args .counts .now) (c .before .before .before .before .before .before .before .before .before .args .g .axes) (c .before .before .before .before .before .before .loop .done) (c .before .before .before .before .before .before .loop .at) (c .before .before .before .before .before .before .loop .place) (c .before .before .before .before .if1 .taken) (c .before .before .before .before .before .before .loop .inv .2) in omega arith
 
--- src/axes.rt:32:43
 sub-edges : tie.Need-sub-edges Inv-loop μ-loop
 sub-edges c = let n = next (c .before .before .before .before .before .before .before .before .before .args .g .most) (c .before .before .before .before .before .before .before .before .before .args .reals .now) (c .before .before .before .before .before .before .before .before .before .args .counts .now) (c .before .before .before .before .before .before .before .before .before .args .g .axes) (c .before .before .before .before .before .before .loop .done) (c .before .before .before .before .before .before .loop .at) (c .before .before .before .before .before .before .loop .place) (c .before .before .before .before .if1 .taken) (c .before .before .before .before .before .before .loop .inv .2) in omega arith
 
--- src/axes.rt:32:43
 part-edges-start : tie.Need-part-edges-start Inv-loop μ-loop
 part-edges-start c = let n = next (c .before .before .before .before .before .before .before .before .before .args .g .most) (c .before .before .before .before .before .before .before .before .before .args .reals .now) (c .before .before .before .before .before .before .before .before .before .args .counts .now) (c .before .before .before .before .before .before .before .before .before .args .g .axes) (c .before .before .before .before .before .before .loop .done) (c .before .before .before .before .before .before .loop .at) (c .before .before .before .before .before .before .loop .place) (c .before .before .before .before .if1 .taken) (c .before .before .before .before .before .before .loop .inv .2) in omega arith
 
--- src/axes.rt:32:43
 part-edges-end : tie.Need-part-edges-end Inv-loop μ-loop
 part-edges-end c = let n = next (c .before .before .before .before .before .before .before .before .before .args .g .most) (c .before .before .before .before .before .before .before .before .before .args .reals .now) (c .before .before .before .before .before .before .before .before .before .args .counts .now) (c .before .before .before .before .before .before .before .before .before .args .g .axes) (c .before .before .before .before .before .before .loop .done) (c .before .before .before .before .before .before .loop .at) (c .before .before .before .before .before .before .loop .place) (c .before .before .before .before .if1 .taken) (c .before .before .before .before .before .before .loop .inv .2) in omega arith
 
--- src/axes.rt:32:13
 place-on-requires : tie.Need-place-on-requires Inv-loop μ-loop
 place-on-requires c κs = let n = next (c .before .before .before .before .before .before .before .before .before .before .args .g .most) (c .before .before .before .before .before .before .before .before .before .before .args .reals .now) (c .before .before .before .before .before .before .before .before .before .before .args .counts .now) (c .before .before .before .before .before .before .before .before .before .before .args .g .axes) (c .before .before .before .before .before .before .before .loop .done) (c .before .before .before .before .before .before .before .loop .at) (c .before .before .before .before .before .before .before .loop .place) (c .before .before .before .before .before .if1 .taken) (c .before .before .before .before .before .before .before .loop .inv .2) in
     (asked-part (c .before .before .before .before .before .before .before .loop .at) (getD (c .before .before .before .before .before .before .before .before .before .before .args .counts .now) (c .before .before .before .before .before .before .before .loop .place) 0) (c .before .before .before .before .before .before .before .before .before .before .args .reals .now) (n .edges), asked-unit (c .before .before .before .before .before .before .before .loop .stream) (c .before .before .before .next-u64 .result) (c .before .before .unit-of .result) (c .before .before .before .next-u64 .ensures) (c .before .before .unit-of .ensures))
 
--- src/axes.rt:33:9
 mul-coordinates : tie.Need-mul-coordinates Inv-loop μ-loop
 mul-coordinates c = omega (arith, c .before .before .before .before .before .before .before .before .before .before .before .pre .0 .0, c .before .before .before .before .before .before .if1 .taken)
 
--- src/axes.rt:33:9
 element-write-coordinates : tie.Need-element-write-coordinates Inv-loop μ-loop
 element-write-coordinates c = omega (arith, c .before .before .before .before .before .before .before .before .before .before .before .pre .0 .0, c .before .before .before .before .before .before .if1 .taken)
 
--- src/axes.rt:36:20
 mul-at : tie.Need-mul-at Inv-loop μ-loop
 mul-at c = let n = next (c .before .before .before .before .before .before .before .before .before .before .before .before .before .before .args .g .most) (c .before .before .before .before .before .before .before .before .before .before .before .before .before .before .args .reals .now) (c .before .before .before .before .before .before .before .before .before .before .before .before .before .before .args .counts .now) (c .before .before .before .before .before .before .before .before .before .before .before .before .before .before .args .g .axes) (c .before .before .before .before .before .before .before .before .before .before .before .loop .done) (c .before .before .before .before .before .before .before .before .before .before .before .loop .at) (c .before .before .before .before .before .before .before .before .before .before .before .loop .place) (c .before .before .before .before .before .before .before .before .before .if1 .taken) (c .before .before .before .before .before .before .before .before .before .before .before .loop .inv .2) in omega (arith, c .before .before .before .before .before .before .before .before .before .before .before .before .before .before .pre .0 .1)
 
--- src/axes.rt:36:20
 add-at : tie.Need-add-at Inv-loop μ-loop
 add-at c = let n = next (c .before .before .before .before .before .before .before .before .before .before .before .before .before .before .args .g .most) (c .before .before .before .before .before .before .before .before .before .before .before .before .before .before .args .reals .now) (c .before .before .before .before .before .before .before .before .before .before .before .before .before .before .args .counts .now) (c .before .before .before .before .before .before .before .before .before .before .before .before .before .before .args .g .axes) (c .before .before .before .before .before .before .before .before .before .before .before .loop .done) (c .before .before .before .before .before .before .before .before .before .before .before .loop .at) (c .before .before .before .before .before .before .before .before .before .before .before .loop .place) (c .before .before .before .before .before .before .before .before .before .if1 .taken) (c .before .before .before .before .before .before .before .before .before .before .before .loop .inv .2) in omega (arith, c .before .before .before .before .before .before .before .before .before .before .before .before .before .before .pre .0 .1)
 
--- src/axes.rt:36:14
 add-at-2 : tie.Need-add-at-2 Inv-loop μ-loop
 add-at-2 c = let n = next (c .before .before .before .before .before .before .before .before .before .before .before .before .before .before .args .g .most) (c .before .before .before .before .before .before .before .before .before .before .before .before .before .before .args .reals .now) (c .before .before .before .before .before .before .before .before .before .before .before .before .before .before .args .counts .now) (c .before .before .before .before .before .before .before .before .before .before .before .before .before .before .args .g .axes) (c .before .before .before .before .before .before .before .before .before .before .before .loop .done) (c .before .before .before .before .before .before .before .before .before .before .before .loop .at) (c .before .before .before .before .before .before .before .before .before .before .before .loop .place) (c .before .before .before .before .before .before .before .before .before .if1 .taken) (c .before .before .before .before .before .before .before .before .before .before .before .loop .inv .2) in omega (arith, c .before .before .before .before .before .before .before .before .before .before .before .before .before .before .pre .0 .1)
 
--- src/axes.rt:37:26
 mul-place : tie.Need-mul-place Inv-loop μ-loop
 mul-place c = let n = next (c .before .before .before .before .before .before .before .before .before .before .before .before .before .before .before .args .g .most) (c .before .before .before .before .before .before .before .before .before .before .before .before .before .before .before .args .reals .now) (c .before .before .before .before .before .before .before .before .before .before .before .before .before .before .before .args .counts .now) (c .before .before .before .before .before .before .before .before .before .before .before .before .before .before .before .args .g .axes) (c .before .before .before .before .before .before .before .before .before .before .before .before .loop .done) (c .before .before .before .before .before .before .before .before .before .before .before .before .loop .at) (c .before .before .before .before .before .before .before .before .before .before .before .before .loop .place) (c .before .before .before .before .before .before .before .before .before .before .if1 .taken) (c .before .before .before .before .before .before .before .before .before .before .before .before .loop .inv .2) in omega (arith, c .before .before .before .before .before .before .before .before .before .before .before .before .before .before .before .pre .0 .1)
 
--- src/axes.rt:37:26
 add-place : tie.Need-add-place Inv-loop μ-loop
 add-place c = let n = next (c .before .before .before .before .before .before .before .before .before .before .before .before .before .before .before .args .g .most) (c .before .before .before .before .before .before .before .before .before .before .before .before .before .before .before .args .reals .now) (c .before .before .before .before .before .before .before .before .before .before .before .before .before .before .before .args .counts .now) (c .before .before .before .before .before .before .before .before .before .before .before .before .before .before .before .args .g .axes) (c .before .before .before .before .before .before .before .before .before .before .before .before .loop .done) (c .before .before .before .before .before .before .before .before .before .before .before .before .loop .at) (c .before .before .before .before .before .before .before .before .before .before .before .before .loop .place) (c .before .before .before .before .before .before .before .before .before .before .if1 .taken) (c .before .before .before .before .before .before .before .before .before .before .before .before .loop .inv .2) in omega (arith, c .before .before .before .before .before .before .before .before .before .before .before .before .before .before .before .pre .0 .1)
 
--- src/axes.rt:37:17
 add-place-2 : tie.Need-add-place-2 Inv-loop μ-loop
 add-place-2 c = let n = next (c .before .before .before .before .before .before .before .before .before .before .before .before .before .before .before .args .g .most) (c .before .before .before .before .before .before .before .before .before .before .before .before .before .before .before .args .reals .now) (c .before .before .before .before .before .before .before .before .before .before .before .before .before .before .before .args .counts .now) (c .before .before .before .before .before .before .before .before .before .before .before .before .before .before .before .args .g .axes) (c .before .before .before .before .before .before .before .before .before .before .before .before .loop .done) (c .before .before .before .before .before .before .before .before .before .before .before .before .loop .at) (c .before .before .before .before .before .before .before .before .before .before .before .before .loop .place) (c .before .before .before .before .before .before .before .before .before .before .if1 .taken) (c .before .before .before .before .before .before .before .before .before .before .before .before .loop .inv .2) in omega (arith, c .before .before .before .before .before .before .before .before .before .before .before .before .before .before .before .good .1 .0, c .before .before .before .before .before .before .before .before .before .before .before .before .before .before .before .pre .0 .1)
 
@@ -131,7 +107,6 @@ loop-again c = let n = next (c .before .before .before .before .before .before .
   simp length-set (c .before .before .before .before .before .before .before .before .before .before .before .before .loop .inv .5),
 )
 
--- src/axes.rt:18:1
 returns : tie.Need-returns Inv-loop μ-loop
 returns c =
     let same : c .before .before .loop .done ≡ (c .before .before .before .before .before .args .g .axes) = omega (arith, c .before .before .loop .inv .0, c .if1 .left) in (

@@ -16,16 +16,10 @@ use Rattle.lent.proofs.Absorbs.{admitted-all, admitted-none}
 use Rattle.lent.proofs.Batches.{step-objected, step-done}
 use Rattle.samples.proofs.batching.step.Statement.{statement}
 use Rattle.samples.proofs.batching.step.Tie as tie
-use Rattle.samples.proofs.batching.step.Reads as reads
-use Rattle.samples.proofs.batching.step.Lts as lts
-use Rattle.samples.proofs.absorbing.admit.Reads as admit-reads
-use Rattle.samples.proofs.sampling.draw_grid.Reads as draw-grid-reads
 
--- src/batching.rt:34:9
 draw-grid-requires : tie.Need-draw-grid-requires
 draw-grid-requires c κs = let state = clear (c .before .before .before .before .before .before .before .before .before .args .table .now) (c .before .before .before .before .before .before .before .before .before .args .reals .now) (c .before .before .before .before .before .before .before .before .before .args .counts .now) (λ i. omega (arith, c .before .before .before .before .before .before .before .before .shared-slice-known .given i)) (c .before .before .before .before .before .before .before .before .before .pre) in (state .laid, omega arith, state .well, refl)
 
--- src/batching.rt:47:9
 admit-requires : tie.Need-admit-requires
 unfolding laidDrawing
 admit-requires c κs =
@@ -37,28 +31,22 @@ admit-requires c κs =
     let form = ap (λ (d : Drawing). formOf g (d .sample)) made ∙ form-laid (a .table .now) (a .reals .now) (a .counts .now) (length (a .reals .now)) (length (a .counts .now)) (a .start) (state .laid) (state .well) (drawn .ensures .0 .4) in
     (state .laid, state .well, sym form, drawn .ensures .1)
 
--- src/batching.rt:62:9
 same-length : tie.Need-same-length
 same-length c = omega arith
 
--- src/batching.rt:62:9
 same-length-2 : tie.Need-same-length-2
 same-length-2 c = omega arith
 
--- src/batching.rt:62:9
 returns : tie.Need-returns
 returns c = ap (stepEnd (c .before .before .before .before .before .admit .result) (c .before .before .before .before .before .before .before .before .before .before .before .before .before .before .before .before .before .before .before .before .before .before .args .start)) (c .before .before .before .before .before .admit .ensures .1 ∙ admitted-none (c .before .before .before .before .before .admit .result) (c .before .before .before .before .before .before .before .before .before .before .before .before .before .before .before .before .before .before .before .before .before .before .args .table .now) (sampleIn (c .before .before .before .before .before .before .before .before .before .before .before .before .draw-grid .last .1 .1 .1 .1 .1 .1 .0) (c .before .before .before .before .before .before .before .before .before .before .before .before .draw-grid .result .levels) (c .before .before .before .before .before .before .before .before .before .before .before .before .draw-grid .last .1 .1 .1 .1 .1 .1 .1 .0) (c .before .before .before .before .before .before .before .before .before .before .before .before .draw-grid .result .given) (c .before .before .before .before .before .before .before .before .before .before .before .before .draw-grid .last .1 .1 .1 .1 .1 .1 .1 .1 .0) (c .before .before .before .before .before .before .before .before .before .before .before .before .draw-grid .result .axes)) (c .before .before .before .before .before .before .before .before .before .before .before .before .before .before .before .before .before .before .before .before .before .before .args .evaluation) (c .before .before .before .before .before .before .before .before .before .before .before .before .before .before .before .before .before .before .before .before .before .before .args .number) (memory (c .before .before .before .before .before .before .before .before .before .before .before .before .before .before .before .before .before .before .before .before .before .before .args .reals .now) (c .before .before .before .before .before .before .before .before .before .before .before .before .before .before .before .before .before .before .before .before .before .before .args .counts .now)) (c .if1 .taken))
     ∙ step-objected (c .before .before .before .before .before .before .before .before .before .before .before .before .before .before .before .before .before .before .before .before .before .before .args .table .now) (memory (c .before .before .before .before .before .before .before .before .before .before .before .before .before .before .before .before .before .before .before .before .before .before .args .reals .now) (c .before .before .before .before .before .before .before .before .before .before .before .before .before .before .before .before .before .before .before .before .before .before .args .counts .now)) (c .before .before .before .before .before .before .before .before .before .before .before .before .before .before .before .before .before .before .before .before .before .before .args .start) (c .before .before .before .before .before .before .before .before .before .before .before .before .before .before .before .before .before .before .before .before .before .before .args .evaluation) (c .before .before .before .before .before .before .before .before .before .before .before .before .before .before .before .before .before .before .before .before .before .before .args .number) (c .before .before .before .before .before .before .before .before .before .before .before .before .before .before .before .before .before .before .before .before .before .before .pre) (record { sample = (sampleIn (c .before .before .before .before .before .before .before .before .before .before .before .before .draw-grid .last .1 .1 .1 .1 .1 .1 .0) (c .before .before .before .before .before .before .before .before .before .before .before .before .draw-grid .result .levels) (c .before .before .before .before .before .before .before .before .before .before .before .before .draw-grid .last .1 .1 .1 .1 .1 .1 .1 .0) (c .before .before .before .before .before .before .before .before .before .before .before .before .draw-grid .result .given) (c .before .before .before .before .before .before .before .before .before .before .before .before .draw-grid .last .1 .1 .1 .1 .1 .1 .1 .1 .0) (c .before .before .before .before .before .before .before .before .before .before .before .before .draw-grid .result .axes)); stream = c .before .before .before .before .before .before .before .before .before .before .before .before .draw-grid .result .stream }) (c .before .before .before .before .before .admit .result) (root-made (drawGrid (rootOf (c .before .before .before .before .before .before .before .before .before .before .before .before .before .before .before .before .before .before .before .before .before .before .args .table .now) (c .before .before .before .before .before .before .before .before .before .before .before .before .before .before .before .before .before .before .before .before .before .before .args .reals .now) (c .before .before .before .before .before .before .before .before .before .before .before .before .before .before .before .before .before .before .before .before .before .before .args .counts .now)) (c .before .before .before .before .before .before .before .before .before .before .before .before .before .before .before .before .before .before .before .before .before .before .args .start)) (c .before .before .before .before .before .before .before .before .before .before .before .before .draw-grid .result) (c .before .before .before .before .before .before .before .before .before .before .before .before .draw-grid .last .1 .1 .1 .1 .1 .1 .0) (c .before .before .before .before .before .before .before .before .before .before .before .before .draw-grid .last .1 .1 .1 .1 .1 .1 .1 .0) (c .before .before .before .before .before .before .before .before .before .before .before .before .draw-grid .last .1 .1 .1 .1 .1 .1 .1 .1 .0) (c .before .before .before .before .before .before .before .before .before .before .before .before .draw-grid .ensures .0)) (c .before .before .before .before .before .admit .ensures .0) (c .if1 .taken)
 
--- src/batching.rt:18:1
 same-length-3 : tie.Need-same-length-3
 same-length-3 c = omega arith
 
--- src/batching.rt:18:1
 same-length-4 : tie.Need-same-length-4
 same-length-4 c = omega arith
 
--- src/batching.rt:18:1
 returns-2 : tie.Need-returns-2
 returns-2 c = step-done (c .before .before .before .before .before .before .before .before .before .before .before .before .before .before .before .before .before .before .before .before .before .before .before .args .table .now) (memory (c .before .before .before .before .before .before .before .before .before .before .before .before .before .before .before .before .before .before .before .before .before .before .before .args .reals .now) (c .before .before .before .before .before .before .before .before .before .before .before .before .before .before .before .before .before .before .before .before .before .before .before .args .counts .now)) (c .before .before .before .before .before .before .before .before .before .before .before .before .before .before .before .before .before .before .before .before .before .before .before .args .start) (c .before .before .before .before .before .before .before .before .before .before .before .before .before .before .before .before .before .before .before .before .before .before .before .args .evaluation) (c .before .before .before .before .before .before .before .before .before .before .before .before .before .before .before .before .before .before .before .before .before .before .before .args .number) (c .before .before .before .before .before .before .before .before .before .before .before .before .before .before .before .before .before .before .before .before .before .before .before .pre) (record { sample = (sampleIn (c .before .before .before .before .before .before .before .before .before .before .before .before .before .draw-grid .last .1 .1 .1 .1 .1 .1 .0) (c .before .before .before .before .before .before .before .before .before .before .before .before .before .draw-grid .result .levels) (c .before .before .before .before .before .before .before .before .before .before .before .before .before .draw-grid .last .1 .1 .1 .1 .1 .1 .1 .0) (c .before .before .before .before .before .before .before .before .before .before .before .before .before .draw-grid .result .given) (c .before .before .before .before .before .before .before .before .before .before .before .before .before .draw-grid .last .1 .1 .1 .1 .1 .1 .1 .1 .0) (c .before .before .before .before .before .before .before .before .before .before .before .before .before .draw-grid .result .axes)); stream = c .before .before .before .before .before .before .before .before .before .before .before .before .before .draw-grid .result .stream }) (c .before .before .before .before .before .before .admit .result) (memory (c .before .before .before .before .before .before .admit .last .1 .0) (c .before .before .before .before .before .before .admit .last .1 .1 .0)) (root-made (drawGrid (rootOf (c .before .before .before .before .before .before .before .before .before .before .before .before .before .before .before .before .before .before .before .before .before .before .before .args .table .now) (c .before .before .before .before .before .before .before .before .before .before .before .before .before .before .before .before .before .before .before .before .before .before .before .args .reals .now) (c .before .before .before .before .before .before .before .before .before .before .before .before .before .before .before .before .before .before .before .before .before .before .before .args .counts .now)) (c .before .before .before .before .before .before .before .before .before .before .before .before .before .before .before .before .before .before .before .before .before .before .before .args .start)) (c .before .before .before .before .before .before .before .before .before .before .before .before .before .draw-grid .result) (c .before .before .before .before .before .before .before .before .before .before .before .before .before .draw-grid .last .1 .1 .1 .1 .1 .1 .0) (c .before .before .before .before .before .before .before .before .before .before .before .before .before .draw-grid .last .1 .1 .1 .1 .1 .1 .1 .0) (c .before .before .before .before .before .before .before .before .before .before .before .before .before .draw-grid .last .1 .1 .1 .1 .1 .1 .1 .1 .0) (c .before .before .before .before .before .before .before .before .before .before .before .before .before .draw-grid .ensures .0)) (c .before .before .before .before .before .before .admit .ensures .0) (c .before .if1 .left) (c .before .before .before .before .before .before .admit .ensures .1 ∙ admitted-all (c .before .before .before .before .before .before .admit .result) (c .before .before .before .before .before .before .before .before .before .before .before .before .before .before .before .before .before .before .before .before .before .before .before .args .table .now) (sampleIn (c .before .before .before .before .before .before .before .before .before .before .before .before .before .draw-grid .last .1 .1 .1 .1 .1 .1 .0) (c .before .before .before .before .before .before .before .before .before .before .before .before .before .draw-grid .result .levels) (c .before .before .before .before .before .before .before .before .before .before .before .before .before .draw-grid .last .1 .1 .1 .1 .1 .1 .1 .0) (c .before .before .before .before .before .before .before .before .before .before .before .before .before .draw-grid .result .given) (c .before .before .before .before .before .before .before .before .before .before .before .before .before .draw-grid .last .1 .1 .1 .1 .1 .1 .1 .1 .0) (c .before .before .before .before .before .before .before .before .before .before .before .before .before .draw-grid .result .axes)) (c .before .before .before .before .before .before .before .before .before .before .before .before .before .before .before .before .before .before .before .before .before .before .before .args .evaluation) (c .before .before .before .before .before .before .before .before .before .before .before .before .before .before .before .before .before .before .before .before .before .before .before .args .number) (memory (c .before .before .before .before .before .before .before .before .before .before .before .before .before .before .before .before .before .before .before .before .before .before .before .args .reals .now) (c .before .before .before .before .before .before .before .before .before .before .before .before .before .before .before .before .before .before .before .before .before .before .before .args .counts .now)) (c .before .if1 .left))
 

@@ -10,9 +10,6 @@ use Rattle.lent.specs.Batched.{stepsOf}
 use Rattle.lent.proofs.Batches.{step-onward, steps-over, steps-stop, steps-next}
 use Rattle.samples.proofs.batching.steps.Statement.{statement}
 use Rattle.samples.proofs.batching.steps.Tie as tie
-use Rattle.samples.proofs.batching.steps.Reads as reads
-use Rattle.samples.proofs.batching.steps.Lts as lts
-use Rattle.samples.proofs.batching.step.Reads as step-reads
 
 abbrev Inv-loop : tie.InvT-loop
 Inv-loop table reals₀ counts₀ evaluations first stream₀ number₀ done₀ reals counts stream number done =
@@ -22,60 +19,46 @@ Inv-loop table reals₀ counts₀ evaluations first stream₀ number₀ done₀ 
 abbrev μ-loop : tie.MeasureT-loop
 μ-loop table reals₀ counts₀ evaluations first stream₀ number₀ done₀ reals counts stream number done = length evaluations - done
 
--- src/batching.rt:61:5
 loop-holds : tie.Need-loop-holds Inv-loop μ-loop
 loop-holds c = (zero-le, refl, refl, c .before .before .before .before .pre, refl)
 
--- src/batching.rt:62:58
 mul-step : tie.Need-mul-step Inv-loop μ-loop
 mul-step c = omega (arith, c .before .before .loop-test .taken)
 
--- src/batching.rt:62:58
 shared-slice-read-step : tie.Need-shared-slice-read-step Inv-loop μ-loop
 shared-slice-read-step c = c .before .before .before .loop-test .taken
 
--- src/batching.rt:62:13
 step-requires : tie.Need-step-requires Inv-loop μ-loop
 step-requires c κs = c .before .before .before .before .loop .inv .3
 
--- src/batching.rt:66:13
 same-length : tie.Need-same-length Inv-loop μ-loop
 same-length c = c .before .before .before .before .before .before .step .kept .1 .0 ∙ c .before .before .before .before .before .before .before .before .before .before .before .loop .inv .1
 
--- src/batching.rt:66:13
 same-length-2 : tie.Need-same-length-2 Inv-loop μ-loop
 same-length-2 c = c .before .before .before .before .before .before .step .kept .1 .1 .0 ∙ c .before .before .before .before .before .before .before .before .before .before .before .loop .inv .2
 
--- src/batching.rt:66:13
 returns : tie.Need-returns Inv-loop μ-loop
 returns c = steps-stop (c .before .before .before .before .before .before .before .before .before .before .before .before .before .before .before .before .args .table .now) (c .before .before .before .before .before .before .before .before .before .before .before .before .before .before .before .before .args .evaluations .now) (c .before .before .before .before .before .before .before .before .before .before .before .loop .done) (memory (c .before .before .before .before .before .before .before .before .before .before .before .loop .reals) (c .before .before .before .before .before .before .before .before .before .before .before .loop .counts)) (c .before .before .before .before .before .before .before .before .before .before .before .loop .stream) (c .before .before .before .before .before .before .before .before .before .before .before .loop .number) (c .before .before .before .before .before .before .step .result .refused) (c .before .before .before .before .before .before .step .result .stream) (memory (c .before .before .before .before .before .before .step .last .1 .0) (c .before .before .before .before .before .before .step .last .1 .1 .0)) (c .before .before .before .before .before .before .before .before .before .before .loop-test .taken) (c .before .before .before .before .before .before .step .ensures) (c .if1 .taken) ∙ c .before .before .before .before .before .before .before .before .before .before .before .loop .inv .4
 
--- src/batching.rt:72:9
 add-number : tie.Need-add-number Inv-loop μ-loop
 add-number c = let o = step-onward (c .before .before .before .before .before .before .before .before .before .before .before .before .before .before .before .before .args .table .now) (memory (c .before .before .before .before .before .before .before .before .before .before .before .loop .reals) (c .before .before .before .before .before .before .before .before .before .before .before .loop .counts)) (c .before .before .before .before .before .before .before .before .before .before .before .loop .stream) (getD (c .before .before .before .before .before .before .before .before .before .before .before .before .before .before .before .before .args .evaluations .now) (c .before .before .before .before .before .before .before .before .before .before .before .loop .done) nan) (c .before .before .before .before .before .before .before .before .before .before .before .loop .number) (c .before .before .before .before .before .before .before .before .before .before .before .loop .inv .3) (c .before .before .before .before .before .before .step .result .refused) (c .before .before .before .before .before .before .step .result .stream) (memory (c .before .before .before .before .before .before .step .last .1 .0) (c .before .before .before .before .before .before .step .last .1 .1 .0)) (λ i. omega (arith, c .before .before .before .before .before .before .before .before .before .before .before .before .before .before .before .shared-slice-known .given i)) (c .before .before .before .before .before .before .step .ensures) (c .if1 .left) in omega (arith, o .number)
 
--- src/batching.rt:73:9
 add-done : tie.Need-add-done Inv-loop μ-loop
 add-done c = omega (arith, c .before .before .before .before .before .before .before .before .before .before .loop-test .taken)
 
--- src/batching.rt:61:5
 loop-less : tie.Need-loop-less Inv-loop μ-loop
 loop-less c = omega (arith, c .before .before .before .before .before .before .before .before .before .before .loop-test .taken)
 
--- src/batching.rt:61:5
 loop-again : tie.Need-loop-again Inv-loop μ-loop
 loop-again c = let o = step-onward (c .before .before .before .before .before .before .before .before .before .before .before .before .before .before .before .before .args .table .now) (memory (c .before .before .before .before .before .before .before .before .before .before .before .loop .reals) (c .before .before .before .before .before .before .before .before .before .before .before .loop .counts)) (c .before .before .before .before .before .before .before .before .before .before .before .loop .stream) (getD (c .before .before .before .before .before .before .before .before .before .before .before .before .before .before .before .before .args .evaluations .now) (c .before .before .before .before .before .before .before .before .before .before .before .loop .done) nan) (c .before .before .before .before .before .before .before .before .before .before .before .loop .number) (c .before .before .before .before .before .before .before .before .before .before .before .loop .inv .3) (c .before .before .before .before .before .before .step .result .refused) (c .before .before .before .before .before .before .step .result .stream) (memory (c .before .before .before .before .before .before .step .last .1 .0) (c .before .before .before .before .before .before .step .last .1 .1 .0)) (λ i. omega (arith, c .before .before .before .before .before .before .before .before .before .before .before .before .before .before .before .shared-slice-known .given i)) (c .before .before .before .before .before .before .step .ensures) (c .if1 .left) in
     (omega (arith, c .before .before .before .before .before .before .before .before .before .before .loop-test .taken), c .before .before .before .before .before .before .step .kept .1 .0 ∙ c .before .before .before .before .before .before .before .before .before .before .before .loop .inv .1, c .before .before .before .before .before .before .step .kept .1 .1 .0 ∙ c .before .before .before .before .before .before .before .before .before .before .before .loop .inv .2, o .clear, steps-next (c .before .before .before .before .before .before .before .before .before .before .before .before .before .before .before .before .args .table .now) (c .before .before .before .before .before .before .before .before .before .before .before .before .before .before .before .before .args .evaluations .now) (c .before .before .before .before .before .before .before .before .before .before .before .loop .done) (memory (c .before .before .before .before .before .before .before .before .before .before .before .loop .reals) (c .before .before .before .before .before .before .before .before .before .before .before .loop .counts)) (c .before .before .before .before .before .before .before .before .before .before .before .loop .stream) (c .before .before .before .before .before .before .before .before .before .before .before .loop .number) (c .before .before .before .before .before .before .step .result .refused) (c .before .before .before .before .before .before .step .result .stream) (memory (c .before .before .before .before .before .before .step .last .1 .0) (c .before .before .before .before .before .before .step .last .1 .1 .0)) (c .before .before .before .before .before .before .before .before .before .before .loop-test .taken) (c .before .before .before .before .before .before .step .ensures) (c .if1 .left) ∙ c .before .before .before .before .before .before .before .before .before .before .before .loop .inv .4)
 
--- src/batching.rt:46:1
 same-length-3 : tie.Need-same-length-3 Inv-loop μ-loop
 same-length-3 c = c .before .loop .inv .1
 
--- src/batching.rt:46:1
 same-length-4 : tie.Need-same-length-4 Inv-loop μ-loop
 same-length-4 c = c .before .loop .inv .2
 
--- src/batching.rt:46:1
 returns-2 : tie.Need-returns-2 Inv-loop μ-loop
 returns-2 c = steps-over (c .before .before .before .before .before .before .args .table .now) (c .before .before .before .before .before .before .args .evaluations .now) (c .before .loop .done) (memory (c .before .loop .reals) (c .before .loop .counts)) (c .before .loop .stream) (c .before .loop .number) (c .loop-test .left) ∙ c .before .loop .inv .4
 

@@ -61,7 +61,6 @@ abbrev grid-fault-below : ℕ → In 6 grid-fault-kinds.ps
 grid-fault-below t =
     and 6 grid-fault-kinds.ps (falls 6 grid-fault-kinds.ps _<_ μ-grid-fault t) grid-fault.Pre
 
--- src/forms.rt:112:9
 bins-fault-returns :
     (t : ℕ) →
     bins-fault-lts.Need-returns
@@ -70,7 +69,6 @@ bins-fault-returns :
     bins-fault.Post
 bins-fault-returns t c = bins-none (gridAt (c .before .before .before .before .args .level) (c .before .before .before .before .args .table .now) (c .before .before .before .before .args .reals .now) (c .before .before .before .before .args .counts .now)) (c .before .before .before .before .args .table .now) (c .before .before .before .before .args .reals .now) (c .before .before .before .before .args .counts .now) (c .before .before .before .before .args .w) (headAt (c .before .before .before .before .args .table .now) (c .before .before .before .before .args .reals .now) (c .before .before .before .before .args .counts .now) (c .before .before .before .before .args .w)) (getD (c .before .before .before .before .args .table .now) ((c .before .before .before .before .args .w) + 2) 0) (entries nan (c .before .before .before .before .args .weights .now) (c .before .before .before .before .args .depth) (c .before .before .before .before .args .weighed - (c .before .before .before .before .args .depth))) (entries nan (c .before .before .before .before .args .coordinates .now) 0 (c .before .before .before .before .args .many)) ∙ ap (λ (q : List ℕ). faultOf (bins (headAt (c .before .before .before .before .args .table .now) (c .before .before .before .before .args .reals .now) (c .before .before .before .before .args .counts .now) (c .before .before .before .before .args .w)) (binsIn (gridAt (c .before .before .before .before .args .level) (c .before .before .before .before .args .table .now) (c .before .before .before .before .args .reals .now) (c .before .before .before .before .args .counts .now)) (c .before .before .before .before .args .table .now) (c .before .before .before .before .args .reals .now) (c .before .before .before .before .args .counts .now) (c .before .before .before .before .args .w) 0 (getD (c .before .before .before .before .args .table .now) ((c .before .before .before .before .args .w) + 2) 0))) q (entries nan (c .before .before .before .before .args .weights .now) (c .before .before .before .before .args .depth) (c .before .before .before .before .args .weighed - (c .before .before .before .before .args .depth))) (entries nan (c .before .before .before .before .args .coordinates .now) 0 (c .before .before .before .before .args .many))) (sym (none-left 0 (c .before .before .before .before .args .path .now) (c .before .before .before .before .args .depth) (c .before .before .before .before .args .levels) (c .if1 .taken)))
 
--- src/forms.rt:114:15
 bins-fault-mul-bin :
     (t : ℕ) →
     bins-fault-lts.Need-mul-bin
@@ -79,14 +77,12 @@ bins-fault-mul-bin :
     bins-fault.Post
 bins-fault-mul-bin t c = omega (arith, (c .before .before .before .before .pre .1) .1)
 
--- src/forms.rt:114:15
 bins-fault-element-copy-out-bin : (t : ℕ) → bins-fault-lts.Need-element-copy-out-bin (
   child-fault-below t,
   child-fault.Post,
 ) (bins-fault-at t) bins-fault.Post
 bins-fault-element-copy-out-bin t c = omega (arith, (c .before .before .before .before .pre .1) .1)
 
--- src/forms.rt:115:14
 bins-fault-add-if2 :
     (t : ℕ) →
     bins-fault-lts.Need-add-if2
@@ -95,7 +91,6 @@ bins-fault-add-if2 :
     bins-fault.Post
 bins-fault-add-if2 t c = omega (arith, (c .before .before .before .before .before .pre .1) .0)
 
--- src/forms.rt:115:8
 bins-fault-mul-if2 :
     (t : ℕ) →
     bins-fault-lts.Need-mul-if2
@@ -104,63 +99,54 @@ bins-fault-mul-if2 :
     bins-fault.Post
 bins-fault-mul-if2 t c = omega (arith, (c .before .before .before .before .before .pre .1) .0)
 
--- src/forms.rt:115:8
 bins-fault-shared-slice-read-if2 : (t : ℕ) → bins-fault-lts.Need-shared-slice-read-if2 (
   child-fault-below t,
   child-fault.Post,
 ) (bins-fault-at t) bins-fault.Post
 bins-fault-shared-slice-read-if2 t c = omega (arith, (c .before .before .before .before .before .before .pre .1) .0)
 
--- src/forms.rt:116:9
 bins-fault-returns-2 : (t : ℕ) → bins-fault-lts.Need-returns-2 (
   child-fault-below t,
   child-fault.Post,
 ) (bins-fault-at t) bins-fault.Post
 bins-fault-returns-2 t c = bins-past (gridAt (c .before .before .before .before .before .before .before .args .level) (c .before .before .before .before .before .before .before .args .table .now) (c .before .before .before .before .before .before .before .args .reals .now) (c .before .before .before .before .before .before .before .args .counts .now)) (c .before .before .before .before .before .before .before .args .table .now) (c .before .before .before .before .before .before .before .args .reals .now) (c .before .before .before .before .before .before .before .args .counts .now) (c .before .before .before .before .before .before .before .args .w) (headAt (c .before .before .before .before .before .before .before .args .table .now) (c .before .before .before .before .before .before .before .args .reals .now) (c .before .before .before .before .before .before .before .args .counts .now) (c .before .before .before .before .before .before .before .args .w)) (getD (c .before .before .before .before .before .before .before .args .table .now) ((c .before .before .before .before .before .before .before .args .w) + 2) 0) (getD (c .before .before .before .before .before .before .before .args .path .now) (c .before .before .before .before .before .before .before .args .depth) 0) (entries 0 (c .before .before .before .before .before .before .before .args .path .now) ((c .before .before .before .before .before .before .before .args .depth) + 1) (c .before .before .before .before .before .before .before .args .levels - ((c .before .before .before .before .before .before .before .args .depth) + 1))) (entries nan (c .before .before .before .before .before .before .before .args .weights .now) (c .before .before .before .before .before .before .before .args .depth) (c .before .before .before .before .before .before .before .args .weighed - (c .before .before .before .before .before .before .before .args .depth))) (entries nan (c .before .before .before .before .before .before .before .args .coordinates .now) 0 (c .before .before .before .before .before .before .before .args .many)) (c .if2 .taken) ∙ ap (λ (q : List ℕ). faultOf (bins (headAt (c .before .before .before .before .before .before .before .args .table .now) (c .before .before .before .before .before .before .before .args .reals .now) (c .before .before .before .before .before .before .before .args .counts .now) (c .before .before .before .before .before .before .before .args .w)) (binsIn (gridAt (c .before .before .before .before .before .before .before .args .level) (c .before .before .before .before .before .before .before .args .table .now) (c .before .before .before .before .before .before .before .args .reals .now) (c .before .before .before .before .before .before .before .args .counts .now)) (c .before .before .before .before .before .before .before .args .table .now) (c .before .before .before .before .before .before .before .args .reals .now) (c .before .before .before .before .before .before .before .args .counts .now) (c .before .before .before .before .before .before .before .args .w) 0 (getD (c .before .before .before .before .before .before .before .args .table .now) ((c .before .before .before .before .before .before .before .args .w) + 2) 0))) q (entries nan (c .before .before .before .before .before .before .before .args .weights .now) (c .before .before .before .before .before .before .before .args .depth) (c .before .before .before .before .before .before .before .args .weighed - (c .before .before .before .before .before .before .before .args .depth))) (entries nan (c .before .before .before .before .before .before .before .args .coordinates .now) 0 (c .before .before .before .before .before .before .before .args .many))) (sym (one-left 0 (c .before .before .before .before .before .before .before .args .path .now) (c .before .before .before .before .before .before .before .args .depth) (c .before .before .before .before .before .before .before .args .levels) (c .before .before .before .if1 .left)))
 
--- src/forms.rt:119:9
 bins-fault-returns-3 : (t : ℕ) → bins-fault-lts.Need-returns-3 (
   child-fault-below t,
   child-fault.Post,
 ) (bins-fault-at t) bins-fault.Post
 bins-fault-returns-3 t c = bins-bare (gridAt (c .before .before .before .before .before .before .before .before .args .level) (c .before .before .before .before .before .before .before .before .args .table .now) (c .before .before .before .before .before .before .before .before .args .reals .now) (c .before .before .before .before .before .before .before .before .args .counts .now)) (c .before .before .before .before .before .before .before .before .args .table .now) (c .before .before .before .before .before .before .before .before .args .reals .now) (c .before .before .before .before .before .before .before .before .args .counts .now) (c .before .before .before .before .before .before .before .before .args .w) (headAt (c .before .before .before .before .before .before .before .before .args .table .now) (c .before .before .before .before .before .before .before .before .args .reals .now) (c .before .before .before .before .before .before .before .before .args .counts .now) (c .before .before .before .before .before .before .before .before .args .w)) (getD (c .before .before .before .before .before .before .before .before .args .table .now) ((c .before .before .before .before .before .before .before .before .args .w) + 2) 0) (getD (c .before .before .before .before .before .before .before .before .args .path .now) (c .before .before .before .before .before .before .before .before .args .depth) 0) (entries 0 (c .before .before .before .before .before .before .before .before .args .path .now) ((c .before .before .before .before .before .before .before .before .args .depth) + 1) (c .before .before .before .before .before .before .before .before .args .levels - ((c .before .before .before .before .before .before .before .before .args .depth) + 1))) (entries nan (c .before .before .before .before .before .before .before .before .args .coordinates .now) 0 (c .before .before .before .before .before .before .before .before .args .many)) (c .before .if2 .left) ∙ ap₂ (λ (q : List ℕ) (v : List Float). faultOf (bins (headAt (c .before .before .before .before .before .before .before .before .args .table .now) (c .before .before .before .before .before .before .before .before .args .reals .now) (c .before .before .before .before .before .before .before .before .args .counts .now) (c .before .before .before .before .before .before .before .before .args .w)) (binsIn (gridAt (c .before .before .before .before .before .before .before .before .args .level) (c .before .before .before .before .before .before .before .before .args .table .now) (c .before .before .before .before .before .before .before .before .args .reals .now) (c .before .before .before .before .before .before .before .before .args .counts .now)) (c .before .before .before .before .before .before .before .before .args .table .now) (c .before .before .before .before .before .before .before .before .args .reals .now) (c .before .before .before .before .before .before .before .before .args .counts .now) (c .before .before .before .before .before .before .before .before .args .w) 0 (getD (c .before .before .before .before .before .before .before .before .args .table .now) ((c .before .before .before .before .before .before .before .before .args .w) + 2) 0))) q v (entries nan (c .before .before .before .before .before .before .before .before .args .coordinates .now) 0 (c .before .before .before .before .before .before .before .before .args .many))) (sym (one-left 0 (c .before .before .before .before .before .before .before .before .args .path .now) (c .before .before .before .before .before .before .before .before .args .depth) (c .before .before .before .before .before .before .before .before .args .levels) (c .before .before .before .before .if1 .left))) (sym (none-left nan (c .before .before .before .before .before .before .before .before .args .weights .now) (c .before .before .before .before .before .before .before .before .args .depth) (c .before .before .before .before .before .before .before .before .args .weighed) (c .if3 .taken)))
 
--- src/forms.rt:121:22
 bins-fault-add-link : (t : ℕ) → bins-fault-lts.Need-add-link (
   child-fault-below t,
   child-fault.Post,
 ) (bins-fault-at t) bins-fault.Post
 bins-fault-add-link t c = omega (arith, (c .before .before .before .before .before .before .before .before .pre .1) .0, (c .before .if2 .left))
 
--- src/forms.rt:121:22
 bins-fault-add-link-2 : (t : ℕ) → bins-fault-lts.Need-add-link-2 (
   child-fault-below t,
   child-fault.Post,
 ) (bins-fault-at t) bins-fault.Post
 bins-fault-add-link-2 t c = omega (arith, (c .before .before .before .before .before .before .before .before .pre .1) .0, (c .before .if2 .left))
 
--- src/forms.rt:121:16
 bins-fault-mul-link : (t : ℕ) → bins-fault-lts.Need-mul-link (
   child-fault-below t,
   child-fault.Post,
 ) (bins-fault-at t) bins-fault.Post
 bins-fault-mul-link t c = omega (arith, (c .before .before .before .before .before .before .before .before .pre .1) .0, (c .before .if2 .left))
 
--- src/forms.rt:121:16
 bins-fault-shared-slice-read-link : (t : ℕ) → bins-fault-lts.Need-shared-slice-read-link (
   child-fault-below t,
   child-fault.Post,
 ) (bins-fault-at t) bins-fault.Post
 bins-fault-shared-slice-read-link t c = omega (arith, (c .before .before .before .before .before .before .before .before .before .pre .1) .0, (c .before .before .if2 .left))
 
--- src/forms.rt:122:80
 bins-fault-add-child-fault : (t : ℕ) → bins-fault-lts.Need-add-child-fault (
   child-fault-below t,
   child-fault.Post,
 ) (bins-fault-at t) bins-fault.Post
 bins-fault-add-child-fault t c = omega (arith, (c .before .before .before .before .before .before .before .before .before .pre .1) .1)
 
--- src/forms.rt:122:5
 bins-fault-child-fault-requires : (t : ℕ) → bins-fault-lts.Need-child-fault-requires (
   child-fault-below t,
   child-fault.Post,
@@ -168,14 +154,12 @@ bins-fault-child-fault-requires : (t : ℕ) → bins-fault-lts.Need-child-fault-
 unfolding ChildLaid
 bins-fault-child-fault-requires t c κs = (omega (arith, c .before .before .before .before .before .before .before .before .before .pre .0), (λ z. (c .before .before .before .before .before .before .before .before .before .pre .1) .0 .children (getD (c .before .before .before .before .before .before .before .before .before .args .path .now) (c .before .before .before .before .before .before .before .before .before .args .depth) 0) (c .before .before .if2 .left) z, omega (arith, (c .before .before .before .before .before .before .before .before .before .pre .1) .1)))
 
--- src/forms.rt:92:1
 bins-fault-returns-4 : (t : ℕ) → bins-fault-lts.Need-returns-4 (
   child-fault-below t,
   child-fault.Post,
 ) (bins-fault-at t) bins-fault.Post
 bins-fault-returns-4 t c = c .child-fault .ensures ∙ bins-below (gridAt (c .before .before .before .before .before .before .before .before .before .before .args .level) (c .before .before .before .before .before .before .before .before .before .before .args .table .now) (c .before .before .before .before .before .before .before .before .before .before .args .reals .now) (c .before .before .before .before .before .before .before .before .before .before .args .counts .now)) (c .before .before .before .before .before .before .before .before .before .before .args .table .now) (c .before .before .before .before .before .before .before .before .before .before .args .reals .now) (c .before .before .before .before .before .before .before .before .before .before .args .counts .now) (c .before .before .before .before .before .before .before .before .before .before .args .w) (headAt (c .before .before .before .before .before .before .before .before .before .before .args .table .now) (c .before .before .before .before .before .before .before .before .before .before .args .reals .now) (c .before .before .before .before .before .before .before .before .before .before .args .counts .now) (c .before .before .before .before .before .before .before .before .before .before .args .w)) (getD (c .before .before .before .before .before .before .before .before .before .before .args .table .now) ((c .before .before .before .before .before .before .before .before .before .before .args .w) + 2) 0) (getD (c .before .before .before .before .before .before .before .before .before .before .args .path .now) (c .before .before .before .before .before .before .before .before .before .before .args .depth) 0) (entries 0 (c .before .before .before .before .before .before .before .before .before .before .args .path .now) ((c .before .before .before .before .before .before .before .before .before .before .args .depth) + 1) (c .before .before .before .before .before .before .before .before .before .before .args .levels - ((c .before .before .before .before .before .before .before .before .before .before .args .depth) + 1))) (getD (c .before .before .before .before .before .before .before .before .before .before .args .weights .now) (c .before .before .before .before .before .before .before .before .before .before .args .depth) nan) (entries nan (c .before .before .before .before .before .before .before .before .before .before .args .weights .now) ((c .before .before .before .before .before .before .before .before .before .before .args .depth) + 1) (c .before .before .before .before .before .before .before .before .before .before .args .weighed - ((c .before .before .before .before .before .before .before .before .before .before .args .depth) + 1))) (entries nan (c .before .before .before .before .before .before .before .before .before .before .args .coordinates .now) 0 (c .before .before .before .before .before .before .before .before .before .before .args .many)) (c .before .before .before .if2 .left) ∙ ap₂ (λ (q : List ℕ) (v : List Float). faultOf (bins (headAt (c .before .before .before .before .before .before .before .before .before .before .args .table .now) (c .before .before .before .before .before .before .before .before .before .before .args .reals .now) (c .before .before .before .before .before .before .before .before .before .before .args .counts .now) (c .before .before .before .before .before .before .before .before .before .before .args .w)) (binsIn (gridAt (c .before .before .before .before .before .before .before .before .before .before .args .level) (c .before .before .before .before .before .before .before .before .before .before .args .table .now) (c .before .before .before .before .before .before .before .before .before .before .args .reals .now) (c .before .before .before .before .before .before .before .before .before .before .args .counts .now)) (c .before .before .before .before .before .before .before .before .before .before .args .table .now) (c .before .before .before .before .before .before .before .before .before .before .args .reals .now) (c .before .before .before .before .before .before .before .before .before .before .args .counts .now) (c .before .before .before .before .before .before .before .before .before .before .args .w) 0 (getD (c .before .before .before .before .before .before .before .before .before .before .args .table .now) ((c .before .before .before .before .before .before .before .before .before .before .args .w) + 2) 0))) q v (entries nan (c .before .before .before .before .before .before .before .before .before .before .args .coordinates .now) 0 (c .before .before .before .before .before .before .before .before .before .before .args .many))) (sym (one-left 0 (c .before .before .before .before .before .before .before .before .before .before .args .path .now) (c .before .before .before .before .before .before .before .before .before .before .args .depth) (c .before .before .before .before .before .before .before .before .before .before .args .levels) (c .before .before .before .before .before .before .if1 .left))) (sym (one-left nan (c .before .before .before .before .before .before .before .before .before .before .args .weights .now) (c .before .before .before .before .before .before .before .before .before .before .args .depth) (c .before .before .before .before .before .before .before .before .before .before .args .weighed) (c .before .before .if3 .left)))
 
--- src/forms.rt:86:9
 child-fault-nothing-fault-requires : (t : ℕ) → child-fault-lts.Need-nothing-fault-requires (
   nothing-fault-reads.Asked,
   nothing-fault-reads.Learnt,
@@ -184,7 +168,6 @@ child-fault-nothing-fault-requires : (t : ℕ) → child-fault-lts.Need-nothing-
 ) (child-fault-at t) child-fault.Post
 child-fault-nothing-fault-requires t c κs = tt
 
--- src/forms.rt:86:9
 child-fault-returns : (t : ℕ) → child-fault-lts.Need-returns (
   nothing-fault-reads.Asked,
   nothing-fault-reads.Learnt,
@@ -193,7 +176,6 @@ child-fault-returns : (t : ℕ) → child-fault-lts.Need-returns (
 ) (child-fault-at t) child-fault.Post
 child-fault-returns t c = c .nothing-fault .ensures ∙ link-none (gridAt (c .before .before .before .before .before .args .level) (c .before .before .before .before .before .args .table .now) (c .before .before .before .before .before .args .reals .now) (c .before .before .before .before .before .args .counts .now)) (c .before .before .before .before .before .args .link) (entries 0 (c .before .before .before .before .before .args .path .now) (c .before .before .before .before .before .args .depth) (c .before .before .before .before .before .args .levels - (c .before .before .before .before .before .args .depth))) (entries nan (c .before .before .before .before .before .args .weights .now) (c .before .before .before .before .before .args .depth) (c .before .before .before .before .before .args .weighed - (c .before .before .before .before .before .args .depth))) (entries nan (c .before .before .before .before .before .args .coordinates .now) 0 (c .before .before .before .before .before .args .many)) (c .before .if1 .taken)
 
--- src/forms.rt:88:5
 child-fault-grid-fault-requires : (t : ℕ) → child-fault-lts.Need-grid-fault-requires (
   nothing-fault-reads.Asked,
   nothing-fault-reads.Learnt,
@@ -203,7 +185,6 @@ child-fault-grid-fault-requires : (t : ℕ) → child-fault-lts.Need-grid-fault-
 unfolding ChildLaid
 child-fault-grid-fault-requires t c κs = (omega (arith, c .before .before .before .before .pre .0), ((c .before .before .before .before .pre .1) .0 (c .if1 .left), (c .before .before .before .before .pre .1) .1))
 
--- src/forms.rt:68:1
 child-fault-returns-2 : (t : ℕ) → child-fault-lts.Need-returns-2 (
   nothing-fault-reads.Asked,
   nothing-fault-reads.Learnt,
@@ -212,7 +193,6 @@ child-fault-returns-2 : (t : ℕ) → child-fault-lts.Need-returns-2 (
 ) (child-fault-at t) child-fault.Post
 child-fault-returns-2 t c = c .grid-fault .ensures ∙ link-grid (gridAt (c .before .before .before .before .before .args .level) (c .before .before .before .before .before .args .table .now) (c .before .before .before .before .before .args .reals .now) (c .before .before .before .before .before .args .counts .now)) (c .before .before .before .before .before .args .link) (entries 0 (c .before .before .before .before .before .args .path .now) (c .before .before .before .before .before .args .depth) (c .before .before .before .before .before .args .levels - (c .before .before .before .before .before .args .depth))) (entries nan (c .before .before .before .before .before .args .weights .now) (c .before .before .before .before .before .args .depth) (c .before .before .before .before .before .args .weighed - (c .before .before .before .before .before .args .depth))) (entries nan (c .before .before .before .before .before .args .coordinates .now) 0 (c .before .before .before .before .before .args .many)) (c .before .if1 .left)
 
--- src/forms.rt:143:8
 grid-fault-mul-if1 : (t : ℕ) → grid-fault-lts.Need-mul-if1 (
   axes-fault-reads.Asked,
   axes-fault-reads.Learnt,
@@ -221,7 +201,6 @@ grid-fault-mul-if1 : (t : ℕ) → grid-fault-lts.Need-mul-if1 (
 ) (grid-fault-at t) grid-fault.Post
 grid-fault-mul-if1 t c = let q = laid-head (c .before .before .before .args .level) (c .before .before .before .args .table .now) (length (c .before .before .before .args .reals .now)) (length (c .before .before .before .args .counts .now)) (c .before .before .before .args .w) ((c .before .before .before .pre .1) .0) in omega arith
 
--- src/forms.rt:143:8
 grid-fault-shared-slice-read-if1 : (t : ℕ) → grid-fault-lts.Need-shared-slice-read-if1 (
   axes-fault-reads.Asked,
   axes-fault-reads.Learnt,
@@ -230,7 +209,6 @@ grid-fault-shared-slice-read-if1 : (t : ℕ) → grid-fault-lts.Need-shared-slic
 ) (grid-fault-at t) grid-fault.Post
 grid-fault-shared-slice-read-if1 t c = let q = laid-head (c .before .before .before .before .args .level) (c .before .before .before .before .args .table .now) (length (c .before .before .before .before .args .reals .now)) (length (c .before .before .before .before .args .counts .now)) (c .before .before .before .before .args .w) ((c .before .before .before .before .pre .1) .0) in omega arith
 
--- src/forms.rt:144:9
 grid-fault-axes-fault-requires : (t : ℕ) → grid-fault-lts.Need-axes-fault-requires (
   axes-fault-reads.Asked,
   axes-fault-reads.Learnt,
@@ -239,7 +217,6 @@ grid-fault-axes-fault-requires : (t : ℕ) → grid-fault-lts.Need-axes-fault-re
 ) (grid-fault-at t) grid-fault.Post
 grid-fault-axes-fault-requires t c κs = let q = laid-axes (c .before .before .before .before .before .args .level) (c .before .before .before .before .before .args .table .now) (length (c .before .before .before .before .before .args .reals .now)) (length (c .before .before .before .before .before .args .counts .now)) (c .before .before .before .before .before .args .w) ((c .before .before .before .before .before .pre .1) .0) (c .if1 .taken) in (omega arith, q .axes, omega (arith, (c .before .before .before .before .before .pre .1) .1))
 
--- src/forms.rt:144:9
 grid-fault-returns : (t : ℕ) → grid-fault-lts.Need-returns (
   axes-fault-reads.Asked,
   axes-fault-reads.Learnt,
@@ -248,7 +225,6 @@ grid-fault-returns : (t : ℕ) → grid-fault-lts.Need-returns (
 ) (grid-fault-at t) grid-fault.Post
 grid-fault-returns t c = c .axes-fault .ensures ∙ axes-form (c .before .before .before .before .before .before .args .table .now) (c .before .before .before .before .before .before .args .reals .now) (c .before .before .before .before .before .before .args .counts .now) (c .before .before .before .before .before .before .args .w) (entries 0 (c .before .before .before .before .before .before .args .path .now) (c .before .before .before .before .before .before .args .depth) (c .before .before .before .before .before .before .args .levels - (c .before .before .before .before .before .before .args .depth))) (entries nan (c .before .before .before .before .before .before .args .weights .now) (c .before .before .before .before .before .before .args .depth) (c .before .before .before .before .before .before .args .weighed - (c .before .before .before .before .before .before .args .depth))) (entries nan (c .before .before .before .before .before .before .args .coordinates .now) 0 (c .before .before .before .before .before .before .args .many)) ∙ ap (λ (o : Grid). faultOf o (entries 0 (c .before .before .before .before .before .before .args .path .now) (c .before .before .before .before .before .before .args .depth) (c .before .before .before .before .before .before .args .levels - (c .before .before .before .before .before .before .args .depth))) (entries nan (c .before .before .before .before .before .before .args .weights .now) (c .before .before .before .before .before .before .args .depth) (c .before .before .before .before .before .before .args .weighed - (c .before .before .before .before .before .before .args .depth))) (entries nan (c .before .before .before .before .before .before .args .coordinates .now) 0 (c .before .before .before .before .before .before .args .many))) (sym (node-axes (c .before .before .before .before .before .before .args .level) (c .before .before .before .before .before .before .args .table .now) (c .before .before .before .before .before .before .args .reals .now) (c .before .before .before .before .before .before .args .counts .now) (c .before .before .before .before .before .before .args .w) (c .before .if1 .taken)))
 
--- src/forms.rt:146:38
 grid-fault-sub-bins-fault : (t : ℕ) → grid-fault-lts.Need-sub-bins-fault (
   axes-fault-reads.Asked,
   axes-fault-reads.Learnt,
@@ -257,7 +233,6 @@ grid-fault-sub-bins-fault : (t : ℕ) → grid-fault-lts.Need-sub-bins-fault (
 ) (grid-fault-at t) grid-fault.Post
 grid-fault-sub-bins-fault t c = let q = laid-bins (c .before .before .before .before .before .args .level) (c .before .before .before .before .before .args .table .now) (length (c .before .before .before .before .before .args .reals .now)) (length (c .before .before .before .before .before .args .counts .now)) (c .before .before .before .before .before .args .w) ((c .before .before .before .before .before .pre .1) .0) (c .if1 .left) in omega (arith, q .level)
 
--- src/forms.rt:146:5
 grid-fault-bins-fault-requires : (t : ℕ) → grid-fault-lts.Need-bins-fault-requires (
   axes-fault-reads.Asked,
   axes-fault-reads.Learnt,
@@ -266,7 +241,6 @@ grid-fault-bins-fault-requires : (t : ℕ) → grid-fault-lts.Need-bins-fault-re
 ) (grid-fault-at t) grid-fault.Post
 grid-fault-bins-fault-requires t c κs = let q = laid-bins (c .before .before .before .before .before .args .level) (c .before .before .before .before .before .args .table .now) (length (c .before .before .before .before .before .args .reals .now)) (length (c .before .before .before .before .before .args .counts .now)) (c .before .before .before .before .before .args .w) ((c .before .before .before .before .before .pre .1) .0) (c .if1 .left) in (omega (arith, c .before .before .before .before .before .pre .0, q .level), (q .bins, omega (arith, (c .before .before .before .before .before .pre .1) .1, q .level)))
 
--- src/forms.rt:126:1
 grid-fault-returns-2 : (t : ℕ) → grid-fault-lts.Need-returns-2 (
   axes-fault-reads.Asked,
   axes-fault-reads.Learnt,

@@ -8,51 +8,38 @@ use Rattle.lent.specs.Trained.{formFault}
 use Rattle.lent.proofs.Fitting.{none-left, one-left, many-left}
 use Rattle.samples.proofs.forms.axes_fault.Statement.{statement}
 use Rattle.samples.proofs.forms.axes_fault.Tie as tie
-use Rattle.samples.proofs.forms.axes_fault.Reads as reads
-use Rattle.samples.proofs.forms.axes_fault.Lts as lts
-use Rattle.samples.proofs.training.are_in_unit.Reads as are-in-unit-reads
 
--- src/forms.rt:29:9
 returns : tie.Need-returns
 unfolding formFault
 returns c = rw (one-left 0 (c .before .before .args .path .now) (c .before .before .args .depth) (c .before .before .args .levels) (c .if1 .taken))
 
--- src/forms.rt:31:19
 add-if2 : tie.Need-add-if2
 add-if2 c = omega arith
 
--- src/forms.rt:32:9
 returns-2 : tie.Need-returns-2
 unfolding formFault
 returns-2 c = rw ((none-left 0 (c .before .before .before .args .path .now) (c .before .before .before .args .depth) (c .before .before .before .args .levels) (c .before .if1 .left)), (many-left nan (c .before .before .before .args .weights .now) (c .before .before .before .args .depth) (c .before .before .before .args .weighed - (c .before .before .before .args .depth))), ne-eqb (c .before .before .before .args .weighed - (c .before .before .before .args .depth)) 1 (λ z. c .if2 .taken (omega (arith, z))))
 
--- src/forms.rt:34:22
 add-if3 : tie.Need-add-if3
 add-if3 c = omega arith
 
--- src/forms.rt:34:16
 mul-if3 : tie.Need-mul-if3
 mul-if3 c = omega arith
 
--- src/forms.rt:34:16
 shared-slice-read-if3 : tie.Need-shared-slice-read-if3
 shared-slice-read-if3 c = omega arith
 
--- src/forms.rt:35:9
 returns-3 : tie.Need-returns-3
 unfolding formFault
 returns-3 c = rw ((none-left 0 (c .before .before .before .before .before .args .path .now) (c .before .before .before .before .before .args .depth) (c .before .before .before .before .before .args .levels) (c .before .before .before .if1 .left)), (many-left nan (c .before .before .before .before .before .args .weights .now) (c .before .before .before .before .before .args .depth) (c .before .before .before .before .before .args .weighed - (c .before .before .before .before .before .args .depth))), (eq-eqb (c .before .before .before .before .before .args .weighed - (c .before .before .before .before .before .args .depth)) 1 (omega (arith, c .before .before .if2 .left))), (many-left nan (c .before .before .before .before .before .args .coordinates .now) 0 (c .before .before .before .before .before .args .many)), ne-eqb (c .before .before .before .before .before .args .many) (getD (c .before .before .before .before .before .args .table .now) (c .before .before .before .before .before .args .w + 2) 0) (c .if3 .taken))
 
--- src/forms.rt:37:9
 are-in-unit-requires : tie.Need-are-in-unit-requires
 are-in-unit-requires c κs = omega (arith, c .before .before .before .before .before .pre .1, c .if3 .left)
 
--- src/forms.rt:38:9
 returns-4 : tie.Need-returns-4
 unfolding formFault
 returns-4 c = rw ((none-left 0 (c .before .before .before .before .before .before .before .args .path .now) (c .before .before .before .before .before .before .before .args .depth) (c .before .before .before .before .before .before .before .args .levels) (c .before .before .before .before .before .if1 .left)), (many-left nan (c .before .before .before .before .before .before .before .args .weights .now) (c .before .before .before .before .before .before .before .args .depth) (c .before .before .before .before .before .before .before .args .weighed - (c .before .before .before .before .before .before .before .args .depth))), (eq-eqb (c .before .before .before .before .before .before .before .args .weighed - (c .before .before .before .before .before .before .before .args .depth)) 1 (omega (arith, c .before .before .before .before .if2 .left))), (many-left nan (c .before .before .before .before .before .before .before .args .coordinates .now) 0 (c .before .before .before .before .before .before .before .args .many)), eq-eqb (c .before .before .before .before .before .before .before .args .many) (getD (c .before .before .before .before .before .before .before .args .table .now) (c .before .before .before .before .before .before .before .args .w + 2) 0) (c .before .before .if3 .left), sym (c .before .are-in-unit .ensures) ∙ not-true (c .before .are-in-unit .result) (c .if4 .taken))
 
--- src/forms.rt:14:1
 returns-5 : tie.Need-returns-5
 unfolding formFault
 returns-5 c = rw ((none-left 0 (c .before .before .before .before .before .before .before .args .path .now) (c .before .before .before .before .before .before .before .args .depth) (c .before .before .before .before .before .before .before .args .levels) (c .before .before .before .before .before .if1 .left)), (many-left nan (c .before .before .before .before .before .before .before .args .weights .now) (c .before .before .before .before .before .before .before .args .depth) (c .before .before .before .before .before .before .before .args .weighed - (c .before .before .before .before .before .before .before .args .depth))), (eq-eqb (c .before .before .before .before .before .before .before .args .weighed - (c .before .before .before .before .before .before .before .args .depth)) 1 (omega (arith, c .before .before .before .before .if2 .left))), (many-left nan (c .before .before .before .before .before .before .before .args .coordinates .now) 0 (c .before .before .before .before .before .before .before .args .many)), eq-eqb (c .before .before .before .before .before .before .before .args .many) (getD (c .before .before .before .before .before .before .before .args .table .now) (c .before .before .before .before .before .before .before .args .w + 2) 0) (c .before .before .if3 .left), sym (c .before .are-in-unit .ensures) ∙ not-false (c .before .are-in-unit .result) (c .if4 .left))

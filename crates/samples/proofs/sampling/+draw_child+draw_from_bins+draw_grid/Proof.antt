@@ -69,7 +69,6 @@ abbrev draw-grid-below : ℕ → In 7 draw-grid-kinds.ps
 draw-grid-below t =
     and 7 draw-grid-kinds.ps (falls 7 draw-grid-kinds.ps _<_ μ-draw-grid t) draw-grid.Pre
 
--- src/sampling.rt:110:9
 draw-child-returns :
     (t : ℕ) →
     draw-child-lts.Need-returns
@@ -78,7 +77,6 @@ draw-child-returns :
     draw-child.Post
 draw-child-returns t c = (nothing-made (c .before .before .before .before .args .level) (c .before .before .before .before .args .depth) (c .before .before .before .before .args .start) _ (c .before .before .before .before .args .path .now) (c .before .before .before .before .args .weights .now) (c .before .before .before .before .args .coordinates .now) (sym (child-none (gridAt (c .before .before .before .before .args .level) (c .before .before .before .before .args .table .now) (c .before .before .before .before .args .reals .now) (c .before .before .before .before .args .counts .now)) (c .before .before .before .before .args .link) (c .before .before .before .before .args .start) (c .if1 .taken))), refl)
 
--- src/sampling.rt:118:5
 draw-child-draw-grid-requires : (t : ℕ) → draw-child-lts.Need-draw-grid-requires (
   draw-grid-below t,
   draw-grid.Post,
@@ -86,7 +84,6 @@ draw-child-draw-grid-requires : (t : ℕ) → draw-child-lts.Need-draw-grid-requ
 unfolding ChildLaid
 draw-child-draw-grid-requires t c κs = (omega (arith, c .before .before .before .before .before .before .before .before .pre .0), ((c .before .before .before .before .before .before .before .before .pre .1) .0 (c .before .before .before .before .if1 .left), (c .before .before .before .before .before .before .before .before .pre .1) .1, child-sound (gridAt (c .before .before .before .before .before .before .before .before .args .level) (c .before .before .before .before .before .before .before .before .args .table .now) (c .before .before .before .before .before .before .before .before .args .reals .now) (c .before .before .before .before .before .before .before .before .args .counts .now)) (c .before .before .before .before .before .before .before .before .args .link) (c .before .before .before .before .if1 .left) ((c .before .before .before .before .before .before .before .before .pre .1) .2), (c .before .before .before .before .before .before .before .before .pre .1) .3))
 
--- src/sampling.rt:92:1
 draw-child-returns-2 :
     (t : ℕ) →
     draw-child-lts.Need-returns-2
@@ -95,7 +92,6 @@ draw-child-returns-2 :
     draw-child.Post
 draw-child-returns-2 t c = (subst (λ (d : Drawing). Traces (c .before .before .before .before .before .before .before .before .before .args .level) (c .before .before .before .before .before .before .before .before .before .args .depth) d (c .draw-grid .result) (c .before .before .before .before .before .before .before .before .before .args .path .now) (c .draw-grid .last .1 .1 .1 .1 .1 .1 .0) (c .before .before .before .before .before .before .before .before .before .args .weights .now) (c .draw-grid .last .1 .1 .1 .1 .1 .1 .1 .0) (c .before .before .before .before .before .before .before .before .before .args .coordinates .now) (c .draw-grid .last .1 .1 .1 .1 .1 .1 .1 .1 .0)) (sym (child-is (gridAt (c .before .before .before .before .before .before .before .before .before .args .level) (c .before .before .before .before .before .before .before .before .before .args .table .now) (c .before .before .before .before .before .before .before .before .before .args .reals .now) (c .before .before .before .before .before .before .before .before .before .args .counts .now)) (c .before .before .before .before .before .before .before .before .before .args .link) (c .before .before .before .before .before .before .before .before .before .args .start) (c .before .before .before .before .before .if1 .left))) (c .draw-grid .ensures .0), c .draw-grid .ensures .1)
 
--- src/sampling.rt:153:9
 draw-from-bins-unit-requires : (t : ℕ) → draw-from-bins-lts.Need-unit-requires (
   unit-reads.Asked,
   unit-reads.Learnt,
@@ -108,7 +104,6 @@ draw-from-bins-unit-requires : (t : ℕ) → draw-from-bins-lts.Need-unit-requir
 ) (draw-from-bins-at t) draw-from-bins.Post
 draw-from-bins-unit-requires t c κs = tt
 
--- src/sampling.rt:155:23
 draw-from-bins-add-first : (t : ℕ) → draw-from-bins-lts.Need-add-first (
   unit-reads.Asked,
   unit-reads.Learnt,
@@ -121,7 +116,6 @@ draw-from-bins-add-first : (t : ℕ) → draw-from-bins-lts.Need-add-first (
 ) (draw-from-bins-at t) draw-from-bins.Post
 draw-from-bins-add-first t c = omega (arith, (c .before .before .before .before .before .pre .1) .0)
 
--- src/sampling.rt:155:17
 draw-from-bins-mul-first : (t : ℕ) → draw-from-bins-lts.Need-mul-first (
   unit-reads.Asked,
   unit-reads.Learnt,
@@ -134,7 +128,6 @@ draw-from-bins-mul-first : (t : ℕ) → draw-from-bins-lts.Need-mul-first (
 ) (draw-from-bins-at t) draw-from-bins.Post
 draw-from-bins-mul-first t c = omega (arith, (c .before .before .before .before .before .pre .1) .0)
 
--- src/sampling.rt:155:17
 draw-from-bins-shared-slice-read-first : (t : ℕ) → draw-from-bins-lts.Need-shared-slice-read-first (
   unit-reads.Asked,
   unit-reads.Learnt,
@@ -147,7 +140,6 @@ draw-from-bins-shared-slice-read-first : (t : ℕ) → draw-from-bins-lts.Need-s
 ) (draw-from-bins-at t) draw-from-bins.Post
 draw-from-bins-shared-slice-read-first t c = omega (arith, (c .before .before .before .before .before .before .pre .1) .0)
 
--- src/sampling.rt:155:17
 draw-from-bins-add-first-2 : (t : ℕ) → draw-from-bins-lts.Need-add-first-2 (
   unit-reads.Asked,
   unit-reads.Learnt,
@@ -160,7 +152,6 @@ draw-from-bins-add-first-2 : (t : ℕ) → draw-from-bins-lts.Need-add-first-2 (
 ) (draw-from-bins-at t) draw-from-bins.Post
 draw-from-bins-add-first-2 t c = omega (arith, (c .before .before .before .before .before .before .pre .1) .0)
 
--- src/sampling.rt:156:30
 draw-from-bins-add-past : (t : ℕ) → draw-from-bins-lts.Need-add-past (
   unit-reads.Asked,
   unit-reads.Learnt,
@@ -173,7 +164,6 @@ draw-from-bins-add-past : (t : ℕ) → draw-from-bins-lts.Need-add-past (
 ) (draw-from-bins-at t) draw-from-bins.Post
 draw-from-bins-add-past t c = omega (arith, (c .before .before .before .before .before .before .pre .1) .0)
 
--- src/sampling.rt:156:24
 draw-from-bins-mul-past : (t : ℕ) → draw-from-bins-lts.Need-mul-past (
   unit-reads.Asked,
   unit-reads.Learnt,
@@ -186,7 +176,6 @@ draw-from-bins-mul-past : (t : ℕ) → draw-from-bins-lts.Need-mul-past (
 ) (draw-from-bins-at t) draw-from-bins.Post
 draw-from-bins-mul-past t c = omega (arith, (c .before .before .before .before .before .before .pre .1) .0)
 
--- src/sampling.rt:156:24
 draw-from-bins-shared-slice-read-past : (t : ℕ) → draw-from-bins-lts.Need-shared-slice-read-past (
   unit-reads.Asked,
   unit-reads.Learnt,
@@ -199,7 +188,6 @@ draw-from-bins-shared-slice-read-past : (t : ℕ) → draw-from-bins-lts.Need-sh
 ) (draw-from-bins-at t) draw-from-bins.Post
 draw-from-bins-shared-slice-read-past t c = omega (arith, (c .before .before .before .before .before .before .before .pre .1) .0)
 
--- src/sampling.rt:156:16
 draw-from-bins-add-past-2 : (t : ℕ) → draw-from-bins-lts.Need-add-past-2 (
   unit-reads.Asked,
   unit-reads.Learnt,
@@ -212,7 +200,6 @@ draw-from-bins-add-past-2 : (t : ℕ) → draw-from-bins-lts.Need-add-past-2 (
 ) (draw-from-bins-at t) draw-from-bins.Post
 draw-from-bins-add-past-2 t c = omega (arith, (c .before .before .before .before .before .before .before .pre .1) .0)
 
--- src/sampling.rt:157:21
 draw-from-bins-mul-reach : (t : ℕ) → draw-from-bins-lts.Need-mul-reach (
   unit-reads.Asked,
   unit-reads.Learnt,
@@ -225,7 +212,6 @@ draw-from-bins-mul-reach : (t : ℕ) → draw-from-bins-lts.Need-mul-reach (
 ) (draw-from-bins-at t) draw-from-bins.Post
 draw-from-bins-mul-reach t c = omega (arith, (c .before .before .before .before .before .before .before .pre .1) .0)
 
--- src/sampling.rt:157:21
 draw-from-bins-sub-reach : (t : ℕ) → draw-from-bins-lts.Need-sub-reach (
   unit-reads.Asked,
   unit-reads.Learnt,
@@ -238,7 +224,6 @@ draw-from-bins-sub-reach : (t : ℕ) → draw-from-bins-lts.Need-sub-reach (
 ) (draw-from-bins-at t) draw-from-bins.Post
 draw-from-bins-sub-reach t c = omega (arith, (c .before .before .before .before .before .before .before .pre .1) .0)
 
--- src/sampling.rt:157:21
 draw-from-bins-part-reach-start : (t : ℕ) → draw-from-bins-lts.Need-part-reach-start (
   unit-reads.Asked,
   unit-reads.Learnt,
@@ -251,7 +236,6 @@ draw-from-bins-part-reach-start : (t : ℕ) → draw-from-bins-lts.Need-part-rea
 ) (draw-from-bins-at t) draw-from-bins.Post
 draw-from-bins-part-reach-start t c = omega (arith, (c .before .before .before .before .before .before .before .pre .1) .0)
 
--- src/sampling.rt:157:21
 draw-from-bins-part-reach-end : (t : ℕ) → draw-from-bins-lts.Need-part-reach-end (
   unit-reads.Asked,
   unit-reads.Learnt,
@@ -264,7 +248,6 @@ draw-from-bins-part-reach-end : (t : ℕ) → draw-from-bins-lts.Need-part-reach
 ) (draw-from-bins-at t) draw-from-bins.Post
 draw-from-bins-part-reach-end t c = omega (arith, (c .before .before .before .before .before .before .before .pre .1) .0)
 
--- src/sampling.rt:157:9
 draw-from-bins-reach-requires : (t : ℕ) → draw-from-bins-lts.Need-reach-requires (
   unit-reads.Asked,
   unit-reads.Learnt,
@@ -277,7 +260,6 @@ draw-from-bins-reach-requires : (t : ℕ) → draw-from-bins-lts.Need-reach-requ
 ) (draw-from-bins-at t) draw-from-bins.Post
 draw-from-bins-reach-requires t c κs = omega (arith, (length-chances (getD (c .before .before .before .before .before .before .before .before .args .table .now) ((c .before .before .before .before .before .before .before .before .args .w) + 5) 0 + 14) (getD (c .before .before .before .before .before .before .before .before .args .table .now) ((c .before .before .before .before .before .before .before .before .args .w) + 2) 0) (c .before .before .before .before .before .before .before .before .args .reals .now) (omega (arith, (c .before .before .before .before .before .before .before .before .pre .1) .0))), (c .before .before .before .before .before .before .before .before .pre .1) .0 .some)
 
--- src/sampling.rt:158:24
 draw-from-bins-add-chance : (t : ℕ) → draw-from-bins-lts.Need-add-chance (
   unit-reads.Asked,
   unit-reads.Learnt,
@@ -290,7 +272,6 @@ draw-from-bins-add-chance : (t : ℕ) → draw-from-bins-lts.Need-add-chance (
 ) (draw-from-bins-at t) draw-from-bins.Post
 draw-from-bins-add-chance t c = omega (arith, (c .before .before .before .before .before .before .before .before .before .pre .1) .0, c .reach .ensures .1, (length-chances (getD (c .before .before .before .before .before .before .before .before .before .args .table .now) ((c .before .before .before .before .before .before .before .before .before .args .w) + 5) 0 + 14) (getD (c .before .before .before .before .before .before .before .before .before .args .table .now) ((c .before .before .before .before .before .before .before .before .before .args .w) + 2) 0) (c .before .before .before .before .before .before .before .before .before .args .reals .now) (omega (arith, (c .before .before .before .before .before .before .before .before .before .pre .1) .0))))
 
--- src/sampling.rt:158:18
 draw-from-bins-mul-chance : (t : ℕ) → draw-from-bins-lts.Need-mul-chance (
   unit-reads.Asked,
   unit-reads.Learnt,
@@ -303,7 +284,6 @@ draw-from-bins-mul-chance : (t : ℕ) → draw-from-bins-lts.Need-mul-chance (
 ) (draw-from-bins-at t) draw-from-bins.Post
 draw-from-bins-mul-chance t c = omega (arith, (c .before .before .before .before .before .before .before .before .before .pre .1) .0, c .reach .ensures .1, (length-chances (getD (c .before .before .before .before .before .before .before .before .before .args .table .now) ((c .before .before .before .before .before .before .before .before .before .args .w) + 5) 0 + 14) (getD (c .before .before .before .before .before .before .before .before .before .args .table .now) ((c .before .before .before .before .before .before .before .before .before .args .w) + 2) 0) (c .before .before .before .before .before .before .before .before .before .args .reals .now) (omega (arith, (c .before .before .before .before .before .before .before .before .before .pre .1) .0))))
 
--- src/sampling.rt:158:18
 draw-from-bins-shared-slice-read-chance :
     (t : ℕ) → draw-from-bins-lts.Need-shared-slice-read-chance (
       unit-reads.Asked,
@@ -317,7 +297,6 @@ draw-from-bins-shared-slice-read-chance :
     ) (draw-from-bins-at t) draw-from-bins.Post
 draw-from-bins-shared-slice-read-chance t c = omega (arith, (c .before .before .before .before .before .before .before .before .before .before .pre .1) .0, c .before .reach .ensures .1, (length-chances (getD (c .before .before .before .before .before .before .before .before .before .before .args .table .now) ((c .before .before .before .before .before .before .before .before .before .before .args .w) + 5) 0 + 14) (getD (c .before .before .before .before .before .before .before .before .before .before .args .table .now) ((c .before .before .before .before .before .before .before .before .before .before .args .w) + 2) 0) (c .before .before .before .before .before .before .before .before .before .before .args .reals .now) (omega (arith, (c .before .before .before .before .before .before .before .before .before .before .pre .1) .0))))
 
--- src/sampling.rt:159:22
 draw-from-bins-add-link : (t : ℕ) → draw-from-bins-lts.Need-add-link (
   unit-reads.Asked,
   unit-reads.Learnt,
@@ -330,7 +309,6 @@ draw-from-bins-add-link : (t : ℕ) → draw-from-bins-lts.Need-add-link (
 ) (draw-from-bins-at t) draw-from-bins.Post
 draw-from-bins-add-link t c = omega (arith, (c .before .before .before .before .before .before .before .before .before .before .pre .1) .0, c .before .reach .ensures .1, (length-chances (getD (c .before .before .before .before .before .before .before .before .before .before .args .table .now) ((c .before .before .before .before .before .before .before .before .before .before .args .w) + 5) 0 + 14) (getD (c .before .before .before .before .before .before .before .before .before .before .args .table .now) ((c .before .before .before .before .before .before .before .before .before .before .args .w) + 2) 0) (c .before .before .before .before .before .before .before .before .before .before .args .reals .now) (omega (arith, (c .before .before .before .before .before .before .before .before .before .before .pre .1) .0))))
 
--- src/sampling.rt:159:22
 draw-from-bins-add-link-2 : (t : ℕ) → draw-from-bins-lts.Need-add-link-2 (
   unit-reads.Asked,
   unit-reads.Learnt,
@@ -343,7 +321,6 @@ draw-from-bins-add-link-2 : (t : ℕ) → draw-from-bins-lts.Need-add-link-2 (
 ) (draw-from-bins-at t) draw-from-bins.Post
 draw-from-bins-add-link-2 t c = omega (arith, (c .before .before .before .before .before .before .before .before .before .before .pre .1) .0, c .before .reach .ensures .1, (length-chances (getD (c .before .before .before .before .before .before .before .before .before .before .args .table .now) ((c .before .before .before .before .before .before .before .before .before .before .args .w) + 5) 0 + 14) (getD (c .before .before .before .before .before .before .before .before .before .before .args .table .now) ((c .before .before .before .before .before .before .before .before .before .before .args .w) + 2) 0) (c .before .before .before .before .before .before .before .before .before .before .args .reals .now) (omega (arith, (c .before .before .before .before .before .before .before .before .before .before .pre .1) .0))))
 
--- src/sampling.rt:159:16
 draw-from-bins-mul-link : (t : ℕ) → draw-from-bins-lts.Need-mul-link (
   unit-reads.Asked,
   unit-reads.Learnt,
@@ -356,7 +333,6 @@ draw-from-bins-mul-link : (t : ℕ) → draw-from-bins-lts.Need-mul-link (
 ) (draw-from-bins-at t) draw-from-bins.Post
 draw-from-bins-mul-link t c = omega (arith, (c .before .before .before .before .before .before .before .before .before .before .pre .1) .0, c .before .reach .ensures .1, (length-chances (getD (c .before .before .before .before .before .before .before .before .before .before .args .table .now) ((c .before .before .before .before .before .before .before .before .before .before .args .w) + 5) 0 + 14) (getD (c .before .before .before .before .before .before .before .before .before .before .args .table .now) ((c .before .before .before .before .before .before .before .before .before .before .args .w) + 2) 0) (c .before .before .before .before .before .before .before .before .before .before .args .reals .now) (omega (arith, (c .before .before .before .before .before .before .before .before .before .before .pre .1) .0))))
 
--- src/sampling.rt:159:16
 draw-from-bins-shared-slice-read-link : (t : ℕ) → draw-from-bins-lts.Need-shared-slice-read-link (
   unit-reads.Asked,
   unit-reads.Learnt,
@@ -369,7 +345,6 @@ draw-from-bins-shared-slice-read-link : (t : ℕ) → draw-from-bins-lts.Need-sh
 ) (draw-from-bins-at t) draw-from-bins.Post
 draw-from-bins-shared-slice-read-link t c = omega (arith, (c .before .before .before .before .before .before .before .before .before .before .before .pre .1) .0, c .before .before .reach .ensures .1, (length-chances (getD (c .before .before .before .before .before .before .before .before .before .before .before .args .table .now) ((c .before .before .before .before .before .before .before .before .before .before .before .args .w) + 5) 0 + 14) (getD (c .before .before .before .before .before .before .before .before .before .before .before .args .table .now) ((c .before .before .before .before .before .before .before .before .before .before .before .args .w) + 2) 0) (c .before .before .before .before .before .before .before .before .before .before .before .args .reals .now) (omega (arith, (c .before .before .before .before .before .before .before .before .before .before .before .pre .1) .0))))
 
--- src/sampling.rt:160:5
 draw-from-bins-mul-path : (t : ℕ) → draw-from-bins-lts.Need-mul-path (
   unit-reads.Asked,
   unit-reads.Learnt,
@@ -382,7 +357,6 @@ draw-from-bins-mul-path : (t : ℕ) → draw-from-bins-lts.Need-mul-path (
 ) (draw-from-bins-at t) draw-from-bins.Post
 draw-from-bins-mul-path t c = omega (arith, (c .before .before .before .before .before .before .before .before .before .before .before .pre .1) .1)
 
--- src/sampling.rt:160:5
 draw-from-bins-element-write-path : (t : ℕ) → draw-from-bins-lts.Need-element-write-path (
   unit-reads.Asked,
   unit-reads.Learnt,
@@ -395,7 +369,6 @@ draw-from-bins-element-write-path : (t : ℕ) → draw-from-bins-lts.Need-elemen
 ) (draw-from-bins-at t) draw-from-bins.Post
 draw-from-bins-element-write-path t c = omega (arith, (c .before .before .before .before .before .before .before .before .before .before .before .pre .1) .1)
 
--- src/sampling.rt:172:9
 draw-from-bins-add-draw-child : (t : ℕ) → draw-from-bins-lts.Need-add-draw-child (
   unit-reads.Asked,
   unit-reads.Learnt,
@@ -408,7 +381,6 @@ draw-from-bins-add-draw-child : (t : ℕ) → draw-from-bins-lts.Need-add-draw-c
 ) (draw-from-bins-at t) draw-from-bins.Post
 draw-from-bins-add-draw-child t c = omega (arith, (c .before .before .before .before .before .before .before .before .before .before .before .before .before .before .before .pre .1) .1)
 
--- src/sampling.rt:161:9
 draw-from-bins-draw-child-requires : (t : ℕ) → draw-from-bins-lts.Need-draw-child-requires (
   unit-reads.Asked,
   unit-reads.Learnt,
@@ -422,7 +394,6 @@ draw-from-bins-draw-child-requires : (t : ℕ) → draw-from-bins-lts.Need-draw-
 unfolding ChildLaid
 draw-from-bins-draw-child-requires t c κs = (omega (arith, c .before .before .before .before .before .before .before .before .before .before .before .before .before .before .before .pre .0), (λ z. (c .before .before .before .before .before .before .before .before .before .before .before .before .before .before .before .pre .1) .0 .children (c .before .before .before .before .before .before .reach .result) (omega (arith, c .before .before .before .before .before .before .reach .ensures .1, (length-chances (getD (c .before .before .before .before .before .before .before .before .before .before .before .before .before .before .before .args .table .now) ((c .before .before .before .before .before .before .before .before .before .before .before .before .before .before .before .args .w) + 5) 0 + 14) (getD (c .before .before .before .before .before .before .before .before .before .before .before .before .before .before .before .args .table .now) ((c .before .before .before .before .before .before .before .before .before .before .before .before .before .before .before .args .w) + 2) 0) (c .before .before .before .before .before .before .before .before .before .before .before .before .before .before .before .args .reals .now) (omega (arith, (c .before .before .before .before .before .before .before .before .before .before .before .before .before .before .before .pre .1) .0))))) z, omega (arith, (c .before .before .before .before .before .before .before .before .before .before .before .before .before .before .before .pre .1) .1), sound-below (binIn (c .before .before .before .before .before .before .before .before .before .before .before .before .before .before .before .args .table .now) (c .before .before .before .before .before .before .before .before .before .before .before .before .before .before .before .args .reals .now) (c .before .before .before .before .before .before .before .before .before .before .before .before .before .before .before .args .counts .now) (c .before .before .before .before .before .before .before .before .before .before .before .before .before .before .before .args .w) (c .before .before .before .before .before .before .reach .result)) (childIn (gridAt (c .before .before .before .before .before .before .before .before .before .before .before .before .before .before .before .args .level) (c .before .before .before .before .before .before .before .before .before .before .before .before .before .before .before .args .table .now) (c .before .before .before .before .before .before .before .before .before .before .before .before .before .before .before .args .reals .now) (c .before .before .before .before .before .before .before .before .before .before .before .before .before .before .before .args .counts .now)) (getD (c .before .before .before .before .before .before .before .before .before .before .before .before .before .before .before .args .table .now) ((c .before .before .before .before .before .before .before .before .before .before .before .before .before .before .before .args .w) + 7 + (c .before .before .before .before .before .before .reach .result)) 0)) (sound-in (gridAt (c .before .before .before .before .before .before .before .before .before .before .before .before .before .before .before .args .level) (c .before .before .before .before .before .before .before .before .before .before .before .before .before .before .before .args .table .now) (c .before .before .before .before .before .before .before .before .before .before .before .before .before .before .before .args .reals .now) (c .before .before .before .before .before .before .before .before .before .before .before .before .before .before .before .args .counts .now)) (c .before .before .before .before .before .before .before .before .before .before .before .before .before .before .before .args .table .now) (c .before .before .before .before .before .before .before .before .before .before .before .before .before .before .before .args .reals .now) (c .before .before .before .before .before .before .before .before .before .before .before .before .before .before .before .args .counts .now) (c .before .before .before .before .before .before .before .before .before .before .before .before .before .before .before .args .w) (headAt (c .before .before .before .before .before .before .before .before .before .before .before .before .before .before .before .args .table .now) (c .before .before .before .before .before .before .before .before .before .before .before .before .before .before .before .args .reals .now) (c .before .before .before .before .before .before .before .before .before .before .before .before .before .before .before .args .counts .now) (c .before .before .before .before .before .before .before .before .before .before .before .before .before .before .before .args .w)) (getD (c .before .before .before .before .before .before .before .before .before .before .before .before .before .before .before .args .table .now) ((c .before .before .before .before .before .before .before .before .before .before .before .before .before .before .before .args .w) + 2) 0) (c .before .before .before .before .before .before .reach .result) (omega (arith, c .before .before .before .before .before .before .reach .ensures .1, (length-chances (getD (c .before .before .before .before .before .before .before .before .before .before .before .before .before .before .before .args .table .now) ((c .before .before .before .before .before .before .before .before .before .before .before .before .before .before .before .args .w) + 5) 0 + 14) (getD (c .before .before .before .before .before .before .before .before .before .before .before .before .before .before .before .args .table .now) ((c .before .before .before .before .before .before .before .before .before .before .before .before .before .before .before .args .w) + 2) 0) (c .before .before .before .before .before .before .before .before .before .before .before .before .before .before .before .args .reals .now) (omega (arith, (c .before .before .before .before .before .before .before .before .before .before .before .before .before .before .before .pre .1) .0))))) ((c .before .before .before .before .before .before .before .before .before .before .before .before .before .before .before .pre .1) .2)), (c .before .before .before .before .before .before .before .before .before .before .before .before .before .before .before .pre .1) .3))
 
--- src/sampling.rt:174:18
 draw-from-bins-inv-requires : (t : ℕ) → draw-from-bins-lts.Need-inv-requires (
   unit-reads.Asked,
   unit-reads.Learnt,
@@ -435,7 +406,6 @@ draw-from-bins-inv-requires : (t : ℕ) → draw-from-bins-lts.Need-inv-requires
 ) (draw-from-bins-at t) draw-from-bins.Post
 draw-from-bins-inv-requires t c κs = tt
 
--- src/sampling.rt:175:5
 draw-from-bins-mul-weights : (t : ℕ) → draw-from-bins-lts.Need-mul-weights (
   unit-reads.Asked,
   unit-reads.Learnt,
@@ -448,7 +418,6 @@ draw-from-bins-mul-weights : (t : ℕ) → draw-from-bins-lts.Need-mul-weights (
 ) (draw-from-bins-at t) draw-from-bins.Post
 draw-from-bins-mul-weights t c = omega (arith, (c .before .before .before .before .before .before .before .before .before .before .before .before .before .before .before .before .before .before .pre .1) .1)
 
--- src/sampling.rt:175:5
 draw-from-bins-element-write-weights : (t : ℕ) → draw-from-bins-lts.Need-element-write-weights (
   unit-reads.Asked,
   unit-reads.Learnt,
@@ -461,7 +430,6 @@ draw-from-bins-element-write-weights : (t : ℕ) → draw-from-bins-lts.Need-ele
 ) (draw-from-bins-at t) draw-from-bins.Post
 draw-from-bins-element-write-weights t c = omega (arith, (c .before .before .before .before .before .before .before .before .before .before .before .before .before .before .before .before .before .before .pre .1) .1)
 
--- src/sampling.rt:134:1
 draw-from-bins-returns : (t : ℕ) → draw-from-bins-lts.Need-returns (
   unit-reads.Asked,
   unit-reads.Learnt,
@@ -474,7 +442,6 @@ draw-from-bins-returns : (t : ℕ) → draw-from-bins-lts.Need-returns (
 ) (draw-from-bins-at t) draw-from-bins.Post
 draw-from-bins-returns t c = (bins-made (gridAt (c .before .before .before .before .before .before .before .before .before .before .before .before .before .before .before .before .before .before .args .level) (c .before .before .before .before .before .before .before .before .before .before .before .before .before .before .before .before .before .before .args .table .now) (c .before .before .before .before .before .before .before .before .before .before .before .before .before .before .before .before .before .before .args .reals .now) (c .before .before .before .before .before .before .before .before .before .before .before .before .before .before .before .before .before .before .args .counts .now)) (c .before .before .before .before .before .before .before .before .before .before .before .before .before .before .before .before .before .before .args .table .now) (c .before .before .before .before .before .before .before .before .before .before .before .before .before .before .before .before .before .before .args .reals .now) (c .before .before .before .before .before .before .before .before .before .before .before .before .before .before .before .before .before .before .args .counts .now) (c .before .before .before .before .before .before .before .before .before .before .before .before .before .before .before .before .before .before .args .w) (headAt (c .before .before .before .before .before .before .before .before .before .before .before .before .before .before .before .before .before .before .args .table .now) (c .before .before .before .before .before .before .before .before .before .before .before .before .before .before .before .before .before .before .args .reals .now) (c .before .before .before .before .before .before .before .before .before .before .before .before .before .before .before .before .before .before .args .counts .now) (c .before .before .before .before .before .before .before .before .before .before .before .before .before .before .before .before .before .before .args .w)) (c .before .before .before .before .before .before .before .before .before .before .before .before .before .before .before .before .before .before .args .level) (c .before .before .before .before .before .before .before .before .before .before .before .before .before .before .before .before .before .before .args .depth) (c .before .before .before .before .before .before .before .before .before .before .before .before .before .before .before .before .before .before .args .start) (c .before .before .before .before .before .before .before .before .before .before .before .before .before .before .unit .result) (c .before .before .before .before .before .before .before .before .before .reach .result) (drawChild (childIn (gridAt (c .before .before .before .before .before .before .before .before .before .before .before .before .before .before .before .before .before .before .args .level) (c .before .before .before .before .before .before .before .before .before .before .before .before .before .before .before .before .before .before .args .table .now) (c .before .before .before .before .before .before .before .before .before .before .before .before .before .before .before .before .before .before .args .reals .now) (c .before .before .before .before .before .before .before .before .before .before .before .before .before .before .before .before .before .before .args .counts .now)) (getD (c .before .before .before .before .before .before .before .before .before .before .before .before .before .before .before .before .before .before .args .table .now) ((c .before .before .before .before .before .before .before .before .before .before .before .before .before .before .before .before .before .before .args .w) + 7 + (c .before .before .before .before .before .before .before .before .before .reach .result)) 0)) (c .before .before .before .before .before .before .before .before .before .before .before .before .before .before .unit .result .stream)) (c .before .before .draw-child .result) (c .before .inv .result) (c .before .before .before .before .before .before .before .before .before .before .before .before .before .before .before .before .before .before .args .path .now) (c .before .before .draw-child .last .1 .1 .1 .1 .1 .1 .0) (c .before .before .before .before .before .before .before .before .before .before .before .before .before .before .before .before .before .before .args .weights .now) (c .before .before .draw-child .last .1 .1 .1 .1 .1 .1 .1 .0) (c .before .before .before .before .before .before .before .before .before .before .before .before .before .before .before .before .before .before .args .coordinates .now) (c .before .before .draw-child .last .1 .1 .1 .1 .1 .1 .1 .1 .0) (omega (arith, (c .before .before .before .before .before .before .before .before .before .before .before .before .before .before .before .before .before .before .pre .1) .0)) (c .before .before .before .before .before .before .before .before .before .before .before .before .before .before .unit .ensures) (c .before .before .before .before .before .before .before .before .before .reach .ensures .0) (omega (arith, c .before .before .before .before .before .before .before .before .before .reach .ensures .1, (length-chances (getD (c .before .before .before .before .before .before .before .before .before .before .before .before .before .before .before .before .before .before .args .table .now) ((c .before .before .before .before .before .before .before .before .before .before .before .before .before .before .before .before .before .before .args .w) + 5) 0 + 14) (getD (c .before .before .before .before .before .before .before .before .before .before .before .before .before .before .before .before .before .before .args .table .now) ((c .before .before .before .before .before .before .before .before .before .before .before .before .before .before .before .before .before .before .args .w) + 2) 0) (c .before .before .before .before .before .before .before .before .before .before .before .before .before .before .before .before .before .before .args .reals .now) (omega (arith, (c .before .before .before .before .before .before .before .before .before .before .before .before .before .before .before .before .before .before .pre .1) .0))))) refl (c .before .before .draw-child .ensures .0) (c .before .inv .ensures), c .before .before .draw-child .ensures .1)
 
--- src/sampling.rt:198:8
 draw-grid-mul-if1 : (t : ℕ) → draw-grid-lts.Need-mul-if1 (
   draw-from-axes-reads.Asked,
   draw-from-axes-reads.Learnt,
@@ -483,7 +450,6 @@ draw-grid-mul-if1 : (t : ℕ) → draw-grid-lts.Need-mul-if1 (
 ) (draw-grid-at t) draw-grid.Post
 draw-grid-mul-if1 t c = let q = laid-head (c .before .before .before .args .level) (c .before .before .before .args .table .now) (length (c .before .before .before .args .reals .now)) (length (c .before .before .before .args .counts .now)) (c .before .before .before .args .w) ((c .before .before .before .pre .1) .0) in omega arith
 
--- src/sampling.rt:198:8
 draw-grid-shared-slice-read-if1 : (t : ℕ) → draw-grid-lts.Need-shared-slice-read-if1 (
   draw-from-axes-reads.Asked,
   draw-from-axes-reads.Learnt,
@@ -492,7 +458,6 @@ draw-grid-shared-slice-read-if1 : (t : ℕ) → draw-grid-lts.Need-shared-slice-
 ) (draw-grid-at t) draw-grid.Post
 draw-grid-shared-slice-read-if1 t c = let q = laid-head (c .before .before .before .before .args .level) (c .before .before .before .before .args .table .now) (length (c .before .before .before .before .args .reals .now)) (length (c .before .before .before .before .args .counts .now)) (c .before .before .before .before .args .w) ((c .before .before .before .before .pre .1) .0) in omega arith
 
--- src/sampling.rt:199:9
 draw-grid-draw-from-axes-requires : (t : ℕ) → draw-grid-lts.Need-draw-from-axes-requires (
   draw-from-axes-reads.Asked,
   draw-from-axes-reads.Learnt,
@@ -501,7 +466,6 @@ draw-grid-draw-from-axes-requires : (t : ℕ) → draw-grid-lts.Need-draw-from-a
 ) (draw-grid-at t) draw-grid.Post
 draw-grid-draw-from-axes-requires t c κs = (laid-axes (c .before .before .before .before .before .before .before .before .args .level) (c .before .before .before .before .before .before .before .before .args .table .now) (length (c .before .before .before .before .before .before .before .before .args .reals .now)) (length (c .before .before .before .before .before .before .before .before .args .counts .now)) (c .before .before .before .before .before .before .before .before .args .w) ((c .before .before .before .before .before .before .before .before .pre .1) .0) (c .before .before .before .if1 .taken), sym (ap sound (node-axes (c .before .before .before .before .before .before .before .before .args .level) (c .before .before .before .before .before .before .before .before .args .table .now) (c .before .before .before .before .before .before .before .before .args .reals .now) (c .before .before .before .before .before .before .before .before .args .counts .now) (c .before .before .before .before .before .before .before .before .args .w) (c .before .before .before .if1 .taken))) ∙ (c .before .before .before .before .before .before .before .before .pre .1) .2, omega (arith, (c .before .before .before .before .before .before .before .before .pre .1) .1), (c .before .before .before .before .before .before .before .before .pre .1) .3)
 
--- src/sampling.rt:199:9
 draw-grid-returns : (t : ℕ) → draw-grid-lts.Need-returns (
   draw-from-axes-reads.Asked,
   draw-from-axes-reads.Learnt,
@@ -511,7 +475,6 @@ draw-grid-returns : (t : ℕ) → draw-grid-lts.Need-returns (
 unfolding drawGrid drawAxes
 draw-grid-returns t c = let q = shorter 0 (c .before .before .before .before .before .before .before .before .before .args .level) _ (omega arith) (c .draw-from-axes .ensures .0 .3) in (subst (λ (g : Grid). Traces (c .before .before .before .before .before .before .before .before .before .args .level) (c .before .before .before .before .before .before .before .before .before .args .depth) (drawGrid g (c .before .before .before .before .before .before .before .before .before .args .start)) (c .draw-from-axes .result) (c .before .before .before .before .before .before .before .before .before .args .path .now) (c .before .before .before .before .before .before .before .before .before .args .path .now) (c .before .before .before .before .before .before .before .before .before .args .weights .now) (c .draw-from-axes .last .1 .1 .1 .1 .1 .0) (c .before .before .before .before .before .before .before .before .before .args .coordinates .now) (c .draw-from-axes .last .1 .1 .1 .1 .1 .1 .0)) (sym (node-axes (c .before .before .before .before .before .before .before .before .before .args .level) (c .before .before .before .before .before .before .before .before .before .args .table .now) (c .before .before .before .before .before .before .before .before .before .args .reals .now) (c .before .before .before .before .before .before .before .before .before .args .counts .now) (c .before .before .before .before .before .before .before .before .before .args .w) (c .before .before .before .before .if1 .taken))) (c .draw-from-axes .ensures .0 .0, refl, c .draw-from-axes .ensures .0 .1, c .draw-from-axes .ensures .0 .2, q), c .draw-from-axes .ensures .1)
 
--- src/sampling.rt:215:9
 draw-grid-sub-draw-from-bins : (t : ℕ) → draw-grid-lts.Need-sub-draw-from-bins (
   draw-from-axes-reads.Asked,
   draw-from-axes-reads.Learnt,
@@ -520,7 +483,6 @@ draw-grid-sub-draw-from-bins : (t : ℕ) → draw-grid-lts.Need-sub-draw-from-bi
 ) (draw-grid-at t) draw-grid.Post
 draw-grid-sub-draw-from-bins t c = let d = laid-bins (c .before .before .before .before .before .args .level) (c .before .before .before .before .before .args .table .now) (length (c .before .before .before .before .before .args .reals .now)) (length (c .before .before .before .before .before .args .counts .now)) (c .before .before .before .before .before .args .w) ((c .before .before .before .before .before .pre .1) .0) (c .if1 .left) in omega (arith, d .level)
 
--- src/sampling.rt:211:5
 draw-grid-draw-from-bins-requires : (t : ℕ) → draw-grid-lts.Need-draw-from-bins-requires (
   draw-from-axes-reads.Asked,
   draw-from-axes-reads.Learnt,
@@ -529,7 +491,6 @@ draw-grid-draw-from-bins-requires : (t : ℕ) → draw-grid-lts.Need-draw-from-b
 ) (draw-grid-at t) draw-grid.Post
 draw-grid-draw-from-bins-requires t c κs = let d = laid-bins (c .before .before .before .before .before .before .before .before .before .args .level) (c .before .before .before .before .before .before .before .before .before .args .table .now) (length (c .before .before .before .before .before .before .before .before .before .args .reals .now)) (length (c .before .before .before .before .before .before .before .before .before .args .counts .now)) (c .before .before .before .before .before .before .before .before .before .args .w) ((c .before .before .before .before .before .before .before .before .before .pre .1) .0) (c .before .before .before .before .if1 .left) in (omega (arith, c .before .before .before .before .before .before .before .before .before .pre .0, d .level), (d .bins, omega (arith, (c .before .before .before .before .before .before .before .before .before .pre .1) .1), sym (ap sound (node-bins (c .before .before .before .before .before .before .before .before .before .args .level) (c .before .before .before .before .before .before .before .before .before .args .table .now) (c .before .before .before .before .before .before .before .before .before .args .reals .now) (c .before .before .before .before .before .before .before .before .before .args .counts .now) (c .before .before .before .before .before .before .before .before .before .args .w) (c .before .before .before .before .if1 .left) (d .level))) ∙ (c .before .before .before .before .before .before .before .before .before .pre .1) .2, (c .before .before .before .before .before .before .before .before .before .pre .1) .3))
 
--- src/sampling.rt:181:1
 draw-grid-returns-2 : (t : ℕ) → draw-grid-lts.Need-returns-2 (
   draw-from-axes-reads.Asked,
   draw-from-axes-reads.Learnt,

@@ -7,32 +7,22 @@ use native.Mathlib.Omega.{arith}
 use borrow.Author.Needs.{needs}
 use Rattle.samples.proofs.sampling.draw_from_axes.Statement.{statement}
 use Rattle.samples.proofs.sampling.draw_from_axes.Tie as tie
-use Rattle.samples.proofs.sampling.draw_from_axes.Reads as reads
-use Rattle.samples.proofs.sampling.draw_from_axes.Lts as lts
-use Rattle.samples.proofs.axes.draw_axes.Reads as draw-axes-reads
-use Rattle.lent.proofs.layout.axes_place.Reads as axes-place-reads
 
--- src/sampling.rt:78:9
 axes-place-requires : tie.Need-axes-place-requires
 axes-place-requires c κs = tt
 
--- src/sampling.rt:79:9
 draw-axes-requires : tie.Need-draw-axes-requires
 draw-axes-requires c κs = (subst (λ (g : AxesAt). Stands (c .before .before .before .before .before .before .args .reals .now) (c .before .before .before .before .before .before .args .counts .now) g) (sym (placed (c .before .before .before .before .before .before .args .table .now) (c .before .before .before .before .before .before .args .w) (c .before .before .axes-place .ensures) (search needs))) (sound-stands (c .before .before .before .before .before .before .args .table .now) (c .before .before .before .before .before .before .args .reals .now) (c .before .before .before .before .before .before .args .counts .now) (c .before .before .before .before .before .before .args .w) (c .before .before .before .before .before .before .pre .0) (c .before .before .before .before .before .before .pre .1)), c .before .before .before .before .before .before .pre .3)
 
--- src/sampling.rt:80:5
 mul-weights : tie.Need-mul-weights
 mul-weights c = omega arith
 
--- src/sampling.rt:80:5
 element-write-weights : tie.Need-element-write-weights
 element-write-weights c = omega arith
 
--- src/sampling.rt:84:16
 add-t15 : tie.Need-add-t15
 add-t15 c = omega arith
 
--- src/sampling.rt:63:1
 returns : tie.Need-returns
 returns c = let s = subst (λ (g : AxesAt). Stands (c .before .before .before .before .before .before .before .before .args .reals .now) (c .before .before .before .before .before .before .before .before .args .counts .now) g) (sym (placed (c .before .before .before .before .before .before .before .before .args .table .now) (c .before .before .before .before .before .before .before .before .args .w) (c .before .before .before .before .axes-place .ensures) (search needs))) (sound-stands (c .before .before .before .before .before .before .before .before .args .table .now) (c .before .before .before .before .before .before .before .before .args .reals .now) (c .before .before .before .before .before .before .before .before .args .counts .now) (c .before .before .before .before .before .before .before .before .args .w) (c .before .before .before .before .before .before .before .before .pre .0) (c .before .before .before .before .before .before .before .before .pre .1)) in
     (axes-made (c .before .before .before .before .before .before .before .before .args .table .now) (c .before .before .before .before .before .before .before .before .args .reals .now) (c .before .before .before .before .before .before .before .before .args .counts .now) (c .before .before .before .before .before .before .before .before .args .w) (c .before .before .before .before .before .before .before .before .args .depth) (c .before .before .before .before .before .before .before .before .args .start) (c .before .draw-axes .result) (c .before .before .before .before .axes-place .result) (c .before .before .before .before .before .before .before .before .args .weights .now) (c .before .before .before .before .before .before .before .before .args .coordinates .now) (c .before .draw-axes .last .1 .1 .1 .1 .0) (placed (c .before .before .before .before .before .before .before .before .args .table .now) (c .before .before .before .before .before .before .before .before .args .w) (c .before .before .before .before .axes-place .ensures) (search needs)) (s .0) (c .before .draw-axes .ensures .0), c .before .draw-axes .ensures .1)

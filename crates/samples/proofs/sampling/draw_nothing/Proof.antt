@@ -4,10 +4,7 @@ use mathlib.Core.Path.{refl}
 use Rattle.model.specs.Draw.{drawNothing}
 use Rattle.samples.proofs.sampling.draw_nothing.Statement.{statement}
 use Rattle.samples.proofs.sampling.draw_nothing.Tie as tie
-use Rattle.samples.proofs.sampling.draw_nothing.Reads as reads
-use Rattle.samples.proofs.sampling.draw_nothing.Lts as lts
 
--- src/sampling.rt:61:1
 returns : tie.Need-returns
 unfolding laidDrawing laidSample drawNothing padded
 returns c = refl

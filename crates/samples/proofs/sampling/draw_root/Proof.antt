@@ -4,15 +4,10 @@ use Rattle.lent.proofs.Samples.{root-made}
 use borrow.Author.Needs.{needs}
 use Rattle.samples.proofs.sampling.draw_root.Statement.{statement}
 use Rattle.samples.proofs.sampling.draw_root.Tie as tie
-use Rattle.samples.proofs.sampling.draw_root.Reads as reads
-use Rattle.samples.proofs.sampling.draw_root.Lts as lts
-use Rattle.samples.proofs.sampling.draw_grid.Reads as draw-grid-reads
 
--- src/sampling.rt:240:9
 draw-grid-requires : tie.Need-draw-grid-requires
 draw-grid-requires c κs = search needs
 
--- src/sampling.rt:227:1
 returns : tie.Need-returns
 returns c = root-made (drawGrid (gridAt 4 (c .before .before .before .before .before .before .before .before .before .args .table .now) (c .before .before .before .before .before .before .before .before .before .args .reals .now) (c .before .before .before .before .before .before .before .before .before .args .counts .now) 0) (c .before .before .before .before .before .before .before .before .before .args .start)) (c .before .draw-grid .result) (c .before .draw-grid .last .1 .1 .1 .1 .1 .1 .0) (c .before .draw-grid .last .1 .1 .1 .1 .1 .1 .1 .0) (c .before .draw-grid .last .1 .1 .1 .1 .1 .1 .1 .1 .0) (c .before .draw-grid .ensures .0)
 

@@ -7,8 +7,6 @@ use Rattle.model.specs.Draw.{reached}
 use Rattle.lent.proofs.Samples.{reach-stop, reach-next, reach-end}
 use Rattle.samples.proofs.sampling.reach.Statement.{statement}
 use Rattle.samples.proofs.sampling.reach.Tie as tie
-use Rattle.samples.proofs.sampling.reach.Reads as reads
-use Rattle.samples.proofs.sampling.reach.Lts as lts
 
 abbrev Inv-loop : tie.InvT-loop
 Inv-loop chances r sum₀ i₀ sum i = (i + 1 ≤ length chances) × (i + reached r sum (drop i chances) ≡ reached r zero64 chances)
@@ -16,39 +14,30 @@ Inv-loop chances r sum₀ i₀ sum i = (i + 1 ≤ length chances) × (i + reache
 abbrev μ-loop : tie.MeasureT-loop
 μ-loop chances r sum₀ i₀ sum i = length chances - i
 
--- src/sampling.rt:25:5
 loop-holds : tie.Need-loop-holds Inv-loop μ-loop
 loop-holds c = (omega (arith, c .pre), omega arith)
 
--- src/sampling.rt:25:11
 add-loop : tie.Need-add-loop Inv-loop μ-loop
 add-loop c = omega (arith, c .loop .inv .0)
 
--- src/sampling.rt:26:21
 mul-sum : tie.Need-mul-sum Inv-loop μ-loop
 mul-sum c = omega (arith, c .before .loop .inv .0)
 
--- src/sampling.rt:26:21
 shared-slice-read-sum : tie.Need-shared-slice-read-sum Inv-loop μ-loop
 shared-slice-read-sum c = omega (arith, c .before .loop-test .taken)
 
--- src/sampling.rt:28:13
 returns : tie.Need-returns Inv-loop μ-loop
 returns c = (reach-stop (c .before .before .before .before .args .r) (c .before .before .before .loop .sum) (c .before .before .before .before .args .chances .now) (c .before .before .before .loop .i) (c .before .before .loop-test .taken) (c .if1 .taken) (c .before .before .before .loop .inv .1), omega (arith, c .before .before .loop-test .taken))
 
--- src/sampling.rt:30:9
 add-i : tie.Need-add-i Inv-loop μ-loop
 add-i c = omega (arith, c .before .before .loop-test .taken)
 
--- src/sampling.rt:25:5
 loop-less : tie.Need-loop-less Inv-loop μ-loop
 loop-less c = omega (arith, c .before .before .loop-test .taken)
 
--- src/sampling.rt:25:5
 loop-again : tie.Need-loop-again Inv-loop μ-loop
 loop-again c = (omega (arith, c .before .before .loop-test .taken), reach-next (c .before .before .before .before .args .r) (c .before .before .before .loop .sum) (c .before .before .before .before .args .chances .now) (c .before .before .before .loop .i) (c .before .before .loop-test .taken) (c .if1 .left) (c .before .before .before .loop .inv .1))
 
--- src/sampling.rt:19:1
 returns-2 : tie.Need-returns-2 Inv-loop μ-loop
 returns-2 c = (reach-end (c .before .before .args .r) (c .before .loop .sum) (c .before .before .args .chances .now) (c .before .loop .i) (omega (arith, c .before .loop .inv .0, c .loop-test .left)) (c .before .loop .inv .1), omega (arith, c .before .loop .inv .0))
 

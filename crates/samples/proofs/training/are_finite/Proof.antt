@@ -10,9 +10,6 @@ use Rattle.lent.specs.Sampled.{entries}
 use Rattle.lent.proofs.Trains.{scan-on, scan-out}
 use Rattle.samples.proofs.training.are_finite.Statement.{statement}
 use Rattle.samples.proofs.training.are_finite.Tie as tie
-use Rattle.samples.proofs.training.are_finite.Reads as reads
-use Rattle.samples.proofs.training.are_finite.Lts as lts
-use Rattle.plain.proofs.finite.Reads as finite-reads
 
 abbrev Inv-loop : tie.InvT-loop
 Inv-loop ws n ok₀ i₀ ok i = (i ≤ n) × ((ok && allFinite (entries nan ws i (n - i))) ≡ allFinite (entries nan ws 0 (n - 0)))

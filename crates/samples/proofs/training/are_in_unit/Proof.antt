@@ -10,9 +10,6 @@ use Rattle.lent.specs.Trained.{allInUnit}
 use Rattle.lent.proofs.Trains.{scan-on, scan-out}
 use Rattle.samples.proofs.training.are_in_unit.Statement.{statement}
 use Rattle.samples.proofs.training.are_in_unit.Tie as tie
-use Rattle.samples.proofs.training.are_in_unit.Reads as reads
-use Rattle.samples.proofs.training.are_in_unit.Lts as lts
-use Rattle.axis.proofs.scans.in_unit.Reads as in-unit-reads
 
 abbrev Inv-loop : tie.InvT-loop
 Inv-loop xs n ok₀ i₀ ok i = (i ≤ n) × ((ok && allInUnit (entries nan xs i (n - i))) ≡ allInUnit (entries nan xs 0 (n - 0)))

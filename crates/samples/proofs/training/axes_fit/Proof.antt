@@ -12,10 +12,6 @@ use Rattle.lent.proofs.Draws.{asked-part}
 use Rattle.lent.proofs.Spots.{begun, spotsLeft, Left, spots-all, left-all, unit-here, cell-here, left-judged, fits-on, fits-none, noted-on, noted-all}
 use Rattle.samples.proofs.training.axes_fit.Statement.{statement}
 use Rattle.samples.proofs.training.axes_fit.Tie as tie
-use Rattle.samples.proofs.training.axes_fit.Reads as reads
-use Rattle.samples.proofs.training.axes_fit.Lts as lts
-use Rattle.samples.proofs.training.bin_near.Reads as bin-near-reads
-use Rattle.samples.proofs.training.cell_fits.Reads as cell-fits-reads
 
 abbrev Inv-loop : tie.InvT-loop
 Inv-loop reals counts g xs v spots₀ ok₀ at₀ place₀ done₀ spots ok at place done =

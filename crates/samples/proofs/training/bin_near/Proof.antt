@@ -1,4 +1,3 @@
-use borrow.Author.Needs.{needs}
 use mathlib.Core.Path.{_∙_}
 use native.Mathlib.Omega.{arith}
 use Rattle.axis.proofs.Bins.{formed}
@@ -6,43 +5,31 @@ use Rattle.axis.proofs.Searches.{search-is}
 use Rattle.lent.proofs.Trains.{near-is}
 use Rattle.samples.proofs.training.bin_near.Statement.{statement}
 use Rattle.samples.proofs.training.bin_near.Tie as tie
-use Rattle.samples.proofs.training.bin_near.Reads as reads
-use Rattle.samples.proofs.training.bin_near.Lts as lts
-use Rattle.axis.proofs.edges.bin_of.Reads as bin-of-reads
 
--- src/training.rt:49:16
 sub-last : tie.Need-sub-last
 sub-last c = omega (arith, formed _ (c .before .pre .0) .few)
 
--- src/training.rt:51:13
 mul-if2 : tie.Need-mul-if2
 mul-if2 c = omega arith
 
--- src/training.rt:51:13
 shared-slice-read-if2 : tie.Need-shared-slice-read-if2
 shared-slice-read-if2 c = omega arith
 
--- src/training.rt:51:45
 add-if2 : tie.Need-add-if2
 add-if2 c = omega arith
 
--- src/training.rt:51:39
 mul-if2-2 : tie.Need-mul-if2-2
 mul-if2-2 c = omega arith
 
--- src/training.rt:51:39
 shared-slice-read-if2-2 : tie.Need-shared-slice-read-if2-2
 shared-slice-read-if2-2 c = omega arith
 
--- src/training.rt:52:13
 returns : tie.Need-returns
 returns c = near-is _ _ _ (c .before .before .before .before .before .pre .0) (c .before .before .before .if1 .taken) (c .if2 .taken)
 
--- src/training.rt:55:5
 bin-of-requires : tie.Need-bin-of-requires
 bin-of-requires c κs = tt
 
--- src/training.rt:45:1
 returns-2 : tie.Need-returns-2
 returns-2 c = c .bin-of .ensures ∙ search-is _ _ (c .before .before .before .pre .0) (c .before .before .before .pre .1)
 

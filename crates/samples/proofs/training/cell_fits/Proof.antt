@@ -5,12 +5,6 @@ use Rattle.lent.proofs.Trains.{zero-count-small}
 use borrow.Author.Needs.{needs}
 use Rattle.samples.proofs.training.cell_fits.Statement.{statement}
 use Rattle.samples.proofs.training.cell_fits.Tie as tie
-use Rattle.samples.proofs.training.cell_fits.Reads as reads
-use Rattle.samples.proofs.training.cell_fits.Lts as lts
-use Rattle.samples.proofs.reading.count_at.Reads as count-at-reads
-use Rattle.samples.proofs.reading.real_at.Reads as real-at-reads
-use Rattle.samples.proofs.training.are_sums_finite.Reads as are-sums-finite-reads
-use Rattle.samples.proofs.training.zero_count.Reads as zero-count-reads
 
 mul-real-at : tie.Need-mul-real-at
 mul-real-at c = omega arith

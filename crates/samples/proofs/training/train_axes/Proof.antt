@@ -9,10 +9,6 @@ use Rattle.lent.specs.Trained.{trainedAt, Cell}
 use Rattle.lent.proofs.Trains.{trained-out, given-cell, given-on, trained-on}
 use Rattle.samples.proofs.training.train_axes.Statement.{statement}
 use Rattle.samples.proofs.training.train_axes.Tie as tie
-use Rattle.samples.proofs.training.train_axes.Reads as reads
-use Rattle.samples.proofs.training.train_axes.Lts as lts
-use Rattle.samples.proofs.training.train_counts.Reads as train-counts-reads
-use Rattle.samples.proofs.training.train_reals.Reads as train-reals-reads
 
 abbrev Inv-loop : tie.InvT-loop
 Inv-loop reals₀ counts₀ g spots v at₀ place₀ done₀ reals counts at place done =

@@ -6,9 +6,6 @@ use Rattle.lent.proofs.Trains.{zero-count-small}
 use borrow.Author.Needs.{needs}
 use Rattle.samples.proofs.training.train_counts.Statement.{statement}
 use Rattle.samples.proofs.training.train_counts.Tie as tie
-use Rattle.samples.proofs.training.train_counts.Reads as reads
-use Rattle.samples.proofs.training.train_counts.Lts as lts
-use Rattle.samples.proofs.training.zero_count.Reads as zero-count-reads
 
 add-waiting-at : tie.Need-add-waiting-at
 add-waiting-at c = omega arith

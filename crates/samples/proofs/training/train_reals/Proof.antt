@@ -6,8 +6,6 @@ use Rattle.lent.specs.Trained.{trainedAt}
 use borrow.Author.Needs.{needs}
 use Rattle.samples.proofs.training.train_reals.Statement.{statement}
 use Rattle.samples.proofs.training.train_reals.Tie as tie
-use Rattle.samples.proofs.training.train_reals.Reads as reads
-use Rattle.samples.proofs.training.train_reals.Lts as lts
 
 mul-sum-at : tie.Need-mul-sum-at
 mul-sum-at c = omega arith

@@ -1,5 +1,4 @@
 -- `export`: 32 bytes stored over 32 zeros leave nothing of them.
-use native.Mathlib.Omega.{arith}
 use Rattle.stream.specs.Bytes.{bytesOf}
 use Rattle.stream.specs.Calls.{exportOf}
 use Rattle.stream.proofs.MonteCarloRng.export.Statement.{statement}

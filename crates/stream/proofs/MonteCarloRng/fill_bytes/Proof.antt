@@ -1,7 +1,7 @@
 -- `fill_bytes`: after k words, what is left to come from the stream reached is what was to come at first.
 use native.Mathlib.Omega.{arith}
 use mathlib.Core.Path.{_≡_, refl, sym, ap, _∙_}
-use Prim.Native.Nat.{_+_, _-_, _*_, _≤_, _<_}
+use Prim.Native.Nat.{_-_, _*_, _<_}
 use lib.ListN.{length}
 use Rattle.stream.specs.Calls.{wordsFor}
 use Rattle.stream.proofs.Fills.{onward, onward-starts, onward-done, begins, spent, fills-word}

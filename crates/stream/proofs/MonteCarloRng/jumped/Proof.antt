@@ -1,6 +1,6 @@
 use native.Mathlib.Omega.{arith}
 use mathlib.Core.Path.{_≡_, refl, sym, ap, _∙_}
-use Prim.Native.Nat.{ℕ, _+_, _-_, _≤_}
+use Prim.Native.Nat.{ℕ, _-_, _≤_}
 use lib.ListN.{length, drop, drop-of-length-le}
 use Rattle.stream.specs.Jumps.{walkWords, jumpOf}
 use Rattle.stream.specs.declared.Walk.{Walk}
@@ -8,9 +8,6 @@ use mathlib.Core.List.{List}
 use Rattle.stream.proofs.Walks.{table-on}
 use Rattle.stream.proofs.MonteCarloRng.jumped.Statement.{statement}
 use Rattle.stream.proofs.MonteCarloRng.jumped.Tie as tie
-use Rattle.stream.proofs.MonteCarloRng.jumped.Reads as reads
-use Rattle.stream.proofs.MonteCarloRng.jumped.Lts as lts
-use Rattle.stream.proofs.walk_word.Reads as walk-word-reads
 
 abbrev Inv-loop : tie.InvT-loop
 Inv-loop table walk₀ i₀ walk i = (i ≤ length table) × (walkWords (drop i table) walk ≡ walkWords table walk₀)
@@ -18,35 +15,27 @@ Inv-loop table walk₀ i₀ walk i = (i ≤ length table) × (walkWords (drop i 
 abbrev μ-loop : tie.MeasureT-loop
 μ-loop table walk₀ i₀ walk i = length table - i
 
--- src/lib.rt:281:9
 loop-holds : tie.Need-loop-holds Inv-loop μ-loop
 loop-holds c = (omega arith, refl)
 
--- src/lib.rt:282:30
 mul-walk-word : tie.Need-mul-walk-word Inv-loop μ-loop
 mul-walk-word c = omega arith
 
--- src/lib.rt:282:30
 shared-slice-read-walk-word : tie.Need-shared-slice-read-walk-word Inv-loop μ-loop
 shared-slice-read-walk-word c = omega arith
 
--- src/lib.rt:282:13
 walk-word-requires : tie.Need-walk-word-requires Inv-loop μ-loop
 walk-word-requires c κs = tt
 
--- src/lib.rt:283:13
 add-i : tie.Need-add-i Inv-loop μ-loop
 add-i c = omega arith
 
--- src/lib.rt:281:9
 loop-less : tie.Need-loop-less Inv-loop μ-loop
 loop-less c = omega arith
 
--- src/lib.rt:281:9
 loop-again : tie.Need-loop-again Inv-loop μ-loop
 loop-again c = (omega arith, ap (walkWords _) (c .walk-word .ensures) ∙ sym (table-on _ _ _ (c .before .before .loop-test .taken)) ∙ c .before .before .before .loop .inv .1)
 
--- src/lib.rt:267:5
 returns : tie.Need-returns Inv-loop μ-loop
 unfolding jumpOf walkWords
 returns c = ap (λ (w : Walk). w .sum) (sym (ap (λ (t : List ℕ). walkWords t (c .before .before .loop .walk)) (drop-of-length-le _ (c .before .loop-test .left))) ∙ c .before .before .loop .inv .1)

@@ -1,21 +1,14 @@
-use mathlib.Core.Path.{ap}
 use Rattle.stream.specs.Calls.{drawnOf, upperOf}
 use native.Mathlib.Omega.{arith}
 use Rattle.stream.proofs.MonteCarloRng.next_u32.Statement.{statement}
 use Rattle.stream.proofs.MonteCarloRng.next_u32.Tie as tie
-use Rattle.stream.proofs.MonteCarloRng.next_u32.Reads as reads
-use Rattle.stream.proofs.MonteCarloRng.next_u32.Lts as lts
-use Rattle.stream.proofs.MonteCarloRng.next_u64.Reads as next-u64-reads
 
--- src/lib.rt:199:13
 next-u64-requires : tie.Need-next-u64-requires
 next-u64-requires c κs = tt
 
--- src/lib.rt:202:20
 cast-t5 : tie.Need-cast-t5
 cast-t5 c = omega arith
 
--- src/lib.rt:196:5
 returns : tie.Need-returns
 unfolding upperOf drawnOf
 returns c = rw (c .before .before .next-u64 .ensures)

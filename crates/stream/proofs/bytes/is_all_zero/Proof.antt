@@ -8,8 +8,6 @@ use Rattle.stream.specs.Bytes.{allZero}
 use Rattle.stream.proofs.Fills.{zero-on}
 use Rattle.stream.proofs.bytes.is_all_zero.Statement.{statement}
 use Rattle.stream.proofs.bytes.is_all_zero.Tie as tie
-use Rattle.stream.proofs.bytes.is_all_zero.Reads as reads
-use Rattle.stream.proofs.bytes.is_all_zero.Lts as lts
 
 abbrev Inv-loop : tie.InvT-loop
 Inv-loop bytes i₀ i = (i ≤ length bytes) × (allZero bytes ≡ allZero (drop i bytes))
@@ -17,31 +15,24 @@ Inv-loop bytes i₀ i = (i ≤ length bytes) × (allZero bytes ≡ allZero (drop
 abbrev μ-loop : tie.MeasureT-loop
 μ-loop bytes i₀ i = length bytes - i
 
--- src/bytes.rt:13:5
 loop-holds : tie.Need-loop-holds Inv-loop μ-loop
 loop-holds c = (omega arith, refl)
 
--- src/bytes.rt:14:12
 shared-slice-read-if1 : tie.Need-shared-slice-read-if1 Inv-loop μ-loop
 shared-slice-read-if1 c = omega arith
 
--- src/bytes.rt:15:13
 returns : tie.Need-returns Inv-loop μ-loop
 returns c = sym (c .before .before .before .loop .inv .1 ∙ zero-on _ _ (c .before .before .loop-test .taken) ∙ ap (λ (b : Bool). b && allZero (drop (c .before .before .before .loop .i + 1) (c .before .before .before .before .args .bytes .now))) (ne-eqb _ _ (c .if1 .taken)))
 
--- src/bytes.rt:17:9
 add-i : tie.Need-add-i Inv-loop μ-loop
 add-i c = omega arith
 
--- src/bytes.rt:13:5
 loop-less : tie.Need-loop-less Inv-loop μ-loop
 loop-less c = omega arith
 
--- src/bytes.rt:13:5
 loop-again : tie.Need-loop-again Inv-loop μ-loop
 loop-again c = (omega arith, c .before .before .before .loop .inv .1 ∙ zero-on _ _ (c .before .before .loop-test .taken) ∙ ap (λ (b : Bool). b && allZero (drop (c .before .before .before .loop .i + 1) (c .before .before .before .before .args .bytes .now))) (eq-eqb _ _ (c .if1 .left)))
 
--- src/bytes.rt:9:1
 returns-2 : tie.Need-returns-2 Inv-loop μ-loop
 unfolding allZero
 returns-2 c = sym (c .before .loop .inv .1 ∙ ap allZero (drop-of-length-le _ (c .loop-test .left)))

@@ -1,7 +1,6 @@
 -- `put_word` stores the word's bytes one by one, until none is left or the room ends.
 use native.Mathlib.Omega.{arith}
 use mathlib.Core.Path.{_≡_, refl, sym, _∙_}
-use mathlib.Core.Bool.{true}
 use Prim.Native.Nat.{_<_}
 use lib.Dec.{ltb}
 use lib.ListN.{length, length-set}

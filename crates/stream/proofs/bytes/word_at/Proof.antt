@@ -1,8 +1,8 @@
 -- `word_at`: i bytes are left below those that `word` is made of.
 use native.Mathlib.Omega.{arith}
-use mathlib.Core.Path.{_≡_, refl, sym, ap, _∙_}
-use Prim.Native.Nat.{_+_, _-_, _*_, _^_, _≤_, _<_}
-use lib.ListN.{length, drop, getD}
+use mathlib.Core.Path.{_≡_, refl, ap, _∙_}
+use Prim.Native.Nat.{_+_, _-_, _^_, _≤_, _<_}
+use lib.ListN.{drop}
 use lib.Seq.{getD-drop}
 use Rattle.stream.proofs.Uppers.{upper, upper-next, upper-all, upper-room}
 use Rattle.stream.proofs.bytes.word_at.Statement.{statement}

@@ -1,6 +1,5 @@
 -- The product from halves is the product modulo 2^64 (`product-of-halves`), and no product of two halves wraps.
-use native.Mathlib.Omega.{arith}
-use mathlib.Core.Path.{_≡_, ap, _∙_}
+use mathlib.Core.Path.{ap, _∙_}
 use Prim.Native.Nat.{ℕ, _+_, _*_, _%_, _^_}
 use native.Mathlib.Nat.{mod-lt}
 use lib.Pow.{pow-pos, shr-lt}

@@ -1,7 +1,6 @@
 -- The cycle meets its contracts: a child by its link, children as the loop's finding with what is left, a grid by its kind; levels fall.
 use Rattle.updates.proofs.Own.{own-fits, grid-updated}
-use mathlib.Core.Path.{_≡_, refl, sym, ap, _∙_}
-use mathlib.Core.Bool.{false}
+use mathlib.Core.Path.{_≡_, refl, sym, _∙_}
 use Prim.Native.Nat.{ℕ, _+_, _-_, _*_, _≤_}
 use native.Mathlib.Omega.{arith}
 use lib.ListN.{length, getD}
@@ -12,7 +11,6 @@ use Rattle.lent.specs.Adapted.{followed, updatedIn}
 use Rattle.lent.proofs.Laid.{laid-axes, laid-bins, laid-head}
 use Rattle.lent.proofs.Founds.{laid-kept, bins-kept}
 use Rattle.lent.proofs.Adapts.{none-turned, some-turned, turned-next, turned-done, grid-updated-axes}
-use borrow.Author.Needs.{needs}
 use Prim.Native.Nat.{ℕ, _<_}
 use borrow.Fn.Kinds.{In}
 use borrow.Fn.PlainCycle.{Measures, is, falls, and}

@@ -4,12 +4,6 @@ use Rattle.updates.proofs.Own.{own-idle, own-adapted}
 use borrow.Author.Needs.{needs}
 use Rattle.updates.proofs.adapting.adapt_bins.Statement.{statement}
 use Rattle.updates.proofs.adapting.adapt_bins.Tie as tie
-use Rattle.updates.proofs.adapting.adapt_bins.Reads as reads
-use Rattle.updates.proofs.adapting.adapt_bins.Lts as lts
-use Rattle.updates.proofs.adapting.adapt_chances.Reads as adapt-chances-reads
-use Rattle.updates.proofs.adapting.are_idle.Reads as are-idle-reads
-use Rattle.updates.proofs.adapting.either.Reads as either-reads
-use Rattle.updates.proofs.adapting.update_account.Reads as update-account-reads
 
 are-idle-requires : tie.Need-are-idle-requires
 are-idle-requires c κs = search needs

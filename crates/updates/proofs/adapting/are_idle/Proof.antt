@@ -9,10 +9,6 @@ use Rattle.updates.specs.Own.{binOwn, binsIdle}
 use Rattle.updates.proofs.Own.{idle-next, idle-done}
 use Rattle.updates.proofs.adapting.are_idle.Statement.{statement}
 use Rattle.updates.proofs.adapting.are_idle.Tie as tie
-use Rattle.updates.proofs.adapting.are_idle.Reads as reads
-use Rattle.updates.proofs.adapting.are_idle.Lts as lts
-use Rattle.ground.proofs.accounts.load.Reads as load-reads
-use Rattle.updates.proofs.adapting.is_idle.Reads as is-idle-reads
 
 abbrev Inv-loop : tie.InvT-loop
 Inv-loop reals counts b n r c all₀ i₀ all i = (i ≤ n) × ((all && binsIdle b (memory reals counts) i (n - i)) ≡ binsIdle b (memory reals counts) 0 n)

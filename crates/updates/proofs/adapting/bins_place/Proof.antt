@@ -3,9 +3,6 @@ use Rattle.updates.specs.Own.{binsPlace}
 use borrow.Author.Needs.{needs}
 use Rattle.updates.proofs.adapting.bins_place.Statement.{statement}
 use Rattle.updates.proofs.adapting.bins_place.Tie as tie
-use Rattle.updates.proofs.adapting.bins_place.Reads as reads
-use Rattle.updates.proofs.adapting.bins_place.Lts as lts
-use Rattle.answers.proofs.double.Reads as double-reads
 
 add-t3 : tie.Need-add-t3
 add-t3 c = search needs

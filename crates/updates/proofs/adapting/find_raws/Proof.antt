@@ -10,10 +10,6 @@ use Rattle.updates.specs.Own.{binOwn, binsRaws}
 use Rattle.updates.proofs.Own.{raws-next, raws-done}
 use Rattle.updates.proofs.adapting.find_raws.Statement.{statement}
 use Rattle.updates.proofs.adapting.find_raws.Tie as tie
-use Rattle.updates.proofs.adapting.find_raws.Reads as reads
-use Rattle.updates.proofs.adapting.find_raws.Lts as lts
-use Rattle.ground.proofs.accounts.load.Reads as load-reads
-use Rattle.updates.proofs.adapting.raw_of.Reads as raw-of-reads
 
 abbrev Inv-loop : tie.InvT-loop
 Inv-loop reals counts b raws₀ n r c i₀ raws i = (i ≤ n) × (length raws ≡ n) × (take i raws ++ binsRaws b (memory reals counts) i (n - i) ≡ binsRaws b (memory reals counts) 0 n)

@@ -1,16 +1,11 @@
-use mathlib.Core.Path.{refl}
 use Rattle.model.specs.Update.{idle}
 use Rattle.updates.proofs.adapting.is_idle.Statement.{statement}
 use Rattle.updates.proofs.adapting.is_idle.Tie as tie
-use Rattle.updates.proofs.adapting.is_idle.Reads as reads
-use Rattle.updates.proofs.adapting.is_idle.Lts as lts
 
--- src/adapting.rt:120:9
 returns : tie.Need-returns
 unfolding idle
 returns c = rw (c .before .if1 .taken)
 
--- src/adapting.rt:116:1
 returns-2 : tie.Need-returns-2
 unfolding idle
 returns-2 c = rw (c .before .before .if1 .left)

@@ -4,11 +4,6 @@ use Rattle.updates.proofs.Own.{chances-laid}
 use borrow.Author.Needs.{needs}
 use Rattle.updates.proofs.adapting.lay_chances.Statement.{statement}
 use Rattle.updates.proofs.adapting.lay_chances.Tie as tie
-use Rattle.updates.proofs.adapting.lay_chances.Reads as reads
-use Rattle.updates.proofs.adapting.lay_chances.Lts as lts
-use Rattle.recut.proofs.adapt.Reads as adapt-reads
-use Rattle.updates.proofs.adapting.find_raws.Reads as find-raws-reads
-use Rattle.updates.proofs.parts.put_reals.Reads as put-reals-reads
 
 find-raws-requires : tie.Need-find-raws-requires
 find-raws-requires c κs = search needs

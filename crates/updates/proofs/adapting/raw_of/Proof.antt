@@ -3,39 +3,27 @@ use borrow.Author.Tests.{lt-ltb, le-ltb}
 use borrow.Author.Needs.{needs}
 use Rattle.updates.proofs.adapting.raw_of.Statement.{statement}
 use Rattle.updates.proofs.adapting.raw_of.Tie as tie
-use Rattle.updates.proofs.adapting.raw_of.Reads as reads
-use Rattle.updates.proofs.adapting.raw_of.Lts as lts
-use Rattle.plain.proofs.count.Reads as count-reads
-use Rattle.plain.proofs.norm.Reads as norm-reads
-use Rattle.root.proofs.sqrt.Reads as sqrt-reads
 
--- src/adapting.rt:148:9
 norm-requires : tie.Need-norm-requires
 norm-requires c κs = search needs
 
--- src/adapting.rt:148:9
 returns : tie.Need-returns
 unfolding rawOf
 returns c = rw (c .norm .ensures, c .before .if1 .taken)
 
--- src/adapting.rt:151:9
 returns-2 : tie.Need-returns-2
 unfolding rawOf
 returns-2 c = rw (c .before .before .if1 .left, lt-ltb _ _ (c .if2 .taken))
 
--- src/adapting.rt:153:36
 sub-count : tie.Need-sub-count
 sub-count c = search needs
 
--- src/adapting.rt:153:24
 count-requires : tie.Need-count-requires
 count-requires c κs = search needs
 
--- src/adapting.rt:153:13
 sqrt-requires : tie.Need-sqrt-requires
 sqrt-requires c κs = search needs
 
--- src/adapting.rt:144:1
 returns-3 : tie.Need-returns-3
 unfolding rawOf
 returns-3 c = rw (c .before .before .before .before .before .before .if1 .left, le-ltb _ _ (c .before .before .before .before .if2 .left), c .before .sqrt .ensures, c .before .before .count .ensures)

@@ -3,46 +3,34 @@ use Rattle.lent.specs.Adapted.{ruleAt}
 use borrow.Author.Needs.{needs}
 use Rattle.updates.proofs.adapting.rule_at.Statement.{statement}
 use Rattle.updates.proofs.adapting.rule_at.Tie as tie
-use Rattle.updates.proofs.adapting.rule_at.Reads as reads
-use Rattle.updates.proofs.adapting.rule_at.Lts as lts
 
--- src/adapting.rt:57:21
 add-t3 : tie.Need-add-t3
 add-t3 c = search needs
 
--- src/adapting.rt:57:15
 mul-t4 : tie.Need-mul-t4
 mul-t4 c = search needs
 
--- src/adapting.rt:57:15
 shared-slice-read-t6 : tie.Need-shared-slice-read-t6
 shared-slice-read-t6 c = search needs
 
--- src/adapting.rt:58:22
 add-t8 : tie.Need-add-t8
 add-t8 c = search needs
 
--- src/adapting.rt:58:16
 mul-t9 : tie.Need-mul-t9
 mul-t9 c = search needs
 
--- src/adapting.rt:58:16
 shared-slice-read-t11 : tie.Need-shared-slice-read-t11
 shared-slice-read-t11 c = search needs
 
--- src/adapting.rt:59:25
 add-t12 : tie.Need-add-t12
 add-t12 c = search needs
 
--- src/adapting.rt:59:19
 mul-t13 : tie.Need-mul-t13
 mul-t13 c = search needs
 
--- src/adapting.rt:59:19
 shared-slice-read-t15 : tie.Need-shared-slice-read-t15
 shared-slice-read-t15 c = search needs
 
--- src/adapting.rt:52:1
 returns : tie.Need-returns
 unfolding ruleAt
 returns c = refl

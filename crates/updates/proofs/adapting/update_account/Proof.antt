@@ -1,56 +1,39 @@
-use mathlib.Core.Path.{_≡_, sym}
 use Rattle.lent.specs.Memory.{memory}
 use Rattle.lent.proofs.Adapts.{account-stepped, account-refused}
 use borrow.Author.Needs.{needs}
 use Rattle.updates.proofs.adapting.update_account.Statement.{statement}
 use Rattle.updates.proofs.adapting.update_account.Tie as tie
-use Rattle.updates.proofs.adapting.update_account.Reads as reads
-use Rattle.updates.proofs.adapting.update_account.Lts as lts
-use Rattle.accumulator.proofs.StatisticsAccumulator.update_iter.Reads as update-iter-reads
-use Rattle.ground.proofs.accounts.load.Reads as load-reads
-use Rattle.ground.proofs.accounts.store.Reads as store-reads
 
--- src/adapting.rt:36:11
 load-requires : tie.Need-load-requires
 load-requires c κs = tt
 
--- src/adapting.rt:36:11
 update-iter-requires : tie.Need-update-iter-requires
 update-iter-requires c κs = search needs
 
--- src/adapting.rt:37:28
 enum-known-a : tie.Need-enum-known-a
 enum-known-a c = search needs
 
--- src/adapting.rt:38:13
 store-requires : tie.Need-store-requires
 store-requires c κs = tt
 
--- src/adapting.rt:44:32
 enum-told : tie.Need-enum-told
 enum-told c = search needs
 
--- src/adapting.rt:32:1
 same-length : tie.Need-same-length
 same-length c = search needs
 
--- src/adapting.rt:32:1
 same-length-2 : tie.Need-same-length-2
 same-length-2 c = search needs
 
--- src/adapting.rt:32:1
 returns : tie.Need-returns
 returns c = account-stepped (c .before .before .before .before .before .before .before .before .before .before .before .before .before .before .before .before .args .r) (c .before .before .before .before .before .before .before .before .before .before .before .before .before .before .before .before .args .c) (memory (c .before .before .before .before .before .before .before .before .before .before .before .before .before .before .before .before .args .reals .now) (c .before .before .before .before .before .before .before .before .before .before .before .before .before .before .before .before .args .counts .now)) (c .before .before .before .before .before .before .before .before .before .before .update-iter .result) (c .before .before .before .before .before .before .before .before .before .before .before .load .result) (c .before .before .before .before .before .before .before .before .before .before .before .load .ensures) (c .before .before .before .before .before .before .before .before .before .before .update-iter .ensures) _ _ _ (c .before .before .before .before .before .before .before .before .a .given .1) (c .before .before .before .before .store .ensures)
 
--- src/adapting.rt:32:1
 same-length-3 : tie.Need-same-length-3
 same-length-3 c = search needs
 
--- src/adapting.rt:32:1
 same-length-4 : tie.Need-same-length-4
 same-length-4 c = search needs
 
--- src/adapting.rt:32:1
 returns-2 : tie.Need-returns-2
 returns-2 c = account-refused (c .before .before .before .before .before .before .before .before .args .r) (c .before .before .before .before .before .before .before .before .args .c) (memory (c .before .before .before .before .before .before .before .before .args .reals .now) (c .before .before .before .before .before .before .before .before .args .counts .now)) (c .before .before .update-iter .result) (c .before .before .before .load .result) (c .before .before .before .load .ensures) (c .before .before .update-iter .ensures) _ (c .enum-told .given .1)
 

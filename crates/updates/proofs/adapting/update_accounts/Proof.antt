@@ -10,9 +10,6 @@ use Rattle.updates.specs.Own.{binsUpdated}
 use Rattle.updates.proofs.Own.{accounts-next, accounts-done}
 use Rattle.updates.proofs.adapting.update_accounts.Statement.{statement}
 use Rattle.updates.proofs.adapting.update_accounts.Tie as tie
-use Rattle.updates.proofs.adapting.update_accounts.Reads as reads
-use Rattle.updates.proofs.adapting.update_accounts.Lts as lts
-use Rattle.updates.proofs.adapting.update_account.Reads as update-account-reads
 
 abbrev Inv-loop : tie.InvT-loop
 Inv-loop reals₀ counts₀ n r c eight₀ nine₀ i₀ reals counts eight nine i = (i ≤ n) × (length reals ≡ length reals₀) × (length counts ≡ length counts₀) × (followed (finding eight nine (memory reals counts)) (binsUpdated r c i (n - i)) ≡ binsUpdated r c 0 n (memory reals₀ counts₀))

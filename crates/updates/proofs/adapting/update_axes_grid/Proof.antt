@@ -1,18 +1,12 @@
 -- `adapting::update_axes_grid` meets its contract: what its run says is what the table says, and the list of values stands behind its head.
-use mathlib.Core.Path.{_≡_, _∙_}
+use mathlib.Core.Path.{_∙_}
 use lib.ListN.{length}
 use Rattle.lent.specs.Memory.{memory}
-use Rattle.lent.specs.Tree.{axesPlace}
 use Rattle.lent.proofs.Places.{placed}
 use Rattle.updates.proofs.Own.{axes-fit, axes-told}
 use borrow.Author.Needs.{needs}
 use Rattle.updates.proofs.adapting.update_axes_grid.Statement.{statement}
 use Rattle.updates.proofs.adapting.update_axes_grid.Tie as tie
-use Rattle.updates.proofs.adapting.update_axes_grid.Reads as reads
-use Rattle.updates.proofs.adapting.update_axes_grid.Lts as lts
-use Rattle.lent.proofs.layout.axes_place.Reads as axes-place-reads
-use Rattle.updates.proofs.adapting.rule_at.Reads as rule-at-reads
-use Rattle.updates.proofs.adapting.update_standing.Reads as update-standing-reads
 
 axes-place-requires : tie.Need-axes-place-requires
 axes-place-requires c κs = search needs

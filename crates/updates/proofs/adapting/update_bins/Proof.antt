@@ -5,12 +5,6 @@ use Rattle.updates.proofs.Own.{own-told, fits-still}
 use borrow.Author.Needs.{needs}
 use Rattle.updates.proofs.adapting.update_bins.Statement.{statement}
 use Rattle.updates.proofs.adapting.update_bins.Tie as tie
-use Rattle.updates.proofs.adapting.update_bins.Reads as reads
-use Rattle.updates.proofs.adapting.update_bins.Lts as lts
-use Rattle.updates.proofs.adapting.adapt_bins.Reads as adapt-bins-reads
-use Rattle.updates.proofs.adapting.bins_place.Reads as bins-place-reads
-use Rattle.updates.proofs.adapting.either.Reads as either-reads
-use Rattle.updates.proofs.adapting.update_accounts.Reads as update-accounts-reads
 
 bins-place-requires : tie.Need-bins-place-requires
 bins-place-requires c κs = search needs

@@ -4,12 +4,6 @@ use Rattle.updates.proofs.Own.{axes-unfit, axes-ready, axes-done}
 use borrow.Author.Needs.{needs}
 use Rattle.updates.proofs.adapting.update_standing.Statement.{statement}
 use Rattle.updates.proofs.adapting.update_standing.Tie as tie
-use Rattle.updates.proofs.adapting.update_standing.Reads as reads
-use Rattle.updates.proofs.adapting.update_standing.Lts as lts
-use Rattle.judges.proofs.judging.axes_fit.Reads as axes-fit-reads
-use Rattle.updates.proofs.adapting.either.Reads as either-reads
-use Rattle.updates.proofs.adapting.update_account.Reads as update-account-reads
-use Rattle.updates.proofs.renewal.update_axes.Reads as update-axes-reads
 
 axes-fit-requires : tie.Need-axes-fit-requires
 axes-fit-requires c κs = search needs

@@ -4,9 +4,6 @@ use Rattle.lent.proofs.Runs.{sets-all}
 use borrow.Author.Needs.{needs}
 use Rattle.updates.proofs.parts.copy_counts.Statement.{statement}
 use Rattle.updates.proofs.parts.copy_counts.Tie as tie
-use Rattle.updates.proofs.parts.copy_counts.Reads as reads
-use Rattle.updates.proofs.parts.copy_counts.Lts as lts
-use Rattle.ground.proofs.parts.set_counts.Reads as set-counts-reads
 
 set-counts-requires : tie.Need-set-counts-requires
 set-counts-requires c κs = search needs

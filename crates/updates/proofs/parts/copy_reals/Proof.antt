@@ -4,9 +4,6 @@ use Rattle.lent.proofs.Runs.{sets-all}
 use borrow.Author.Needs.{needs}
 use Rattle.updates.proofs.parts.copy_reals.Statement.{statement}
 use Rattle.updates.proofs.parts.copy_reals.Tie as tie
-use Rattle.updates.proofs.parts.copy_reals.Reads as reads
-use Rattle.updates.proofs.parts.copy_reals.Lts as lts
-use Rattle.ground.proofs.parts.set_reals.Reads as set-reals-reads
 
 set-reals-requires : tie.Need-set-reals-requires
 set-reals-requires c κs = search needs

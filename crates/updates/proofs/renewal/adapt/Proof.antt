@@ -11,13 +11,6 @@ use Rattle.lent.proofs.Renewals.{adapt-8, adapt-kept, adapt-reset, adapt-on}
 use borrow.Author.Needs.{needs}
 use Rattle.updates.proofs.renewal.adapt.Statement.{statement}
 use Rattle.updates.proofs.renewal.adapt.Tie as tie
-use Rattle.updates.proofs.renewal.adapt.Reads as reads
-use Rattle.updates.proofs.renewal.adapt.Lts as lts
-use Rattle.ground.proofs.laying.empty_axis.Reads as empty-axis-reads
-use Rattle.recut.proofs.reaches.Reads as reaches-reads
-use Rattle.updates.proofs.renewal.keep.Reads as keep-reads
-use Rattle.updates.proofs.renewal.may_be_kept.Reads as may-be-kept-reads
-use Rattle.updates.proofs.renewal.recut_axis.Reads as recut-axis-reads
 
 may-be-kept-requires : tie.Need-may-be-kept-requires
 may-be-kept-requires c κs = search needs

@@ -12,9 +12,6 @@ use Rattle.lent.proofs.Renewals.{recut-8, recut-on}
 use borrow.Author.Needs.{needs}
 use Rattle.updates.proofs.renewal.recut_axis.Statement.{statement}
 use Rattle.updates.proofs.renewal.recut_axis.Tie as tie
-use Rattle.updates.proofs.renewal.recut_axis.Reads as reads
-use Rattle.updates.proofs.renewal.recut_axis.Lts as lts
-use Rattle.updates.proofs.renewal.recut_into.Reads as recut-into-reads
 
 add-recuts : tie.Need-add-recuts
 add-recuts c = search needs

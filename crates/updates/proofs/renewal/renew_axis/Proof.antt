@@ -7,12 +7,6 @@ use Rattle.lent.proofs.Renewals.{trained-room, updated-on}
 use borrow.Author.Needs.{needs}
 use Rattle.updates.proofs.renewal.renew_axis.Statement.{statement}
 use Rattle.updates.proofs.renewal.renew_axis.Tie as tie
-use Rattle.updates.proofs.renewal.renew_axis.Reads as reads
-use Rattle.updates.proofs.renewal.renew_axis.Lts as lts
-use Rattle.updates.proofs.renewal.adapt.Reads as adapt-reads
-use Rattle.updates.proofs.renewal.gather_counters.Reads as gather-counters-reads
-use Rattle.updates.proofs.renewal.gather_importances.Reads as gather-importances-reads
-use Rattle.updates.proofs.renewal.trained_from.Reads as trained-from-reads
 
 trained-from-requires : tie.Need-trained-from-requires
 trained-from-requires c κs = search needs

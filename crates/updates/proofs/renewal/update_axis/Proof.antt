@@ -11,10 +11,6 @@ use Rattle.updates.proofs.Next.{next-bins}
 use borrow.Author.Needs.{needs}
 use Rattle.updates.proofs.renewal.update_axis.Statement.{statement}
 use Rattle.updates.proofs.renewal.update_axis.Tie as tie
-use Rattle.updates.proofs.renewal.update_axis.Reads as reads
-use Rattle.updates.proofs.renewal.update_axis.Lts as lts
-use Rattle.updates.proofs.renewal.bins_after.Reads as bins-after-reads
-use Rattle.updates.proofs.renewal.renew_axis.Reads as renew-axis-reads
 
 mul-n : tie.Need-mul-n
 mul-n c = search needs

@@ -9,9 +9,6 @@ use Rattle.lent.specs.Renewed.{updateAllAt}
 use Rattle.lent.proofs.Changes.{Going, going-first, going-done, going-held, going-here, going-next}
 use Rattle.updates.proofs.renewal.update_each.Statement.{statement}
 use Rattle.updates.proofs.renewal.update_each.Tie as tie
-use Rattle.updates.proofs.renewal.update_each.Reads as reads
-use Rattle.updates.proofs.renewal.update_each.Lts as lts
-use Rattle.updates.proofs.renewal.update_axis.Reads as update-axis-reads
 
 abbrev Inv-loop : tie.InvT-loop
 Inv-loop reals₀ counts₀ rule values rate importances₀ counters₀ most axes reals-each counts-each eight₀ nine₀ r₀ c₀ done₀ reals counts importances counters eight nine r c done = Going rule values rate most reals₀ counts₀ axes (updateAllAt rule values rate most axes r₀ c₀ (memory reals₀ counts₀)) reals counts eight nine r c done

@@ -1,14 +1,9 @@
 -- `updating::refusal` meets its contract: each return by the law of its case.
-use lib.ListN.{length}
 use Rattle.lent.specs.State.{faultTo}
 use Rattle.updates.proofs.Refused.{fault-refuses, rate-refuses, none-refuses}
 use borrow.Author.Needs.{needs}
 use Rattle.updates.proofs.updating.refusal.Statement.{statement}
 use Rattle.updates.proofs.updating.refusal.Tie as tie
-use Rattle.updates.proofs.updating.refusal.Reads as reads
-use Rattle.updates.proofs.updating.refusal.Lts as lts
-use Rattle.judges.proofs.state.fault_to.Reads as fault-to-reads
-use Rattle.updates.proofs.updating.is_rate.Reads as is-rate-reads
 
 fault-to-requires : tie.Need-fault-to-requires
 fault-to-requires c κs = search needs

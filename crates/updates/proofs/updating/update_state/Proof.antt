@@ -1,5 +1,5 @@
 -- `updating::update_state` meets its contract: what is not refused finds room, and the update of the front parts is the state's.
-use mathlib.Core.Path.{refl, sym}
+use mathlib.Core.Path.{refl}
 use native.Mathlib.Omega.{arith}
 use lib.ListN.{length}
 use borrow.Author.Needs.{needs}
@@ -10,10 +10,6 @@ use Rattle.lent.proofs.Spares.{update-made, front-ready}
 use Rattle.updates.proofs.Refused.{Allowed, allowed-by, told-refusal, update-refused}
 use Rattle.updates.proofs.updating.update_state.Statement.{statement}
 use Rattle.updates.proofs.updating.update_state.Tie as tie
-use Rattle.updates.proofs.updating.update_state.Reads as reads
-use Rattle.updates.proofs.updating.update_state.Lts as lts
-use Rattle.updates.proofs.updating.refusal.Reads as refusal-reads
-use Rattle.updates.proofs.updating.update_over.Reads as update-over-reads
 
 refusal-requires : tie.Need-refusal-requires
 refusal-requires c κs = tt
