@@ -1,3 +1,4 @@
+-- `is_well_formed` decides between 8 and the record itself, as in the definition.
 use Rattle.doubles.proofs.Truth.{failed, passed}
 use Rattle.accumulator.specs.Calls.{paperChanged, keptOf}
 use Rattle.accumulator.proofs.kept.Statement.{statement}

@@ -1,3 +1,4 @@
+-- The four bounds are the definition's; what is subtracted leaves 0 to 9 or 10 to 15, so that a digit is below 16.
 use native.Mathlib.Omega.{arith}
 use borrow.Author.Tests.{lt-ltb, le-ltb}
 use Rattle.answers.specs.List.{digitOf}

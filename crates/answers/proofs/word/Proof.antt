@@ -1,3 +1,4 @@
+-- The digits read so far, followed by those left, spell the word; k digits make less than 2^(4k), so nothing overflows.
 use native.Mathlib.Omega.{arith}
 use native.Mathlib.Nat.{add-zero}
 use mathlib.Core.Path.{_≡_, sym, ap, _∙_}

@@ -1,3 +1,4 @@
+-- The definition's own quotient: the length divided by 17.
 use mathlib.Core.Path.{refl}
 use Rattle.answers.specs.List.{wordsOf}
 use Rattle.answers.proofs.words.Statement.{statement}

@@ -1,3 +1,4 @@
+-- Edges that are not well formed are refused with 12; on the others `point_of` gives the definition's point.
 use Rattle.doubles.proofs.Truth.{failed, passed}
 use Rattle.axis.specs.Calls.{paperDrawn, drawOf}
 use Rattle.axis.proofs.draw.Statement.{statement}

@@ -1,3 +1,4 @@
+-- The tests give 12, then 5, as in the definition; past both, the search by halves finds the rule's bin (`search-is`).
 use Rattle.doubles.proofs.Truth.{failed, passed}
 use Rattle.axis.specs.Calls.{paperProbed, probeOf}
 use Rattle.axis.proofs.Searches.{search-is}

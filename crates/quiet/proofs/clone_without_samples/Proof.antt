@@ -1,3 +1,4 @@
+-- A table that is no plan's is 12; a plan's sizes are what `copy_grid` asks for, and it has the answer.
 use mathlib.Core.Path.{sym}
 use Rattle.lent.specs.Memory.{memory}
 use Rattle.lent.specs.Calls.{cloneEnd}

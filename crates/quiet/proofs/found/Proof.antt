@@ -1,3 +1,4 @@
+-- Three tests for room, each refused with 10; past them the table that is written lays its grid within what was measured.
 use mathlib.Core.Path.{ap}
 use native.Mathlib.Omega.{arith}
 use lib.ListN.{length}

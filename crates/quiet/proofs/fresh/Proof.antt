@@ -1,3 +1,4 @@
+-- A plan that is refused is refused alike; a plan that is measured is what `found` asks for, and `found` answers.
 use Rattle.lent.specs.Memory.{memory}
 use Rattle.lent.specs.Calls.{freshEnd}
 use Rattle.plan.specs.Paper.{paperRead}

@@ -1,3 +1,4 @@
+-- A fault is the answer first; without one the root lies there, and its own record gives the estimate.
 use mathlib.Core.Path.{sym, ap, _∙_}
 use Prim.Native.Nat.{ℕ}
 use native.Mathlib.Omega.{arith}

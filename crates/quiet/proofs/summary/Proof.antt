@@ -1,3 +1,4 @@
+-- With nothing against the state the record read is the root's own, and its summary is asked; else the fault is the answer.
 use mathlib.Core.Path.{sym, ap, _∙_}
 use Prim.Native.Nat.{ℕ}
 use native.Mathlib.Omega.{arith}

@@ -1,3 +1,4 @@
+-- Highest, raise, total, divide: one call's result put into the next is `adaptedTo`, and the scan judges what came out.
 use mathlib.Core.Path.{refl}
 use Rattle.recut.specs.Chances.{adaptedTo}
 use native.Mathlib.Omega.{arith}

@@ -1,3 +1,4 @@
+-- A fault comes with nothing drawn; without one the grid lies there well formed, and the draw from its root is the model's.
 use mathlib.Core.Path.{sym, ap, ap₂, _∙_}
 use Prim.Native.Nat.{ℕ}
 use native.Mathlib.Omega.{arith}

@@ -1,3 +1,4 @@
+-- The sum that wraps is the definition's `plus`.
 use Rattle.stream.specs.Words.{plus}
 use Rattle.stream.specs.SplitMix.{advanced}
 use Rattle.stream.proofs.advance.Statement.{statement}

@@ -1,3 +1,4 @@
+-- Four exclusive ors, field by field those of `joined`.
 use mathlib.Core.Path.{refl}
 use Rattle.stream.specs.Jumps.{joined}
 use Rattle.stream.proofs.join.Statement.{statement}

@@ -1,3 +1,4 @@
+-- Shift, exclusive or and wrapping product twice, then a last shift and exclusive or, in the order of `mixOf`.
 use Rattle.stream.specs.Words.{shiftedDown}
 use Rattle.stream.specs.SplitMix.{mixOf, firstMix, secondMix}
 use Rattle.stream.proofs.mix.Statement.{statement}

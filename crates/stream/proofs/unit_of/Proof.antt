@@ -1,3 +1,4 @@
+-- A word's top 53 bits are exact as a double, and times 2^-53 they round as their quotient by 2^53 does (`scaled`).
 use native.Mathlib.Nat.{le-of-lt}
 use lib.Dec.{le→leb}
 use lib.Ieee.{inFloat}

@@ -1,3 +1,4 @@
+-- The test of the bit is the definition's: set, the state joins the sum; either way the state goes one step on.
 use borrow.Author.Tests.{eq-eqb, ne-eqb}
 use Rattle.stream.specs.Jumps.{walkBit}
 use Rattle.stream.specs.Calls.{drawnOf}

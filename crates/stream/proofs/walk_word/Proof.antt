@@ -1,3 +1,4 @@
+-- The walk over the bits from `bit` on, from where it stands, stays the walk over all 64.
 use Rattle.stream.proofs.Walks.{walk-on}
 use borrow.Author.Needs.{needs}
 use native.Mathlib.Omega.{arith}

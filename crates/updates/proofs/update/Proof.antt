@@ -1,3 +1,4 @@
+-- A table that is no plan's is 12 and changes nothing; a plan's sizes are what `update_state` asks for, and it answers.
 use mathlib.Core.Path.{sym}
 use lib.ListN.{length}
 use Rattle.lent.specs.Memory.{memory}

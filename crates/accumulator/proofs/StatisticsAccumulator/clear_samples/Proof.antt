@@ -1,3 +1,4 @@
+-- Not well formed is refused with 12, the definition's first case; else the record is what `cleared` gives.
 use Rattle.doubles.proofs.Truth.{failed, passed}
 use Rattle.accumulator.specs.Calls.{paperChanged, clearOf}
 use Rattle.accumulator.proofs.StatisticsAccumulator.clear_samples.Statement.{statement}

@@ -1,3 +1,4 @@
+-- Three tests pick the definition's case, 12, 12 or 8; well-formed records have the bounded counts that `merged` asks for.
 use Rattle.doubles.proofs.Truth.{failed, passed}
 use Rattle.accumulator.proofs.Counts.{counts-of}
 use Rattle.accumulator.specs.Calls.{paperMerged, mergeClearingOf}

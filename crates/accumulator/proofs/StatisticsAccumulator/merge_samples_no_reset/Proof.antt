@@ -1,3 +1,4 @@
+-- Both records are tested before they are merged, so their counts are bounded; then `kept` makes the definition's last choice.
 use Rattle.doubles.proofs.Truth.{failed, passed}
 use Rattle.accumulator.proofs.Counts.{counts-of}
 use Rattle.accumulator.specs.Calls.{paperChanged, mergeOf}

@@ -1,3 +1,4 @@
+-- Every field is the zero that `fresh` has there.
 use mathlib.Core.Path.{refl}
 use Rattle.accumulator.specs.Record.{fresh}
 use Rattle.accumulator.proofs.StatisticsAccumulator.new.Statement.{statement}

@@ -1,3 +1,4 @@
+-- A record that fails `is_well_formed` gets 12; for any other `copied` has the definition's result.
 use Rattle.doubles.proofs.Truth.{failed, passed}
 use Rattle.accumulator.specs.Calls.{paperChanged, copyOf}
 use Rattle.accumulator.proofs.StatisticsAccumulator.shallow_copy.Statement.{statement}

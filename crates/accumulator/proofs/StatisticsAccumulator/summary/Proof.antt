@@ -1,3 +1,4 @@
+-- Behind the test for 12 each field is the record's own, and flat is the definition's test on the error.
 use Rattle.doubles.proofs.Truth.{failed, passed}
 use Rattle.accumulator.specs.Calls.{paperSummed, summaryOf, summarizeOf}
 use Rattle.accumulator.proofs.StatisticsAccumulator.summary.Statement.{statement}

@@ -1,3 +1,4 @@
+-- Five comparisons with 2^53, joined in the order of the definition.
 use mathlib.Core.Path.{refl}
 use Rattle.accumulator.specs.Record.{bounded, boundedCounts}
 use Rattle.accumulator.proofs.judge.has_bounded_counts.Statement.{statement}

@@ -1,3 +1,4 @@
+-- The sums' answer and the counts' answer, joined as the definition joins them.
 use Rattle.accumulator.specs.Record.{wellFormed}
 use Rattle.accumulator.proofs.judge.is_well_formed.Statement.{statement}
 use Rattle.accumulator.proofs.judge.is_well_formed.Tie as tie

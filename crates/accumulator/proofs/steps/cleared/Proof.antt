@@ -1,3 +1,4 @@
+-- The four fields that become 0 are the waiting ones that `clearedOf` sets; the others stay.
 use mathlib.Core.Path.{refl}
 use Rattle.accumulator.specs.Record.{withWaiting}
 use Rattle.accumulator.specs.Steps.{clearedOf}

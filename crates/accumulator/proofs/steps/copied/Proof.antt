@@ -1,3 +1,4 @@
+-- Only the two sample numbers of the extremes become 0, as in `copiedOf`.
 use mathlib.Core.Path.{refl}
 use Rattle.accumulator.specs.Record.{withExtremes}
 use Rattle.accumulator.specs.Steps.{copiedOf}

@@ -1,3 +1,4 @@
+-- Counts up to 2^53 add up within a word, and each extreme is picked by the definition's comparison.
 use native.Mathlib.Omega.{arith}
 use Rattle.accumulator.proofs.Counts.{within}
 use Rattle.accumulator.specs.Record.{withWaiting, withExtremes}

@@ -1,3 +1,4 @@
+-- Fewer than two waiting: only the iterations go up, which their bound allows; else `processed` has the definition's record.
 use native.Mathlib.Omega.{arith}
 use Rattle.accumulator.proofs.Counts.{within}
 use borrow.Author.Tests.{lt-leb, le-leb}

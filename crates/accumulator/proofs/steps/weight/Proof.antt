@@ -1,3 +1,4 @@
+-- A variance of zero has the fixed number, any other its inverse, which is what `inv` gives.
 use Rattle.accumulator.specs.Update.{weightOf}
 use Rattle.accumulator.proofs.steps.weight.Statement.{statement}
 use Rattle.accumulator.proofs.steps.weight.Tie as tie

@@ -1,3 +1,4 @@
+-- Comparing with zero decides between 1 and 0, the definition's two cases.
 use Rattle.accumulator.specs.Steps.{zeroCount}
 use Rattle.accumulator.proofs.steps.zero_count.Statement.{statement}
 use Rattle.accumulator.proofs.steps.zero_count.Tie as tie

@@ -1,3 +1,4 @@
+-- The search from `base` over `size` bins stays the whole search; each halving is one step of it, and the size falls.
 use lib.Ieee.{nan, lt}
 use lib.ListN.{getD}
 use Rattle.axis.proofs.Lists.{kept-small}

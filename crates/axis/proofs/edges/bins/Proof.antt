@@ -1,3 +1,4 @@
+-- Without edges the answer is 0, at which the definition's subtraction stops too; else both take 1 from the length.
 use native.Mathlib.Omega.{arith}
 use mathlib.Core.Path.{refl}
 use Rattle.axis.specs.Edges.{binsOf}

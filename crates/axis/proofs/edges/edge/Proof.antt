@@ -1,3 +1,4 @@
+-- Past its end a list reads as the default, here NaN, and 0 / 0 is NaN.
 use lib.Ieee.{nan}
 use mathlib.Core.Path.{sym}
 use lib.ListN.{List·getD-eq-default}

@@ -1,3 +1,4 @@
+-- The edges written, with the even ones still to come, are all of them; each write makes the next, and the places left fall.
 use native.Mathlib.Omega.{arith}
 use mathlib.Core.Path.{_≡_, refl, sym, ap, ap₂, _∙_}
 use mathlib.Core.List.{_++_, append-nil}

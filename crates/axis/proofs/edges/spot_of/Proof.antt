@@ -1,3 +1,4 @@
+-- Scaled draw, bin, point and weight are the definition's formulas, with what each call gives put in.
 use Rattle.axis.specs.Edges.{weightOf}
 use Rattle.axis.specs.Calls.{pointOf, drawnBin, spotOf}
 use Rattle.axis.proofs.edges.spot_of.Statement.{statement}

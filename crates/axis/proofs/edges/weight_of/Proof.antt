@@ -1,3 +1,4 @@
+-- The number of bins as a double, times the width: what the three calls give is what the definition multiplies.
 use Rattle.axis.specs.Edges.{weightOf}
 use Rattle.axis.proofs.edges.weight_of.Statement.{statement}
 use Rattle.axis.proofs.edges.weight_of.Tie as tie

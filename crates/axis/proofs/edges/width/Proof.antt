@@ -1,3 +1,4 @@
+-- Past the last edge the definition takes NaN from a number, and a difference with NaN is NaN, as 0 / 0 is.
 use mathlib.Core.Path.{sym, ap, _∙_}
 use lib.ListN.{getD, List·getD-eq-default}
 use lib.Ieee.{nan, binary64, sub, div, ofBits}

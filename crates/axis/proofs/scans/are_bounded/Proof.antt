@@ -1,3 +1,4 @@
+-- The answer so far and that for the counts not yet read make the answer for all; the places left fall.
 use native.Mathlib.Omega.{arith}
 use mathlib.Core.Path.{_≡_, refl, sym, _∙_}
 use mathlib.Core.Bool.{_&&_}

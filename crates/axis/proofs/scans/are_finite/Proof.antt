@@ -1,3 +1,4 @@
+-- `ok`, and all finite from place k on, is the answer at every turn; past the end nothing is left.
 use native.Mathlib.Omega.{arith}
 use mathlib.Core.Path.{_≡_, refl, sym, ap, _∙_}
 use mathlib.Core.Bool.{Bool, _&&_}

@@ -1,3 +1,4 @@
+-- The definition joins two comparisons: where the first fails the answer is no, else it is the second.
 use Rattle.axis.specs.Edges.{inUnit}
 use Rattle.axis.proofs.scans.in_unit.Statement.{statement}
 use Rattle.axis.proofs.scans.in_unit.Tie as tie

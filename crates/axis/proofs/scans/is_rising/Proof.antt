@@ -1,3 +1,4 @@
+-- `ok`, and rising from edge k - 1 on, is the answer at every turn, which compares one more pair of neighbours.
 use native.Mathlib.Omega.{arith}
 use mathlib.Core.Path.{_≡_, refl, sym, _∙_}
 use mathlib.Core.Bool.{_&&_}

@@ -1,3 +1,4 @@
+-- Two edges at least, the first 0, the last 1, tested in the definition's order; then `is_rising` is all that is left of it.
 use lib.ListN.{length, getD}
 use lib.Ieee.{nan, eq}
 use Prim.Native.Nat.{_-_}

@@ -1,3 +1,4 @@
+-- The room keeps its 65 edges, and the draws that are left fall.
 use borrow.Author.Needs.{needs}
 use Prim.Native.Nat.{_-_, _≤_}
 use lib.ListN.{length}

@@ -1,3 +1,4 @@
+-- The index stays within `count`, so that it does not overflow and the probes left fall; the room stays 65 edges long.
 use borrow.Author.Needs.{needs}
 use Prim.Native.Nat.{_-_, _≤_}
 use lib.ListN.{length}

@@ -1,3 +1,4 @@
+-- The index is at most `count`, so the logarithms that are left fall.
 use borrow.Author.Needs.{needs}
 use Prim.Native.Nat.{_-_, _≤_}
 use Rattle.bench.proofs.kernels.logged.Statement.{statement}

@@ -1,3 +1,4 @@
+-- Each power takes one from what is left of `count`, which bounds the index.
 use borrow.Author.Needs.{needs}
 use Prim.Native.Nat.{_-_, _≤_}
 use Rattle.bench.proofs.kernels.raised.Statement.{statement}

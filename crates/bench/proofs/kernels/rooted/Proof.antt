@@ -1,3 +1,4 @@
+-- The roots that are left fall, and the index never passes `count`.
 use borrow.Author.Needs.{needs}
 use Prim.Native.Nat.{_-_, _≤_}
 use Rattle.bench.proofs.kernels.rooted.Statement.{statement}

@@ -1,3 +1,4 @@
+-- The index never passes the text's end; a space that is found lies before it, so the place behind it is within the text.
 use borrow.Author.Needs.{needs}
 use Prim.Native.Nat.{_-_, _≤_}
 use lib.ListN.{length}

@@ -1,3 +1,4 @@
+-- A value that takes another digit has at most 17 of them, so that it fits a word; the bytes left fall.
 use borrow.Author.Needs.{needs}
 use Prim.Native.Nat.{_-_, _≤_}
 use lib.ListN.{length}

@@ -1,3 +1,4 @@
+-- Two zeros set at r and two at c are the four cells that the definition clears (`cleared-run`).
 use mathlib.Core.Path.{ap₂, _∙_}
 use Rattle.lent.specs.Memory.{memory}
 use Rattle.lent.proofs.Runs.{cleared-run}

@@ -1,3 +1,4 @@
+-- What lies from c on is laid over seven zeros; with c past the end nothing lies there, and the zeros stay.
 use mathlib.Core.Path.{ap, _∙_}
 use mathlib.Core.List.{List}
 use Prim.Native.Nat.{ℕ}

@@ -1,3 +1,4 @@
+-- 0 / 0 is NaN, so the reals from r on are laid over fourteen NaN; past the last real there is nothing to lay.
 use mathlib.Core.Path.{ap, _∙_}
 use mathlib.Core.List.{List}
 use lib.ListN.{replicate}

@@ -1,3 +1,4 @@
+-- The two lists are the record's fields in the definition's order, and each is set as one run.
 use mathlib.Core.Path.{ap₂}
 use Rattle.lent.specs.Memory.{memory, stored, realsOf, countsOf}
 use native.Mathlib.Omega.{arith}

@@ -1,3 +1,4 @@
+-- A floor of 0, a floor of 1 and a weight of 0 are tested in the definition's order; past them its formula is left.
 use Rattle.model.specs.Draw.{flooredOf}
 use Rattle.ground.proofs.floors.floored.Statement.{statement}
 use Rattle.ground.proofs.floors.floored.Tie as tie

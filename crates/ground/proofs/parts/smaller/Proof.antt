@@ -1,3 +1,4 @@
+-- The number returned is at most the other by the comparison, and it is one of the two.
 use mathlib.Core.Logic.{inl, inr}
 use native.Mathlib.Omega.{arith}
 use Rattle.ground.proofs.parts.smaller.Statement.{statement}

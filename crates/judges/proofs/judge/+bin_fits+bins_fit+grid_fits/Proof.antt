@@ -1,3 +1,4 @@
+-- A bins grid asks one level lower, so the calls end; the bins judged so far, with those left, stay the answer for all.
 use mathlib.Core.Path.{_≡_, sym, ap, ap₂, _∙_}
 use mathlib.Core.Bool.{Bool, _&&_}
 use Prim.Native.Nat.{ℕ, _+_, _-_, _*_, _≤_}

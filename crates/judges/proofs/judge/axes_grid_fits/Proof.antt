@@ -1,3 +1,4 @@
+-- The run's head gives the place of the axes and their bin numbers, so both answers are the halves of the definition.
 use mathlib.Core.Path.{_∙_}
 use Prim.Native.Nat.{_+_}
 use native.Mathlib.Omega.{arith}

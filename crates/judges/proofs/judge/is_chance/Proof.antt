@@ -1,3 +1,4 @@
+-- Finite, which `plain::finite` tells, and above 0: the definition's two tests.
 use Rattle.model.specs.Sound.{chance}
 use borrow.Author.Needs.{needs}
 use Rattle.judges.proofs.judge.is_chance.Statement.{statement}

@@ -1,3 +1,4 @@
+-- The axes judged so far, with those from `at` and `place` on, stay the answer for all; what room is left holds the rest.
 use mathlib.Core.Path.{_≡_, sym, ap, _∙_}
 use mathlib.Core.Bool.{Bool, _&&_}
 use mathlib.Core.List.{_∷_}

@@ -1,3 +1,4 @@
+-- A bin number that is listed is from 1 to `most`, so that the axis has room for what both scans read.
 use mathlib.Core.List.{_∷_}
 use borrow.Author.Tests.{not-true, not-false}
 use lib.ListN.{getD}

@@ -1,3 +1,4 @@
+-- Found so far, or listed from value i on, stays the answer; it begins with the comparison with `bins`.
 use mathlib.Core.Path.{_≡_, refl, sym, _∙_}
 use mathlib.Core.Bool.{_||_}
 use Prim.Native.Nat.{_-_, _≤_}

@@ -1,3 +1,4 @@
+-- The table's sizes decide: of a plan `judged` has the answer, and a table that is no plan's is 12.
 use mathlib.Core.Path.{sym}
 use Rattle.lent.proofs.States.{fault-planned, sizes-planned, fault-strayed}
 use borrow.Author.Needs.{needs}

@@ -1,3 +1,4 @@
+-- Slices as long as the plan needs hold its grid (`root-laid`), so it can be judged; each test is the definition's.
 use mathlib.Core.Path.{sym, _∙_}
 use native.Mathlib.Omega.{arith}
 use borrow.Author.Tests.{lt-ltb, le-ltb, not-true, not-false}

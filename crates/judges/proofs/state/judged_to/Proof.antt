@@ -1,3 +1,4 @@
+-- Four tests for room in the definition's order; the first two put the source's grid within its slices, so it can be judged.
 use mathlib.Core.Path.{sym, _∙_}
 use native.Mathlib.Omega.{arith}
 use borrow.Author.Tests.{lt-ltb, le-ltb, not-true, not-false}

@@ -1,3 +1,4 @@
+-- Only the first table decides: 12 where it is no plan's, else what `second_fault` says with its needs known.
 use mathlib.Core.Path.{sym}
 use Rattle.lent.proofs.States.{sizes-planned, first-planned, first-strayed}
 use borrow.Author.Needs.{needs}

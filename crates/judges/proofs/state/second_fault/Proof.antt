@@ -1,3 +1,4 @@
+-- The other table's sizes decide: with both plans known `both_judged` answers, else it is 12.
 use mathlib.Core.Path.{sym}
 use Rattle.lent.proofs.States.{sizes-planned, second-planned, second-strayed}
 use borrow.Author.Needs.{needs}

@@ -1,3 +1,4 @@
+-- `holds_place` is the definition's test: failed, it is nowhere; passed, the head lies within the table and can be read.
 use mathlib.Core.Path.{sym, _∙_}
 use Rattle.doubles.proofs.Truth.{passed, failed}
 use Rattle.lent.proofs.Places.{there, not-there, fits-known}

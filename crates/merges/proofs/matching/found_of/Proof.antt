@@ -1,3 +1,4 @@
+-- For one shape the definition's first test falls away; the two that are left come in its order, 11 before 8.
 use borrow.Author.Tests.{not-true, not-false}
 use Rattle.lent.specs.Matched.{obstacle}
 use Rattle.merges.proofs.matching.found_of.Statement.{statement}

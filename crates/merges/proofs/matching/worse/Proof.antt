@@ -1,3 +1,4 @@
+-- Five comparisons in the definition's order; where all of them fail the second finding is the answer.
 use borrow.Author.Tests.{ne-eqb}
 use Rattle.lent.specs.Matched.{worseOf}
 use Rattle.merges.proofs.matching.worse.Statement.{statement}

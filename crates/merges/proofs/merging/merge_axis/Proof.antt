@@ -1,3 +1,4 @@
+-- More bins held than either room has leaves memory, as in the definition; else reals and counts are merged each on its own.
 use mathlib.Core.Path.{ap₂, _∙_}
 use native.Mathlib.Omega.{arith}
 use Rattle.lent.specs.Layout.{axisCounts}

@@ -1,3 +1,4 @@
+-- The records loaded are those that the definition reads, so the accumulator decides alike; a refusal stores nothing.
 use mathlib.Core.Path.{sym}
 use Rattle.lent.specs.Memory.{memory}
 use Rattle.lent.proofs.Unites.{record-joined, record-stays}

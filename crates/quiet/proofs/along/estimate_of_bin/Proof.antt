@@ -1,3 +1,4 @@
+-- The two sums are the places from which `binIn` reads the bin's record, so the record loaded is the definition's.
 use mathlib.Core.Path.{ap, _∙_}
 use Rattle.accumulator.specs.Calls.{liveEstimateOf}
 use Rattle.lent.specs.Tree.{binIn}

@@ -1,3 +1,4 @@
+-- Word 0 tells the kind of the root, and in either kind's head two words say where its record lies.
 use native.Mathlib.Omega.{arith}
 use lib.ListN.{length}
 use mathlib.Core.Path.{_∙_}

@@ -1,3 +1,4 @@
+-- The place read is where the axes stand; they are cleared first and the own record then, as in the definition.
 use Rattle.lent.specs.Tree.{axesPlace}
 use Rattle.lent.proofs.Places.{placed}
 use mathlib.Core.Path.{_≡_, sym, subst}

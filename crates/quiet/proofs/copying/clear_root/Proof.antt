@@ -1,3 +1,4 @@
+-- The root's kind decides; since the root is sound, its axes stand in memory as `clear_axes_grid` asks.
 use mathlib.Core.Path.{sym, ap, _∙_}
 use native.Mathlib.Omega.{arith}
 use lib.ListN.{length}

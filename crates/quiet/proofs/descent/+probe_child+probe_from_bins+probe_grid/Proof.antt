@@ -1,3 +1,4 @@
+-- Each branch is a case of the model's probe; what hangs in a sound grid is sound, and a bins grid goes one level down.
 use mathlib.Core.Path.{sym, ap, ap₂, _∙_}
 use Prim.Native.Nat.{_+_, _*_}
 use native.Mathlib.Omega.{arith}

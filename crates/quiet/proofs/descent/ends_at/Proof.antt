@@ -1,3 +1,4 @@
+-- A path with levels left does not end here; at its end having no coordinates is all that the definition asks.
 use Rattle.lent.proofs.Paths.{ends-over, ends-bare}
 use Rattle.quiet.proofs.descent.ends_at.Statement.{statement}
 use Rattle.quiet.proofs.descent.ends_at.Tie as tie

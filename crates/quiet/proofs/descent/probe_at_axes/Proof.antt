@@ -1,3 +1,4 @@
+-- A path that goes on is 4, as in the model; else the axes of a sound grid stand at the place read, and are probed.
 use Rattle.lent.proofs.Places.{placed}
 use mathlib.Core.Path.{sym, _∙_, subst}
 use Rattle.axis.specs.Calls.{paperProbed}

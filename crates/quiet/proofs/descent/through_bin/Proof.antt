@@ -1,3 +1,4 @@
+-- `through` multiplies a weight and lets a refusal pass, and these are the two arms.
 use lib.Ieee.{binary64, mul}
 use Rattle.lent.proofs.Paths.{through-weight, through-refusal}
 use native.Mathlib.Omega.{arith}

@@ -1,3 +1,4 @@
+-- A link of 0 lays nothing; what is left to lay on memory now is all of it on memory at entry, and levels fall.
 use mathlib.Core.Path.{_≡_, refl, sym, ap, _∙_}
 use Prim.Native.Nat.{ℕ, _+_, _-_, _*_, _≤_}
 use native.Mathlib.Omega.{arith}

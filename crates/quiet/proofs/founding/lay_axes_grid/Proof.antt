@@ -1,3 +1,4 @@
+-- Storing the fresh record keeps the lengths, so there is room for the axes still; the two steps are the definition's.
 use Rattle.lent.specs.Tree.{axesPlace}
 use Rattle.lent.proofs.Places.{placed}
 use native.Mathlib.Omega.{arith}

@@ -1,3 +1,4 @@
+-- The bins left to lay on memory now are all of them on memory behind the own record; each turn lays one.
 use mathlib.Core.Path.{_≡_, refl, sym, _∙_}
 use Prim.Native.Nat.{_+_, _-_, _≤_}
 use native.Mathlib.Omega.{arith}

@@ -1,3 +1,4 @@
+-- `ok`, and chances all from i on, stays the answer for the whole list.
 use mathlib.Core.Path.{_≡_, refl, sym, ap, _∙_}
 use mathlib.Core.Bool.{Bool, _&&_}
 use Prim.Native.Nat.{_+_, _-_}

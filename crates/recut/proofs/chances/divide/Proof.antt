@@ -1,3 +1,4 @@
+-- The cells divided, followed by the shares of those left, are the shares of all; a write keeps the length.
 use mathlib.Core.Path.{_≡_, refl, sym, _∙_}
 use mathlib.Core.List.{_++_, map}
 use Prim.Native.Nat.{zero-le, _-_, _≤_}

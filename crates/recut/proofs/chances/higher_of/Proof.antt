@@ -1,3 +1,4 @@
+-- One comparison, the definition's: the second where it is above the first, else the first.
 use Rattle.recut.specs.Chances.{higher}
 use Rattle.recut.proofs.chances.higher_of.Statement.{statement}
 use Rattle.recut.proofs.chances.higher_of.Tie as tie

@@ -1,3 +1,4 @@
+-- The highest of the list is at every turn the highest of those left, begun from `top`.
 use mathlib.Core.Path.{_≡_, refl, sym, ap, _∙_}
 use Prim.Native.Nat.{zero-le, _+_, _-_, _≤_}
 use native.Mathlib.Omega.{arith}

@@ -1,3 +1,4 @@
+-- `finite` answers one half of the definition, and the comparison with 0 is the other.
 use Rattle.recut.specs.Chances.{chance}
 use Rattle.recut.proofs.chances.is_chance.Statement.{statement}
 use Rattle.recut.proofs.chances.is_chance.Tie as tie

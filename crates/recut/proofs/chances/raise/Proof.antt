@@ -1,3 +1,4 @@
+-- The cells before i, followed by the rest as it will be raised, are the whole list raised; the cells left fall.
 use mathlib.Core.Path.{_≡_, refl, sym, _∙_}
 use mathlib.Core.List.{_++_, map}
 use Prim.Native.Nat.{zero-le, _-_, _≤_}

@@ -1,3 +1,4 @@
+-- The test is that of `raisedTo`: below the least it is the least, else the number itself.
 use Rattle.recut.specs.Chances.{raisedTo}
 use Rattle.recut.proofs.chances.raised.Statement.{statement}
 use Rattle.recut.proofs.chances.raised.Tie as tie

@@ -1,3 +1,4 @@
+-- The quotient is the definition.
 use Rattle.recut.specs.Chances.{shareOf}
 use mathlib.Core.Path.{refl}
 use Rattle.recut.proofs.chances.share_of.Statement.{statement}

@@ -1,3 +1,4 @@
+-- At most one more word agrees at each of the ten turns, so the count stays within the index and the index within the list.
 use borrow.Author.Needs.{needs}
 use Prim.Native.Nat.{_-_, _≤_}
 use Rattle.replay_stream.proofs.published.xoshiro.Statement.{statement}

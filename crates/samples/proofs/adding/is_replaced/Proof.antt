@@ -1,3 +1,4 @@
+-- The definition as it stands: no sample holds the extreme, or it is beaten.
 use mathlib.Core.Path.{refl}
 use Rattle.accumulator.specs.Steps.{replaced}
 use Rattle.samples.proofs.adding.is_replaced.Statement.{statement}

@@ -1,3 +1,4 @@
+-- What `choose` picks is the walk that the definition makes under this floor, and the floor is then put on its weight.
 use mathlib.Core.Path.{ap, sym, _∙_, subst}
 use lib.Ieee.{Float}
 use Rattle.model.specs.Draw.{Placed, flooredOf}

@@ -1,3 +1,4 @@
+-- Evenly, the search by halves finds the rule's bin on well-formed edges; else the spot is the definition's for any guess.
 use mathlib.Core.Path.{ap}
 use Rattle.axis.specs.declared.Spot.{Spot}
 use Rattle.axis.specs.Calls.{spotOf}

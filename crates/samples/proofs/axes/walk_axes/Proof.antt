@@ -1,3 +1,4 @@
+-- The coordinates drawn, followed by the walk over the axes left, are the whole walk; the places not yet written stay.
 use native.Mathlib.Omega.{arith}
 use mathlib.Core.Path.{_≡_, refl, sym, _∙_}
 use Prim.Native.Nat.{_-_, _≤_}

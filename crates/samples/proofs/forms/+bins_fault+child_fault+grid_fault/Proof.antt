@@ -1,3 +1,4 @@
+-- Each test is the model's on what is left of path and weights from `depth` on; a bins grid goes one level down.
 use mathlib.Core.Path.{sym, ap, ap₂, _∙_}
 use mathlib.Core.List.{List}
 use Prim.Native.Nat.{ℕ, _+_, _-_, _*_, _<_}

@@ -1,3 +1,4 @@
+-- The numbers tell what is left: no path, one weight, a coordinate for each axis, and last all in [0, 1], in the model's order.
 use mathlib.Core.Path.{sym, _∙_}
 use Prim.Native.Nat.{_+_, _-_}
 use native.Mathlib.Omega.{arith}

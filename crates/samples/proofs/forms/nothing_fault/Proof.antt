@@ -1,3 +1,4 @@
+-- Path, weights and coordinates have nothing left exactly where their numbers are used up, tested in the model's order.
 use native.Mathlib.Omega.{arith}
 use lib.Ieee.{nan}
 use Prim.Native.Nat.{_-_}

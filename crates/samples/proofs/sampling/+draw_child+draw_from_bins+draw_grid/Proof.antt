@@ -1,3 +1,4 @@
+-- A bin, its child one level down, then the weight, as the model draws; what hangs in a sound grid is sound.
 use Rattle.lent.specs.Sampled.{ChildLaid, Traces}
 use Rattle.lent.proofs.Samples.{child-none, child-is, child-sound, sound-in, sound-below, length-chances, bins-made, nothing-made, shorter}
 use Rattle.model.specs.Draw.{Drawing, drawAxes, drawGrid, drawChild}

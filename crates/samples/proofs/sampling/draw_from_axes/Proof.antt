@@ -1,3 +1,4 @@
+-- The axes of a sound grid stand at the place read, so that `draw_axes` makes the model's draw; its weight is laid at `depth`.
 use Rattle.lent.proofs.Places.{placed}
 use Rattle.lent.proofs.Samples.{sound-stands, axes-made}
 use mathlib.Core.Path.{sym, subst}

@@ -1,3 +1,4 @@
+-- The model's empty sample, padded to the arrays' lengths, is all zeros.
 use Rattle.lent.specs.Drawn.{padded}
 use Rattle.lent.specs.Sampled.{laidSample, laidDrawing}
 use mathlib.Core.Path.{refl}

@@ -1,3 +1,4 @@
+-- What is traced over arrays of zeros is the model's sample padded to their lengths.
 use Rattle.model.specs.Draw.{drawGrid}
 use Rattle.lent.specs.Tree.{gridAt}
 use Rattle.lent.proofs.Samples.{root-made}

@@ -1,3 +1,4 @@
+-- i plus the bin reached among those left, from the sum so far, stays the answer; the last bin needs no test.
 use mathlib.Core.Path.{_≡_}
 use Prim.Native.Nat.{_+_, _-_, _≤_}
 use native.Mathlib.Omega.{arith}

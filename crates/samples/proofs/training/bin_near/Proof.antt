@@ -1,3 +1,4 @@
+-- A bin whose edges have x between them is the rule's on well-formed edges; else the search by halves finds it.
 use mathlib.Core.Path.{_∙_}
 use native.Mathlib.Omega.{arith}
 use Rattle.axis.proofs.Bins.{formed}

@@ -1,3 +1,4 @@
+-- The test for zero is that of `zeroCount`, with 1 and 0 as its cases.
 use Rattle.accumulator.specs.Steps.{zeroCount}
 use Rattle.samples.proofs.training.zero_count.Statement.{statement}
 use Rattle.samples.proofs.training.zero_count.Tie as tie

@@ -1,3 +1,4 @@
+-- The walk over the words left, from where it stands, stays the walk over the whole table.
 use native.Mathlib.Omega.{arith}
 use mathlib.Core.Path.{_≡_, refl, sym, ap, _∙_}
 use Prim.Native.Nat.{ℕ, _-_, _≤_}

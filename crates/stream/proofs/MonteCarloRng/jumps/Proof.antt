@@ -1,3 +1,4 @@
+-- The jumps left, made from the stream reached, stay the jumps that were asked for.
 use native.Mathlib.Numerals.{unary-clauses}
 use native.Mathlib.Omega.{arith}
 use mathlib.Core.Path.{_≡_, sym, ap, _∙_}

@@ -1,3 +1,4 @@
+-- A number above 4,095 is refused with 3, as in the definition; else the seeded stream makes that many jumps.
 use borrow.Author.Tests.{lt-ltb, le-ltb}
 use Rattle.stream.specs.Calls.{paper, newOf}
 use Rattle.stream.proofs.MonteCarloRng.new.Statement.{statement}

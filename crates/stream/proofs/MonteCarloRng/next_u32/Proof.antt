@@ -1,3 +1,4 @@
+-- A word shifted down by 32 is its quotient by 2^32, and the stream is the one behind that word.
 use Rattle.stream.specs.Calls.{drawnOf, upperOf}
 use native.Mathlib.Omega.{arith}
 use Rattle.stream.proofs.MonteCarloRng.next_u32.Statement.{statement}

@@ -1,3 +1,4 @@
+-- The same formulas as in the definition, with rotations and products modulo 2^64 as `rotl` and `wrapping_mul` give them.
 use Rattle.stream.specs.Words.{shiftedUp}
 use Rattle.stream.specs.Xoshiro.{wordOf, stepOf}
 use Rattle.stream.specs.Calls.{drawnOf}

@@ -1,3 +1,4 @@
+-- Four states, each advanced from the one before, and the word of each, as `seededOf` has them.
 use Rattle.stream.specs.SplitMix.{seededOf}
 use Rattle.stream.proofs.MonteCarloRng.seed_from_u64.Statement.{statement}
 use Rattle.stream.proofs.MonteCarloRng.seed_from_u64.Tie as tie

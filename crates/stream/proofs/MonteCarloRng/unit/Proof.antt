@@ -1,3 +1,4 @@
+-- One word is drawn; `unit_of` makes its number, and the stream behind it is the definition's step.
 use Rattle.stream.specs.Calls.{drawnOf, unitDrawnOf}
 use Rattle.stream.proofs.MonteCarloRng.unit.Statement.{statement}
 use Rattle.stream.proofs.MonteCarloRng.unit.Tie as tie

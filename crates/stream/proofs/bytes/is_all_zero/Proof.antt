@@ -1,3 +1,4 @@
+-- The bytes passed are zero, so the answer is that for the bytes left; one that is not makes it no.
 use native.Mathlib.Omega.{arith}
 use mathlib.Core.Path.{_≡_, refl, sym, ap, _∙_}
 use mathlib.Core.Bool.{Bool, _&&_}

@@ -1,3 +1,4 @@
+-- The two shifts and their or are `rotated`; k from 1 to 63 keeps both shifts below 64.
 use mathlib.Core.Path.{refl}
 use Rattle.stream.specs.Words.{rotated, shiftedUp, shiftedDown}
 use native.Mathlib.Omega.{arith}

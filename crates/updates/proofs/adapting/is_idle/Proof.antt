@@ -1,3 +1,4 @@
+-- `averages` picks the case, and the comparisons in it are the definition's.
 use Rattle.model.specs.Update.{idle}
 use Rattle.updates.proofs.adapting.is_idle.Statement.{statement}
 use Rattle.updates.proofs.adapting.is_idle.Tie as tie

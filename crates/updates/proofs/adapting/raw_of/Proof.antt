@@ -1,3 +1,4 @@
+-- `averages`, then fewer than two samples, pick the definition's case; from two samples on the subtraction does not wrap.
 use Rattle.model.specs.Update.{rawOf}
 use borrow.Author.Tests.{lt-ltb, le-ltb}
 use borrow.Author.Needs.{needs}

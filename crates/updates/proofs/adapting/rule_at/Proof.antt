@@ -1,3 +1,4 @@
+-- The three words lie within the run's head, and `ruleAt` reads the same.
 use mathlib.Core.Path.{refl}
 use Rattle.lent.specs.Adapted.{ruleAt}
 use borrow.Author.Needs.{needs}

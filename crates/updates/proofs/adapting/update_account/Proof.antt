@@ -1,3 +1,4 @@
+-- A refusal is an 8 and leaves memory; else what is stored is the update of the record that the definition reads.
 use Rattle.lent.specs.Memory.{memory}
 use Rattle.lent.proofs.Adapts.{account-stepped, account-refused}
 use borrow.Author.Needs.{needs}

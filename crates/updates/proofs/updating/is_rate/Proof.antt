@@ -1,3 +1,4 @@
+-- The two comparisons are those of `rateFits`.
 use mathlib.Core.Path.{refl}
 use Rattle.model.specs.Update.{rateFits}
 use Rattle.updates.proofs.updating.is_rate.Statement.{statement}

@@ -1,3 +1,4 @@
+-- All is worked out on a copy of the same lengths, so that an 8 or a 9 leaves the state; else the copy is put back.
 use mathlib.Core.Path.{ap₂, _∙_}
 use lib.ListN.{length}
 use Rattle.lent.specs.Memory.{memory}
