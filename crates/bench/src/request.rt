@@ -10,7 +10,7 @@ pub fn kind(text: &[u8]) -> u8 {
     0
 }
 
-// The number behind the first space, 0 where there is none; digits that no longer fit are not read.
+// The number behind the first space, 0 where there is none; digits past the eighteenth are not read.
 pub fn count(text: &[u8]) -> u64 {
     let mut at = behind_space(text);
     let mut value: u64 = 0;
@@ -28,6 +28,7 @@ pub fn count(text: &[u8]) -> u64 {
     value
 }
 
+// Where the first space ends; the text's end where there is none.
 fn behind_space(text: &[u8]) -> usize
     ensures { λ r. ⌜ r ≤ length (now (text .entry)) ⌝ }
 {
@@ -41,6 +42,7 @@ fn behind_space(text: &[u8]) -> usize
     i
 }
 
+// Whether a glyph is a digit of a number.
 fn is_digit(glyph: u8) -> bool {
     48 <= glyph && glyph <= 57
 }

@@ -1,7 +1,8 @@
 -- What is read out of lent memory: the same where memory is the same, and an accumulator as it was stored.
-use mathlib.Core.Path.{_≡_, refl, ap, ap₂, _∙_, subst}
+use mathlib.Core.Path.{_≡_, refl, sym, ap, ap₂, _∙_}
 use mathlib.Core.List.{List, _∷_}
 use Prim.Native.Nat.{ℕ, zero, suc, _+_, _*_, _≤_, _<_}
+use native.Mathlib.Nat.{zero-add}
 use native.Mathlib.Omega.{arith}
 use lib.ListN.{length, getD}
 use lib.Seq.{sets}
@@ -14,14 +15,13 @@ use Rattle.lent.proofs.Same.{Same, Alike, same-alike, alike-within, get
 
 -- ---- accumulators
 
-pub record-alike : (r c : ℕ) (reals reals′ : List Float) (counts counts′ : List ℕ) → Alike nan r (r + 14) reals reals′ → Alike 0 c (c + 7) counts counts′
-    → recordAt reals counts r c ≡ recordAt reals′ counts′ r c
+-- cell by cell: the same record, wherever it begins
+record-cells : (r c p q : ℕ) (reals reals′ : List Float) (counts counts′ : List ℕ) → ((i : ℕ) → i < 14 → getD reals (r + i) nan ≡ getD reals′ (p + i) nan)
+    → ((i : ℕ) → i < 7 → getD counts (c + i) 0 ≡ getD counts′ (q + i) 0) → recordAt reals counts r c ≡ recordAt reals′ counts′ p q
 unfolding recordAt
-record-alike r c reals reals′ counts counts′ s t =
-    let x : (i : ℕ) → i < 14 → getD reals (r + i) nan ≡ getD reals′ (r + i) nan = λ i h. s .cells (r + i) (omega arith) (omega arith) in
-    let n : (i : ℕ) → i < 7 → getD counts (c + i) 0 ≡ getD counts′ (c + i) 0 = λ i h. t .cells (c + i) (omega arith) (omega arith) in
-    let first : getD reals r nan ≡ getD reals′ r nan = s .cells r (omega arith) (omega arith) in
-    let waiting : getD counts c 0 ≡ getD counts′ c 0 = t .cells c (omega arith) (omega arith) in
+record-cells r c p q reals reals′ counts counts′ x n =
+    let first : getD reals r nan ≡ getD reals′ p nan = ap (λ (z : ℕ). getD reals z nan) (none r) ∙ x 0 (omega arith) ∙ ap (λ (z : ℕ). getD reals′ z nan) (sym (none p)) in
+    let waiting : getD counts c 0 ≡ getD counts′ q 0 = ap (λ (z : ℕ). getD counts z 0) (none c) ∙ n 0 (omega arith) ∙ ap (λ (z : ℕ). getD counts′ z 0) (sym (none q)) in
     rw (
       first,
       x 1 (omega arith),
@@ -45,45 +45,33 @@ record-alike r c reals reals′ counts counts′ s t =
       n 5 (omega arith),
       n 6 (omega arith),
     )
+  where
+    none : (z : ℕ) → z ≡ z + 0
+    none z = omega arith
+
+pub record-alike : (r c : ℕ) (reals reals′ : List Float) (counts counts′ : List ℕ) → Alike nan r (r + 14) reals reals′ → Alike 0 c (c + 7) counts counts′
+    → recordAt reals counts r c ≡ recordAt reals′ counts′ r c
+record-alike r c reals reals′ counts counts′ s t =
+    record-cells r c r c reals reals′ counts counts′ (λ i h. s .cells (r + i) (omega arith) (omega arith)) (λ i h. t .cells (c + i) (omega arith) (omega arith))
 
 pub record-same : (r c : ℕ) (reals reals′ : List Float) (counts counts′ : List ℕ) → Same nan r (r + 14) reals reals′ → Same 0 c (c + 7) counts counts′
     → recordAt reals counts r c ≡ recordAt reals′ counts′ r c
 record-same r c reals reals′ counts counts′ s t =
     record-alike r c reals reals′ counts counts′ (same-alike nan r (r + 14) reals reals′ s) (same-alike 0 c (c + 7) counts counts′ t)
 
+-- the lists of a record's cells are that record's
+record-of : (a : StatisticsAccumulator) → recordAt (realsOf a) (countsOf a) 0 0 ≡ a
+unfolding recordAt realsOf countsOf
+record-of a = refl
+
 pub record-stored : (r c : ℕ) (reals : List Float) (counts : List ℕ) (a : StatisticsAccumulator) → r + 14 ≤ length reals → c + 7 ≤ length counts
     → recordAt (sets reals r (realsOf a)) (sets counts c (countsOf a)) r c ≡ a
-unfolding recordAt realsOf countsOf
+unfolding realsOf countsOf
 record-stored r c reals counts a h k =
-    let x : (i : ℕ) → i < 14 → getD (sets reals r (realsOf a)) (r + i) nan ≡ getD (realsOf a) i nan = λ i j. getD-sets nan r i (realsOf a) reals h j in
-    let n : (i : ℕ) → i < 7 → getD (sets counts c (countsOf a)) (c + i) 0 ≡ getD (countsOf a) i 0 = λ i j. getD-sets 0 c i (countsOf a) counts k j in
-    let e : r + 0 ≡ r = omega arith in
-    let f : c + 0 ≡ c = omega arith in
-    let first : getD (sets reals r (realsOf a)) r nan ≡ a .sum = subst (λ (p : ℕ). getD (sets reals r (realsOf a)) p nan ≡ a .sum) e (x 0 (omega arith)) in
-    let waiting : getD (sets counts c (countsOf a)) c 0 ≡ a .«new_samples» = subst (λ (p : ℕ). getD (sets counts c (countsOf a)) p 0 ≡ a .«new_samples») f (n 0 (omega arith)) in
-    rw (
-      first,
-      x 1 (omega arith),
-      x 2 (omega arith),
-      x 3 (omega arith),
-      x 4 (omega arith),
-      x 5 (omega arith),
-      x 6 (omega arith),
-      x 7 (omega arith),
-      x 8 (omega arith),
-      x 9 (omega arith),
-      x 10 (omega arith),
-      x 11 (omega arith),
-      x 12 (omega arith),
-      x 13 (omega arith),
-      waiting,
-      n 1 (omega arith),
-      n 2 (omega arith),
-      n 3 (omega arith),
-      n 4 (omega arith),
-      n 5 (omega arith),
-      n 6 (omega arith),
-    )
+    record-cells r c 0 0 (sets reals r (realsOf a)) (realsOf a) (sets counts c (countsOf a)) (countsOf a)
+    (λ i j. getD-sets nan r i (realsOf a) reals h j ∙ ap (λ (z : ℕ). getD (realsOf a) z nan) (sym (zero-add i)))
+    (λ i j. getD-sets 0 c i (countsOf a) counts k j ∙ ap (λ (z : ℕ). getD (countsOf a) z 0) (sym (zero-add i)))
+    ∙ record-of a
 
 -- ---- axes
 

@@ -11,7 +11,8 @@ ghost use Rattle.lent.specs.Calls.{stateEnd, mergeableOf, mergeIntoOf};
 ghost use Rattle.lent.specs.Memory.{memory};
 use judges::state;
 
-// Whether another grid may be merged: 0, or what stands against it. Refused: 10, 12, 4, 11.
+// Whether another grid may be merged: 0, or what stands against it. Refused: 12, 10, 12, each of both grids before the
+// next number; 4, 11.
 pub fn is_mergeable(
     table: &[u64],
     reals: &[f64],
@@ -34,7 +35,7 @@ pub fn is_mergeable(
 }
 
 // Adds the other grid's waiting samples everywhere; the other keeps them. 0, or a refusal's number, and nothing is written then.
-// Refused: 10, 12, 4, 11, 8.
+// Refused as there; then 8.
 pub fn merge(
     table: &[u64],
     reals: &mut [f64],

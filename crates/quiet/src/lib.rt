@@ -1,5 +1,8 @@
 // The calls on a grid in lent memory that take no sample in: a fresh grid and a copy laid, and what a grid says when it is asked: the weight at a
 // point or over a region, its summary, its live estimates.
+//
+// A state is refused, here and in the other crates of calls, by 12 where its table is no plan's, 10 where its slices are too short for that
+// plan, and 12 where it is not well formed, in this order: `12, 10, 12` below.
 mod along;
 mod copying;
 mod descent;
@@ -87,7 +90,8 @@ pub fn clone_without_samples(
 }
 
 // The weight at a point, or over the region that open coordinates leave; where the path ends at a bin and no coordinates are given,
-// from the probabilities alone. Refused: 10, 12; along the path 4, 6; then 5.
+// from the probabilities alone. Refused: 12, 10, 12; 6, then 4, at each level of
+// the path; 4 for the number of coordinates; 5.
 pub fn probe(table: &[u64], reals: &[f64], counts: &[u64], p: Region) -> Probed
     ensures { λ r. ⌜ paperProbed r ≡ probeOf (now (table .entry)) (now (reals .entry)) (now (counts .entry)) p ⌝ }
 {
@@ -98,7 +102,7 @@ pub fn probe(table: &[u64], reals: &[f64], counts: &[u64], p: Region) -> Probed
     descent::probe_grid(table, reals, counts, 4, 0, p, 0)
 }
 
-// Iterations, samples, average, error and chi-squared of the whole grid, and whether it is flat. Refused: 10, 12.
+// Iterations, samples, average, error and chi-squared of the whole grid, and whether it is flat. Refused: 12, 10, 12.
 pub fn summary(table: &[u64], reals: &[f64], counts: &[u64]) -> Summed
     ensures { λ r. ⌜ paperSummed r ≡ summaryOf (now (table .entry)) (now (reals .entry)) (now (counts .entry)) ⌝ }
 {
@@ -109,7 +113,7 @@ pub fn summary(table: &[u64], reals: &[f64], counts: &[u64]) -> Summed
     along::own(table, reals, counts).summary()
 }
 
-// Average, error and chi-squared as if the iteration ended now. Refused: 10, 12, 8.
+// Average, error and chi-squared as if the iteration ended now. Refused: 12, 10, 12; 8.
 pub fn live_estimate(table: &[u64], reals: &[f64], counts: &[u64]) -> Estimated
     ensures { λ r. ⌜ paperEstimated r ≡ liveOf (now (table .entry)) (now (reals .entry)) (now (counts .entry)) ⌝ }
 {
@@ -120,7 +124,7 @@ pub fn live_estimate(table: &[u64], reals: &[f64], counts: &[u64]) -> Estimated
     along::own(table, reals, counts).get_live_estimate()
 }
 
-// The same of the bin at the end of a path. Refused: 10, 12; along the path 4, 6; then 8.
+// The same of the bin at the end of a path. Refused: 12, 10, 12; 6, then 4, at each level of the path; 8.
 pub fn live_estimate_of_bin(
     table: &[u64],
     reals: &[f64],

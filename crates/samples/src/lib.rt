@@ -31,7 +31,7 @@ pub fn weight_of(s: Sample) -> f64
     s.weights[0]
 }
 
-// Draws a sample. Refused: 10, 12.
+// Draws a sample. Refused: 12 for a table that is no plan's, 10 for slices too short for it, 12 for a state that is not well formed.
 pub fn draw(table: &[u64], reals: &[f64], counts: &[u64], start: MonteCarloRng) -> Drawn
     ensures { λ r. ⌜ r ≡ drawnAs start (drawOf (now (table .entry)) (now (reals .entry)) (now (counts .entry)) start) ⌝ }
 {
@@ -45,8 +45,8 @@ pub fn draw(table: &[u64], reals: &[f64], counts: &[u64], start: MonteCarloRng) 
     Drawn { refused, drawing }
 }
 
-// A sample joins the grid with its evaluation and its number. The answer is 0, or a refusal's number: 10, 12; 3; along the path 4, 6; then
-// 4, 5; 7; 8. Nothing is written then.
+// A sample joins the grid with its evaluation and its number. The answer is 0, or a refusal's number: 12, 10, 12 as in `draw`; 3; 6,
+// then 4, at each level of the path; then 4, 5; 7; 8. Nothing is written then.
 pub fn train(
     table: &[u64],
     reals: &mut [f64],
@@ -85,7 +85,7 @@ pub fn train(
 }
 
 // Draws a sample for each evaluation and trains it, numbered from the first number on; the state is judged once. The answer is that of `draw`
-// and `train` one by one, up to the first refusal: 10, 12; then as `train`. What was trained before it stays.
+// and `train` one by one, up to the first refusal: 12, 10, 12; then as `train`. What was trained before it stays.
 pub fn draw_and_train(
     table: &[u64],
     reals: &mut [f64],

@@ -33,7 +33,7 @@ fn reach(chances: &[f64], r: f64) -> usize
     i
 }
 
-// Nothing drawn: no child hangs there.
+// Nothing drawn: the answer beside a refusal.
 pub fn draw_nothing(start: MonteCarloRng) -> Drawing
     ensures { λ d. ⌜ d ≡ laidDrawing (drawNothing start) ⌝ }
 {
