@@ -24,6 +24,7 @@ fn digit(glyph: u8) -> u64
     0
 }
 
+// A byte as a word.
 fn wide(x: u8) -> u64
     ensures { λ r. ⌜ r ≡ x ⌝ }
 {

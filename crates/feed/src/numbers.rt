@@ -19,6 +19,7 @@ pub fn number_at(bytes: &[u8], at: usize, many: usize) -> u64
     value
 }
 
+// A byte as a word.
 fn wide(x: u8) -> u64
     ensures { λ r. ⌜ r ≡ x ⌝ }
 {

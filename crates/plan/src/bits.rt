@@ -3,6 +3,7 @@ ghost use mathlib.Core.Path.{_≡_};
 ghost use lib.Ieee.{binary64, nanBits};
 ghost use Rattle.plan.specs.Ranges.{floorFits, ratioFits};
 
+// Whether these are a NaN's bits.
 fn is_nan(bits: u64) -> bool
     ensures { λ r. ⌜ r ≡ nanBits binary64 bits ⌝ }
 {

@@ -4,6 +4,7 @@ ghost use Prim.Native.Nat.{_+_, _<_, _≤_};
 ghost use lib.ListN.{length, getD};
 ghost use Rattle.plan.specs.Numbers.{numberAt};
 
+// The byte at a place.
 pub fn byte_at(bytes: &[u8], at: usize) -> usize
     ensures { λ r. ⌜ (r ≡ getD (now (bytes .entry)) at 0) × (r < 256) ⌝ }
 {
@@ -13,6 +14,7 @@ pub fn byte_at(bytes: &[u8], at: usize) -> usize
     0
 }
 
+// The number of two bytes.
 pub fn pair_at(bytes: &[u8], at: usize) -> usize
     requires { ⌜ at ≤ length (now bytes) + 131072 ⌝ }
     ensures { λ r. ⌜ (r ≡ numberAt (now (bytes .entry)) at 2) × (r < 65536) ⌝ }
@@ -22,6 +24,7 @@ pub fn pair_at(bytes: &[u8], at: usize) -> usize
     low + 256 * high
 }
 
+// The number of four bytes.
 pub fn four_at(bytes: &[u8], at: usize) -> usize
     requires { ⌜ at ≤ length (now bytes) + 131064 ⌝ }
     ensures { λ r. ⌜ (r ≡ numberAt (now (bytes .entry)) at 4) × (r < 0x1_0000_0000) ⌝ }
@@ -31,6 +34,7 @@ pub fn four_at(bytes: &[u8], at: usize) -> usize
     low + 0x1_0000 * high
 }
 
+// The number of eight bytes.
 pub fn eight_at(bytes: &[u8], at: usize) -> u64
     requires { ⌜ at ≤ length (now bytes) + 131056 ⌝ }
     ensures { λ r. ⌜ r ≡ numberAt (now (bytes .entry)) at 8 ⌝ }

@@ -21,6 +21,7 @@ use crate::bytes::eight_at;
 use crate::bytes::four_at;
 use crate::bytes::pair_at;
 
+// Whether n lies from lo to hi.
 pub fn is_within(lo: usize, hi: usize, n: usize) -> bool
     ensures { λ r. ⌜ r ≡ within lo hi n ⌝ }
 {
@@ -30,6 +31,7 @@ pub fn is_within(lo: usize, hi: usize, n: usize) -> bool
     false
 }
 
+// The larger of two numbers.
 pub fn larger_of(m: usize, v: usize) -> usize
     ensures { λ r. ⌜ r ≡ larger m v ⌝ }
 {
@@ -80,6 +82,8 @@ fn values_in(bytes: &[u8], at: usize) -> usize
     0
 }
 
+// What stands against the evolution field at a place: 1 where it is cut or its length is odd, 2 for the number of its values or a value out of
+// its range; else 0, also where no such field follows.
 fn evolution_fault(bytes: &[u8], at: usize) -> u64
     requires { ⌜ at ≤ length (now bytes) ⌝ }
     ensures { λ r. ⌜ r ≡ evolutionFault (now (bytes .entry)) at ⌝ }
@@ -138,6 +142,7 @@ fn axes_at(bytes: &[u8], at: usize) -> AxesPlan
     }
 }
 
+// What stands against an axes grid's values where so many grids are left: 2 for a size, 3 for a value; else 0.
 pub fn axes_fault(a: AxesPlan, left: usize) -> u64
     ensures { λ r. ⌜ r ≡ axesFault a left ⌝ }
 {
@@ -178,6 +183,7 @@ pub fn take_axes(a: AxesPlan, t: Tally) -> Tally
     }
 }
 
+// The field of an axes grid, its evolution with it.
 fn axes_field(bytes: &[u8], p: Place) -> Field
     requires { ⌜ Inside (now bytes) p ⌝ }
     ensures { λ r. ⌜ r ≡ axesField (now (bytes .entry)) p ⌝ }
@@ -220,6 +226,7 @@ fn bins_at(bytes: &[u8], at: usize) -> BinsPlan
     BinsPlan { bins, ratio, flag }
 }
 
+// What stands against a bins grid's values where so many grids and levels are left: 2 for a size, 3 for a value; else 0.
 pub fn bins_fault(b: BinsPlan, left: usize, level: usize) -> u64
     ensures { λ r. ⌜ r ≡ binsFault b left level ⌝ }
 {
@@ -260,6 +267,7 @@ pub fn take_bins(b: BinsPlan, t: Tally) -> Tally
     }
 }
 
+// The field of a bins grid, without what hangs at its bins.
 fn bins_field(bytes: &[u8], level: usize, p: Place) -> Field
     requires { ⌜ Inside (now bytes) p ⌝ }
     ensures { λ r. ⌜ r ≡ binsField (now (bytes .entry)) level p ⌝ }
@@ -283,6 +291,7 @@ fn bins_field(bytes: &[u8], level: usize, p: Place) -> Field
     })
 }
 
+// The field that says that nothing hangs at a bin.
 fn nothing_field(bytes: &[u8], p: Place) -> Field
     requires { ⌜ Inside (now bytes) p ⌝ }
     ensures { λ r. ⌜ r ≡ nothingField (now (bytes .entry)) p ⌝ }

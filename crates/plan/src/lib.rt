@@ -114,6 +114,7 @@ fn start() -> Place
     }
 }
 
+// What a plan needs, from the tally at its end.
 fn needs_of(t: Tally) -> Needs
     ensures { λ r. ⌜ r ≡ needsOf t ⌝ }
 {

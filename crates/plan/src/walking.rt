@@ -64,6 +64,7 @@ fn most_among(table: &[u64], w: usize, values: usize, least: usize) -> usize
     most
 }
 
+// An axes grid's values as its row has them.
 fn axes_row(table: &[u64], w: usize) -> AxesPlan
     requires { ⌜ w ≤ 16832 ⌝ }
     ensures { λ r. ⌜ r ≡ axesRow (now (table .entry)) w ⌝ }
@@ -104,6 +105,7 @@ fn is_evolved(table: &[u64], w: usize, a: AxesPlan) -> bool
     a.most == most
 }
 
+// An axes grid at the next word of a table: its row has to be what reading it would have written.
 fn axes_at_word(table: &[u64], level: usize, p: Place) -> Field
     requires { ⌜ Roomy (p .tally) ⌝ }
     ensures { λ r. ⌜ r ≡ axesAtWord (now (table .entry)) level p ⌝ }
@@ -128,6 +130,7 @@ fn axes_at_word(table: &[u64], level: usize, p: Place) -> Field
     Field::Stop { number: 12, at: 0 }
 }
 
+// A bins grid's values as its row has them.
 fn bins_row(table: &[u64], w: usize) -> BinsPlan
     requires { ⌜ w ≤ 16832 ⌝ }
     ensures { λ r. ⌜ r ≡ binsRow (now (table .entry)) w ⌝ }
@@ -138,6 +141,7 @@ fn bins_row(table: &[u64], w: usize) -> BinsPlan
     BinsPlan { bins, ratio, flag }
 }
 
+// A bins grid at the next word of a table, likewise.
 fn bins_at_word(table: &[u64], level: usize, p: Place) -> Field
     requires { ⌜ Roomy (p .tally) ⌝ }
     ensures { λ r. ⌜ r ≡ binsAtWord (now (table .entry)) level p ⌝ }

@@ -44,6 +44,7 @@ fn print_name(kind: usize)
     );
 }
 
+// So many of so many agree.
 fn print_numbers(agreed: u64, all: u64) {
     io::print_decimal(STDOUT_FILENO, agreed);
     io::write_all(STDOUT_FILENO, b" of ");

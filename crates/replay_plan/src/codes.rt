@@ -9,10 +9,12 @@ use plan::Sized;
 // What the program lends the reader holds this where nothing was written.
 pub const UNTOUCHED: u64 = 7;
 
+// A refusal's number and offset.
 fn refused(number: u64, offset: usize) -> u64 {
     (number % 16) * 4096 + (offset as u64) % 4096
 }
 
+// One number more in a digest.
 fn fold(d: u64, x: u64) -> u64
     requires { ⌜ d < 4294967291 ⌝ }
     ensures { λ r. ⌜ r < 4294967291 ⌝ }
@@ -20,6 +22,7 @@ fn fold(d: u64, x: u64) -> u64
     (d * 31 + x % 4294967296 + x / 4294967296) % 4294967291
 }
 
+// A plan's needs in a digest.
 fn fold_needs(d: u64, n: Needs) -> u64
     requires { ⌜ d < 4294967291 ⌝ }
     ensures { λ r. ⌜ r < 4294967291 ⌝ }
@@ -30,6 +33,7 @@ fn fold_needs(d: u64, n: Needs) -> u64
     fold(counts, n.bins as u64)
 }
 
+// A table's first words in a digest.
 fn fold_table(d: u64, table: &[u64], words: usize) -> u64
     requires { ⌜ d < 4294967291 ⌝ }
     ensures { λ r. ⌜ r < 4294967291 ⌝ }
@@ -46,6 +50,7 @@ fn fold_table(d: u64, table: &[u64], words: usize) -> u64
     sum
 }
 
+// Whether nothing was written to a table.
 fn is_untouched(table: &[u64]) -> bool {
     let mut i = 0;
     while i < table.len() {
@@ -94,6 +99,7 @@ pub fn of_plan(bytes: &[u8], whole: bool, table: &mut [u64]) -> u64
     }
 }
 
+// A plan, or a prefix that is one, read into a table.
 fn read(bytes: &[u8], whole: bool, table: &mut [u64]) -> Read {
     if whole {
         return plan::read_plan(bytes, table);
@@ -101,6 +107,7 @@ fn read(bytes: &[u8], whole: bool, table: &mut [u64]) -> Read {
     plan::read_prefix(bytes, table)
 }
 
+// What a table's sizes come to.
 pub fn of_table(table: &[u64]) -> u64 {
     match plan::sizes(table) {
         Sized::Plan(n) => fold_needs(0, n) % 4096,

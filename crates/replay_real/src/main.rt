@@ -65,10 +65,12 @@ fn near(r: f64, v: f64) -> bool {
     real::norm(r - v) <= 0.000000000001 * real::norm(v)
 }
 
+// 1 for true.
 fn bit(c: bool) -> u64 {
     if c { 1 } else { 0 }
 }
 
+// Whether an operation gives what the list wants.
 fn agrees(op: u8, x: u64, a: u64, want: u64) -> bool {
     match op {
         b's' => same(real::sqrt(double(x)), want),
@@ -85,10 +87,12 @@ fn agrees(op: u8, x: u64, a: u64, want: u64) -> bool {
     }
 }
 
+// One more.
 fn more(n: u64) -> u64 {
     std::num::wrapping_add_u64(n, 1)
 }
 
+// The tally with one line more of its kind.
 fn counted(t: Tally, op: u8) -> Tally {
     let mut r = t;
     match op {
@@ -111,6 +115,7 @@ fn counted(t: Tally, op: u8) -> Tally {
     r
 }
 
+// The tally after a line, which is shown where it differs.
 fn judged(t: Tally, line: &[u8; 53]) -> Tally {
     let op = line[0];
     let mut r = counted(t, op);
@@ -121,6 +126,7 @@ fn judged(t: Tally, line: &[u8; 53]) -> Tally {
     r
 }
 
+// A label and a number on a line.
 fn show(label: &[u8], n: u64) {
     io::write_all(STDOUT_FILENO, label);
     io::print_decimal(STDOUT_FILENO, n);

@@ -68,6 +68,7 @@ fn same_bytes(list: &[u8], at: usize, bytes: &[u8]) -> bool {
     agrees
 }
 
+// A byte as a word.
 fn wide(x: u8) -> u64 {
     x as u64
 }
@@ -215,6 +216,7 @@ pub fn replay(list: &[u8]) -> Replayed {
     Replayed { agreed, all }
 }
 
+// 1 for true.
 fn one_if(b: bool) -> u64 {
     if b { 1 } else { 0 }
 }

@@ -6,6 +6,7 @@ mod published;
 use libc::STDIN_FILENO;
 use libc::STDOUT_FILENO;
 
+// A line of what agreed.
 fn line(name: &[u8], agreed: u64, all: u64) {
     io::write_all(STDOUT_FILENO, name);
     io::print_decimal(STDOUT_FILENO, agreed);
