@@ -65,9 +65,22 @@ fn sum_pairs(room: &mut [f64; 2048]) {
     }
 }
 
-// Ends of iterations on a fresh record, where two or three samples with such sums wait: the record's word, or a refusal's number.
+// The exclusive or of the estimates that were kept.
+fn estimates_word(kept: &[f64; 192]) -> u64 {
+    let mut sum: u64 = 0;
+    let mut i = 0;
+    while i < 192 {
+        sum = sum ^ bits(kept[i]);
+        i += 1;
+    }
+    sum
+}
+
+// Ends of iterations on a fresh record, where two or three samples with such sums wait: the record's word and that of the last 64
+// estimates, or a refusal's number. Each iteration's estimates are kept, as a caller would: else the compiler leaves some of them out.
 pub fn updated(count: u64) -> u64 {
     let mut room = [0.0f64; 2048];
+    let mut kept = [0.0f64; 192];
     sum_pairs(&mut room);
     let mut record = StatisticsAccumulator::new();
     let mut i: u64 = 0;
@@ -80,7 +93,11 @@ pub fn updated(count: u64) -> u64 {
             Updated::Refused(number) => return number,
             Updated::Record(_, after) => record = after,
         }
+        let row = (i % 64) as usize;
+        kept[row] = record.avg;
+        kept[row + 64] = record.err;
+        kept[row + 128] = record.chi_sq;
         i += 1;
     }
-    word(record)
+    word(record) ^ estimates_word(&kept)
 }

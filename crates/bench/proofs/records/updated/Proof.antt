@@ -1,14 +1,14 @@
--- The counter stays within its bound, and the remainder within the list.
+-- The counter stays within its bound, and the remainders within the lists.
 use borrow.Author.Needs.{needs}
 use Prim.Native.Nat.{_-_, _≤_}
 use Rattle.bench.proofs.records.updated.Statement.{statement}
 use Rattle.bench.proofs.records.updated.Tie as tie
 
 abbrev Inv-loop : tie.InvT-loop
-Inv-loop count room record₀ i₀ «record» i = i ≤ count
+Inv-loop count room kept₀ record₀ i₀ kept «record» i = i ≤ count
 
 abbrev μ-loop : tie.MeasureT-loop
-μ-loop count room record₀ i₀ «record» i = count - i
+μ-loop count room kept₀ record₀ i₀ kept «record» i = count - i
 
 sum-pairs-requires : tie.Need-sum-pairs-requires Inv-loop μ-loop
 sum-pairs-requires c κs = search needs
@@ -55,6 +55,30 @@ returns c = search needs
 enum-known-after : tie.Need-enum-known-after Inv-loop μ-loop
 enum-known-after c = search needs
 
+mul-kept : tie.Need-mul-kept Inv-loop μ-loop
+mul-kept c = search needs
+
+array-write-kept : tie.Need-array-write-kept Inv-loop μ-loop
+array-write-kept c = search needs
+
+add-kept : tie.Need-add-kept Inv-loop μ-loop
+add-kept c = search needs
+
+mul-kept-2 : tie.Need-mul-kept-2 Inv-loop μ-loop
+mul-kept-2 c = search needs
+
+array-write-kept-2 : tie.Need-array-write-kept-2 Inv-loop μ-loop
+array-write-kept-2 c = search needs
+
+add-kept-2 : tie.Need-add-kept-2 Inv-loop μ-loop
+add-kept-2 c = search needs
+
+mul-kept-3 : tie.Need-mul-kept-3 Inv-loop μ-loop
+mul-kept-3 c = search needs
+
+array-write-kept-3 : tie.Need-array-write-kept-3 Inv-loop μ-loop
+array-write-kept-3 c = search needs
+
 add-i : tie.Need-add-i Inv-loop μ-loop
 add-i c = search needs
 
@@ -66,6 +90,9 @@ loop-again c = search needs
 
 word-requires : tie.Need-word-requires Inv-loop μ-loop
 word-requires c κs = search needs
+
+estimates-word-requires : tie.Need-estimates-word-requires Inv-loop μ-loop
+estimates-word-requires c κs = search needs
 
 returns-2 : tie.Need-returns-2 Inv-loop μ-loop
 returns-2 c = search needs
@@ -91,8 +118,17 @@ updated-spec =
     enum-known-number
     returns
     enum-known-after
+    mul-kept
+    array-write-kept
+    add-kept
+    mul-kept-2
+    array-write-kept-2
+    add-kept-2
+    mul-kept-3
+    array-write-kept-3
     add-i
     loop-less
     loop-again
     word-requires
+    estimates-word-requires
     returns-2)
