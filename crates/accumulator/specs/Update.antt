@@ -8,7 +8,9 @@ use Rattle.doubles.specs.Inverse.{invOf}
 use Rattle.doubles.specs.Count.{countOf}
 use Rattle.careful.specs.Root.{rootOf}
 use Rattle.accumulator.specs.declared.StatisticsAccumulator.{StatisticsAccumulator}
+use Rattle.accumulator.specs.declared.steps.Course.{Course}
 use Rattle.accumulator.specs.declared.steps.Figures.{Figures}
+use Rattle.accumulator.specs.declared.steps.Iterated.{Iterated}
 use Rattle.accumulator.specs.Record.{raised}
 
 -- the variance of a mean, from it, the root of the mean of the squares and the number of samples; rounding may take it below zero
@@ -62,33 +64,38 @@ gatheredOf a =
       «max_eval_negative» = a .«max_eval_negative»;
     }
 
+-- the course that a record keeps
+unfoldable pub courseOf : StatisticsAccumulator → Course
+courseOf a =
+    record { «weight_sum» = a .«weight_sum»; «avg_sum» = a .«avg_sum»; «chi_sum» = a .«chi_sum»; «chi_sq_sum» = a .«chi_sq_sum»; guess = a .guess }
+
 -- an iteration's figures among the weighted sums; the first iteration's mean is the guess
-unfoldable pub settledOf : StatisticsAccumulator → Figures → Bool → StatisticsAccumulator
-settledOf a f first =
-    let guess = cond first (f .mean) (a .guess) in
+unfoldable pub settledOf : Course → Figures → Bool → Course
+settledOf c f first =
+    let guess = cond first (f .mean) (c .guess) in
     let off = mul binary64 (f .weight) (sub binary64 (f .mean) guess) in
     record {
-      sum = a .sum;
-      «new_samples» = a .«new_samples»;
-      «sum_sq» = a .«sum_sq»;
-      «new_zero_evaluations» = a .«new_zero_evaluations»;
-      «total_sum» = a .«total_sum»;
-      «processed_samples» = a .«processed_samples»;
-      «total_sum_sq» = a .«total_sum_sq»;
-      «num_zero_evaluations» = a .«num_zero_evaluations»;
-      «weight_sum» = add binary64 (a .«weight_sum») (f .weight);
-      «cur_iter» = a .«cur_iter»;
-      «avg_sum» = add binary64 (a .«avg_sum») (mul binary64 (f .weight) (f .mean));
-      «max_eval_positive_number» = a .«max_eval_positive_number»;
-      «chi_sum» = add binary64 (a .«chi_sum») off;
-      «max_eval_negative_number» = a .«max_eval_negative_number»;
-      «chi_sq_sum» = add binary64 (a .«chi_sq_sum») (mul binary64 off (f .mean));
-      avg = a .avg;
+      «weight_sum» = add binary64 (c .«weight_sum») (f .weight);
+      «avg_sum» = add binary64 (c .«avg_sum») (mul binary64 (f .weight) (f .mean));
+      «chi_sum» = add binary64 (c .«chi_sum») off;
+      «chi_sq_sum» = add binary64 (c .«chi_sq_sum») (mul binary64 off (f .mean));
       guess = guess;
-      err = a .err;
-      «chi_sq» = a .«chi_sq»;
-      «max_eval_positive» = a .«max_eval_positive»;
-      «max_eval_negative» = a .«max_eval_negative»;
+    }
+
+-- the course after an iteration, and the estimates then
+unfoldable pub iteratedOf : Bool → Bool → Figures → Course → Iterated
+iteratedOf weighted first f c =
+    let r = settledOf c f first in
+    let sigma = invOf (r .«weight_sum») in
+    let weightedMean = mul binary64 sigma (r .«avg_sum») in
+    record {
+      course = r;
+      estimate =
+          record {
+            avg = cond weighted weightedMean (f .avg);
+            err = cond weighted (rootOf sigma) (rootOf (f .spread));
+            «chi_sq» = sub binary64 (r .«chi_sq_sum») (mul binary64 weightedMean (r .«chi_sum»));
+          };
     }
 
 -- the waiting samples of at least two, processed

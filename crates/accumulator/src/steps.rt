@@ -3,7 +3,7 @@ ghost use mathlib.Core.Path.{_≡_};
 ghost use mathlib.Core.Bool.{true, false, cond};
 ghost use Rattle.accumulator.specs.Record.{boundedCounts, wellFormed};
 ghost use Rattle.accumulator.specs.Steps.{zeroCount, replaced, addedOf, mergedOf, clearedOf, copiedOf};
-ghost use Rattle.accumulator.specs.Update.{varianceFrom, weightOf, figuresOf, gatheredOf, settledOf, processedOf, updatedOf};
+ghost use Rattle.accumulator.specs.Update.{varianceFrom, weightOf, figuresOf, gatheredOf, courseOf, settledOf, iteratedOf, processedOf, updatedOf};
 ghost use Rattle.accumulator.specs.Calls.{estimatesOf};
 use crate::Estimate;
 use crate::StatisticsAccumulator;
@@ -135,8 +135,7 @@ fn weight(variance: f64) -> f64
     plain::inv(variance)
 }
 
-// The figures of an iteration's n samples and of all samples. The two roots are taken together; and since two functions
-// call this one, it stays a call, and the functions around it are inlined.
+// The figures of an iteration's n samples and of all samples. The two roots are taken together.
 fn figures_of(sum: f64, sum_sq: f64, n: f64, total: f64, total_sq: f64, all: f64) -> Figures
     ensures { λ r. ⌜ r ≡ figuresOf sum «sum_sq» n total «total_sq» all ⌝ }
 {
@@ -165,18 +164,75 @@ pub fn gathered(a: StatisticsAccumulator) -> StatisticsAccumulator
     r
 }
 
-// The record with an iteration's figures among its weighted sums; the first iteration's mean is the guess.
-fn settled(a: StatisticsAccumulator, f: Figures, first: bool) -> StatisticsAccumulator
-    ensures { λ r. ⌜ r ≡ settledOf a f first ⌝ }
+// What the iterations so far come to: their weighted sums, and the mean of the first.
+struct Course {
+    weight_sum: f64,
+    avg_sum: f64,
+    chi_sum: f64,
+    chi_sq_sum: f64,
+    guess: f64,
+}
+
+// The course that a record keeps.
+fn course_of(a: StatisticsAccumulator) -> Course
+    ensures { λ r. ⌜ r ≡ courseOf a ⌝ }
 {
-    let mut r = a;
-    r.weight_sum = a.weight_sum + f.weight;
-    r.avg_sum = a.avg_sum + f.weight * f.mean;
-    r.guess = either(first, f.mean, a.guess);
-    let off = f.weight * (f.mean - r.guess);
-    r.chi_sum = a.chi_sum + off;
-    r.chi_sq_sum = a.chi_sq_sum + off * f.mean;
-    r
+    Course {
+        weight_sum: a.weight_sum,
+        avg_sum: a.avg_sum,
+        chi_sum: a.chi_sum,
+        chi_sq_sum: a.chi_sq_sum,
+        guess: a.guess,
+    }
+}
+
+// The course with an iteration's figures in its sums; the first iteration's mean is the guess.
+fn settled(c: Course, f: Figures, first: bool) -> Course
+    ensures { λ r. ⌜ r ≡ settledOf c f first ⌝ }
+{
+    let guess = either(first, f.mean, c.guess);
+    let off = f.weight * (f.mean - guess);
+    Course {
+        weight_sum: c.weight_sum + f.weight,
+        avg_sum: c.avg_sum + f.weight * f.mean,
+        chi_sum: c.chi_sum + off,
+        chi_sq_sum: c.chi_sq_sum + off * f.mean,
+        guess,
+    }
+}
+
+// A course, and the estimates at its end.
+struct Iterated {
+    course: Course,
+    estimate: Estimate,
+}
+
+// The course after an iteration of n samples, with all samples so far, and the estimates then. Two functions call this one, so that it stays
+// a call, and what stands around it is small enough to be inlined wherever a record is updated.
+fn iterate(
+    weighted: bool,
+    first: bool,
+    sum: f64,
+    sum_sq: f64,
+    n: f64,
+    total: f64,
+    total_sq: f64,
+    all: f64,
+    c: Course,
+) -> Iterated
+    ensures { λ r. ⌜ r ≡ iteratedOf weighted first (figuresOf sum «sum_sq» n total «total_sq» all) c ⌝ }
+{
+    let f = figures_of(sum, sum_sq, n, total, total_sq, all);
+    let after = settled(c, f, first);
+    let sigma = plain::inv(after.weight_sum);
+    let weighted_avg = sigma * after.avg_sum;
+    let avg = either(weighted, weighted_avg, f.avg);
+    let err = root::sqrt(either(weighted, sigma, f.spread));
+    let chi_sq = after.chi_sq_sum - weighted_avg * after.chi_sum;
+    Iterated {
+        course: after,
+        estimate: Estimate { avg, err, chi_sq },
+    }
 }
 
 // The record with its waiting samples processed, and the estimates after them.
@@ -184,16 +240,28 @@ fn processed(weighted: bool, a: StatisticsAccumulator) -> StatisticsAccumulator
     requires { ⌜ boundedCounts a ≡ true ⌝ }
     ensures { λ r. ⌜ r ≡ processedOf weighted a ⌝ }
 {
-    let g = gathered(a);
+    let mut r = gathered(a);
     let n = a.new_samples as f64;
     let all = (a.processed_samples as f64) + n;
-    let f = figures_of(a.sum, a.sum_sq, n, g.total_sum, g.total_sum_sq, all);
-    let mut r = settled(g, f, a.cur_iter == 0);
-    let sigma = plain::inv(r.weight_sum);
-    let weighted_avg = sigma * r.avg_sum;
-    r.avg = either(weighted, weighted_avg, f.avg);
-    r.err = root::sqrt(either(weighted, sigma, f.spread));
-    r.chi_sq = r.chi_sq_sum - weighted_avg * r.chi_sum;
+    let e = iterate(
+        weighted,
+        a.cur_iter == 0,
+        a.sum,
+        a.sum_sq,
+        n,
+        r.total_sum,
+        r.total_sum_sq,
+        all,
+        course_of(a),
+    );
+    r.weight_sum = e.course.weight_sum;
+    r.avg_sum = e.course.avg_sum;
+    r.chi_sum = e.course.chi_sum;
+    r.chi_sq_sum = e.course.chi_sq_sum;
+    r.guess = e.course.guess;
+    r.avg = e.estimate.avg;
+    r.err = e.estimate.err;
+    r.chi_sq = e.estimate.chi_sq;
     r
 }
 
@@ -239,12 +307,16 @@ pub fn live(a: StatisticsAccumulator) -> Estimate
     let all = (a.processed_samples as f64) + n;
     let total = a.total_sum + a.sum;
     let total_sq = a.total_sum_sq + a.sum_sq;
-    let f = figures_of(a.sum, a.sum_sq, n, total, total_sq, all);
-    let r = settled(a, f, a.cur_iter == 0);
-    let weighted_avg = plain::inv(r.weight_sum) * r.avg_sum;
-    Estimate {
-        avg: f.avg,
-        err: root::sqrt(f.spread),
-        chi_sq: r.chi_sq_sum - weighted_avg * r.chi_sum,
-    }
+    let e = iterate(
+        false,
+        a.cur_iter == 0,
+        a.sum,
+        a.sum_sq,
+        n,
+        total,
+        total_sq,
+        all,
+        course_of(a),
+    );
+    e.estimate
 }

@@ -1,4 +1,4 @@
--- The record's own estimates, or those of the calls put together.
+-- The record's own estimates, or those of the iteration.
 use mathlib.Core.Path.{refl}
 use borrow.Author.Tests.{lt-leb, le-leb}
 use Rattle.doubles.specs.Count.{countOf}
@@ -20,29 +20,20 @@ int-to-float-n c = exact _ (within _ (c .before .before .before .pre) .waiting)
 int-to-float-all : tie.Need-int-to-float-all
 int-to-float-all c = exact _ (within _ (c .before .before .before .before .pre) .processed)
 
-figures-of-requires : tie.Need-figures-of-requires
-figures-of-requires c κs = tt
+course-of-requires : tie.Need-course-of-requires
+course-of-requires c κs = tt
 
-settled-requires : tie.Need-settled-requires
-settled-requires c κs = tt
-
-inv-requires : tie.Need-inv-requires
-inv-requires c κs = tt
-
-sqrt-requires : tie.Need-sqrt-requires
-sqrt-requires c κs = tt
+iterate-requires : tie.Need-iterate-requires
+iterate-requires c κs = tt
 
 returns-2 : tie.Need-returns-2
 unfolding updatedOf enough countOf
 returns-2 c =
-    rw (le-leb _ _ (c .before .before .before .before .before .before .before .before .before .before .before .before .if1 .left))
-    (estimates-are _ _ _ _ _ _ _
+    rw (le-leb _ _ (c .before .before .before .before .before .before .before .before .if1 .left))
+    (estimates-are _ _ _ _
     refl
-    (all-count _ (c .before .before .before .before .before .before .before .before .before .before .before .before .before .before .pre))
-    (c .before .before .before .before .before .before .before .figures-of .ensures)
-    (c .before .before .before .before .before .settled .ensures)
-    (c .before .before .before .before .inv .ensures)
-    (c .before .before .sqrt .ensures))
+    (all-count _ (c .before .before .before .before .before .before .before .before .before .before .pre))
+    (rw (c .before .before .course-of .ensures) at (c .before .iterate .ensures)))
 
 pub live-spec : {M : Type 1} → statement M
 live-spec =
@@ -51,8 +42,6 @@ live-spec =
     returns
     int-to-float-n
     int-to-float-all
-    figures-of-requires
-    settled-requires
-    inv-requires
-    sqrt-requires
+    course-of-requires
+    iterate-requires
     returns-2)

@@ -1,4 +1,4 @@
--- The calls, put together, are the definition.
+-- What was gathered, and the course and the estimates of the iteration on it, are the definition's record.
 use mathlib.Core.Path.{refl}
 use Rattle.doubles.specs.Count.{countOf}
 use Rattle.accumulator.proofs.Counts.{within, exact, all-count}
@@ -16,37 +16,20 @@ int-to-float-n c = exact _ (within _ (c .before .before .pre) .waiting)
 int-to-float-all : tie.Need-int-to-float-all
 int-to-float-all c = exact _ (within _ (c .before .before .before .pre) .processed)
 
-figures-of-requires : tie.Need-figures-of-requires
-figures-of-requires c κs = tt
+course-of-requires : tie.Need-course-of-requires
+course-of-requires c κs = tt
 
-settled-requires : tie.Need-settled-requires
-settled-requires c κs = tt
-
-inv-requires : tie.Need-inv-requires
-inv-requires c κs = tt
-
-either-requires : tie.Need-either-requires
-either-requires c κs = tt
-
-either-requires-2 : tie.Need-either-requires-2
-either-requires-2 c κs = tt
-
-sqrt-requires : tie.Need-sqrt-requires
-sqrt-requires c κs = tt
+iterate-requires : tie.Need-iterate-requires
+iterate-requires c κs = tt
 
 returns : tie.Need-returns
 unfolding countOf
 returns c =
-    steps-are _ _ _ _ _ _ _ _ _ _ _
-    (c .before .before .before .before .before .before .before .before .before .before .before .before .gathered .ensures)
+    steps-are _ _ _ _ _ _
+    (c .before .before .before .before .before .gathered .ensures)
     refl
-    (all-count _ (c .before .before .before .before .before .before .before .before .before .before .before .before .before .pre))
-    (c .before .before .before .before .before .before .before .before .before .figures-of .ensures)
-    (c .before .before .before .before .before .before .before .settled .ensures)
-    (c .before .before .before .before .before .before .inv .ensures)
-    (c .before .before .before .before .either .ensures)
-    (c .before .before .before .either2 .ensures)
-    (c .before .before .sqrt .ensures)
+    (all-count _ (c .before .before .before .before .before .before .pre))
+    (rw (c .before .course-of .ensures) at (c .iterate .ensures))
 
 pub processed-spec : {M : Type 1} → statement M
 processed-spec =
@@ -55,10 +38,6 @@ processed-spec =
     gathered-requires
     int-to-float-n
     int-to-float-all
-    figures-of-requires
-    settled-requires
-    inv-requires
-    either-requires
-    either-requires-2
-    sqrt-requires
+    course-of-requires
+    iterate-requires
     returns)

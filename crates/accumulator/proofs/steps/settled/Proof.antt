@@ -8,7 +8,7 @@ either-requires c κs = tt
 
 returns : tie.Need-returns
 unfolding settledOf
-returns c = rw (c .before .before .before .before .before .before .either .ensures)
+returns c = rw (c .before .before .before .before .before .before .before .before .before .either .ensures)
 
 pub settled-spec : {M : Type 1} → statement M
 settled-spec = tie.close (tie.spec either-requires returns)
