@@ -14,7 +14,7 @@ use Rattle.plan.specs.Plan.{Tree}
 use Rattle.plan.specs.Needs.{needsOf}
 use Rattle.plan.specs.Reading.{Out}
 use Rattle.plan.specs.Paper as plan
-use Rattle.plan.specs.Calls.{begin, gridOf, prefixMeasured, measurePrefixOf}
+use Rattle.plan.specs.Calls.{begin, gridOf, measuredPrefix, measurePrefixOf}
 use Rattle.plan.proofs.Accepts.{sound, sound-inside}
 use Rattle.plan.proofs.Calls.{begin-inside, grid-read}
 use Rattle.lent.specs.Memory.{Memory}
@@ -51,7 +51,7 @@ module _ (run : Run) (table : List ℕ) (m : Memory) (xs ys : List ℕ) where
       let l : r .end < length (xs ++ ys) = omega (arith, length-append xs ys) in
       rw (no-end all (r .end) (length (xs ++ ys)) l, no-end false (r .end) (length xs) h, take-append-le (r .end) xs ys (omega arith))
 
-  by-out : (all : Bool) (o : Out) → Settles xs ys o → planBy run (xs ++ ys) all table m (prefixMeasured o) ≡ planBy run xs false table m (prefixMeasured o)
+  by-out : (all : Bool) (o : Out) → Settles xs ys o → planBy run (xs ++ ys) all table m (measuredPrefix o) ≡ planBy run xs false table m (measuredPrefix o)
   unfolding planBy Settles
   by-out all (Out.stops n at) h = ap (λ (o : Said). turnEnd o table m) (unread-refuses run all n at h ∙ sym (unread-refuses run false n at h))
   by-out all (Out.reads t q) h = found-same all (plan.planRead (q .at) (needsOf (q .tally))) h
@@ -91,9 +91,9 @@ module _ (run : Run) (table : List ℕ) (m : Memory) (xs ys : List ℕ) where
       unfolding planTurn measurePrefixOf
       plan-same last =
           let h = settled (gridOf xs) refl in
-          ap (λ (o : Out). planBy run (xs ++ ys) (allIn (xs ++ ys) last) table m (prefixMeasured o)) (grid-stays xs ys h)
+          ap (λ (o : Out). planBy run (xs ++ ys) (allIn (xs ++ ys) last) table m (measuredPrefix o)) (grid-stays xs ys h)
           ∙ by-out (allIn (xs ++ ys) last) (gridOf xs) h
-          ∙ ap (λ (b : Bool). planBy run xs b table m (prefixMeasured (gridOf xs))) (sym undecided)
+          ∙ ap (λ (b : Bool). planBy run xs b table m (measuredPrefix (gridOf xs))) (sym undecided)
 
   -- ---- bytes that decide it
 
@@ -108,8 +108,8 @@ module _ (run : Run) (table : List ℕ) (m : Memory) (xs ys : List ℕ) where
     unfolding planTurn measurePrefixOf
     decided-same last =
         let l : 131072 ≤ length (xs ++ ys) = omega (arith, length-append xs ys) in
-        let e = prefixMeasured (gridOf xs) in
-        ap (λ (o : Out). planBy run (xs ++ ys) (allIn (xs ++ ys) last) table m (prefixMeasured o)) (grid-near xs ys small many)
+        let e = measuredPrefix (gridOf xs) in
+        ap (λ (o : Out). planBy run (xs ++ ys) (allIn (xs ++ ys) last) table m (measuredPrefix o)) (grid-near xs ys small many)
         ∙ ap (λ (b : Bool). planBy run (xs ++ ys) b table m e) (all-in (xs ++ ys) last l)
         ∙ decided-by e refl
         ∙ ap (λ (b : Bool). planBy run xs b table m e) (sym (all-in xs false many))

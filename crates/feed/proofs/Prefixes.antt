@@ -10,7 +10,7 @@ use Rattle.plan.specs.Needs.{untaken, needsOf, after}
 use Rattle.plan.specs.Plan.{Tree, nothing, axes, bins}
 use Rattle.plan.specs.Paper.{gives, PlanRead, planRead}
 use Rattle.plan.specs.Reading.{Out}
-use Rattle.plan.specs.Calls.{gridOf, prefixMeasured, measurePrefixOf}
+use Rattle.plan.specs.Calls.{gridOf, measuredPrefix, measurePrefixOf}
 use Rattle.plan.proofs.Plans.{Plan, accepted-is-encoded}
 
 -- bytes that begin with the encoding of a plan
@@ -27,7 +27,7 @@ pub measured-is-plan : (bs : List ℕ) (r : PlanRead) → Bytes bs → measurePr
 unfolding measurePrefixOf
 measured-is-plan bs r small e = go (gridOf bs) refl e
   where
-    go : (o : Out) → gridOf bs ≡ o → prefixMeasured o ≡ gives r → PlanAt bs r
+    go : (o : Out) → gridOf bs ≡ o → measuredPrefix o ≡ gives r → PlanAt bs r
     go (Out.stops n at) g e = let z : _≡_ {A = ℕ} 0 1 = cc in absurd (omega arith)
     go (Out.reads t q) g e =
         let d = accepted-is-encoded bs small t q g in

@@ -32,7 +32,7 @@ use Rattle.plan.specs.Table.{rows}
 use Rattle.plan.specs.declared.Needs.{Needs}
 use Rattle.plan.specs.Reading.{Out, treeOf}
 use Rattle.plan.specs.Walk.{fromTable}
-use Rattle.plan.specs.Calls.{begin, End, end, gridOf, writtenOf, prefixEnd, readPrefixOf, planEnd, readPlanOf, measuredEnd, measureOf, prefixMeasured, measurePrefixOf, sizedEnd, sizesOf}
+use Rattle.plan.specs.Calls.{begin, End, end, gridOf, writtenOf, prefixEnd, readPrefixOf, planEnd, readPlanOf, measuredEnd, measureOf, measuredPrefix, measurePrefixOf, sizedEnd, sizesOf}
 use Rattle.grid.specs.Order.{Test, test, Ordered}
 use Rattle.grid.specs.Fields.{outPaper, gridTests}
 use Rattle.grid.specs.Demand1.{atField}
@@ -139,7 +139,7 @@ measure-ordered bs = from-grid bs (λ (q : Place). surplus bs q ∷ []) (λ (x :
 measured-ordered : (bs : List ℕ) → Ordered (gridTests bs (λ (q : Place). [])) (atField (measurePrefixOf bs))
 unfolding measurePrefixOf atField
 measured-ordered bs =
-    from-grid bs (λ (q : Place). []) (λ (x : Out). atField (prefixMeasured x)) (λ n at. refl) (λ t q. refl) (λ q. given-last (planRead (q .at) (needsOf (q .tally))))
+    from-grid bs (λ (q : Place). []) (λ (x : Out). atField (measuredPrefix x)) (λ n at. refl) (λ t q. refl) (λ q. given-last (planRead (q .at) (needsOf (q .tally))))
 
 sizes-ordered : (xs : List ℕ) → Ordered (test (unplanned xs (treeOf (fromTable xs) 4 begin)) 12 ∷ []) (atField (sizesOf xs))
 unfolding sizesOf atField unplanned

@@ -59,13 +59,13 @@ measuredEnd bs (Out.reads t q) = cond (ltb (q .at) (length bs)) (refusesAt 1 (q 
 unfoldable pub measureOf : List ℕ → Paper PlanRead
 measureOf bs = measuredEnd bs (gridOf bs)
 
-abbrev pub prefixMeasured : Out → Paper PlanRead
-prefixMeasured (Out.stops n at) = refusesAt n at
-prefixMeasured (Out.reads t q) = gives (planRead (q .at) (needsOf (q .tally)))
+abbrev pub measuredPrefix : Out → Paper PlanRead
+measuredPrefix (Out.stops n at) = refusesAt n at
+measuredPrefix (Out.reads t q) = gives (planRead (q .at) (needsOf (q .tally)))
 
 -- the shortest prefix that is one grid, measured
 unfoldable pub measurePrefixOf : List ℕ → Paper PlanRead
-measurePrefixOf bs = prefixMeasured (gridOf bs)
+measurePrefixOf bs = measuredPrefix (gridOf bs)
 
 abbrev pub sizedEnd : List ℕ → Out → Paper Needs
 sizedEnd xs (Out.stops n at) = refuses 12
