@@ -1,5 +1,5 @@
 -- Draws and trainings one by one on a state that was judged once: a trained state is clear again, so no later draw or training is refused for it.
-use mathlib.Core.Path.{_≡_, refl, sym, ap, _∙_}
+use mathlib.Core.Path.{_≡_, refl, sym, ap, ap₂, _∙_}
 use mathlib.Core.Bool.{Bool, true, false}
 use mathlib.Core.List.{List}
 use Prim.Native.Nat.{ℕ, suc, _+_, _^_, _≤_, _<_}
@@ -16,18 +16,21 @@ use Rattle.stream.specs.declared.MonteCarloRng.{MonteCarloRng}
 use Rattle.plan.proofs.Tables.{Words}
 use Rattle.model.specs.Grid.{Grid}
 use Rattle.model.specs.Sound.{sound}
+use Rattle.model.specs.Draw as model
 use Rattle.model.specs.Draw.{drawGrid}
 use Rattle.model.specs.Train.{numbered, trainOf}
 use Rattle.lent.specs.declared.Sample.{Sample}
 use Rattle.lent.specs.declared.Drawing.{Drawing}
 use Rattle.lent.specs.Memory.{Memory}
-use Rattle.lent.specs.Sampled.{sampleOf, laidDrawing}
+use Rattle.lent.specs.Sampled.{sampleOf, laidDrawing, Short}
 use Rattle.lent.specs.Absorbed.{absorbed, objectionOf}
 use Rattle.lent.specs.State.{rootOf, judgedBy, faultBy, stateFault}
 use Rattle.lent.specs.Calls.{StateEnd, drawnAs, drawOf, trainedBy, trainCallOf}
 use Rattle.lent.specs.Batched.{StepEnd, stepEnd, trainedFrom, stepBy, stepOf, BatchEnd, batchEnd, batched, unlessRefused, stepsOf, batchOf}
 use Rattle.lent.proofs.States.{clear, answered-last}
-use Rattle.lent.proofs.Objections.{grants, train-objection, train-done}
+use Rattle.lent.proofs.Objections.{grants, takes-root, train-objection, train-done}
+use Rattle.lent.proofs.Drawable.{sample-back}
+use Rattle.lent.proofs.Given.{same-left}
 use Rattle.lent.proofs.AbsorbedTree.{train-trains}
 
 -- ---- a state that stays clear
@@ -73,31 +76,40 @@ module _ (table : List ℕ) (m : Memory) (s : MonteCarloRng) (e : Float) (k : �
   abbrev root : Grid
   root = rootOf table (m .reals) (m .counts)
 
-  -- the draw is not refused
-  drawn : (d : Drawing) → d ≡ laidDrawing (drawGrid root s) → drawnAs s (drawOf table (m .reals) (m .counts) s) ≡ record { refused = 0; drawing = d }
-  unfolding drawOf drawnAs
-  drawn d q = ap (drawnAs s) (answered-last (stateFault table (m .reals) (m .counts)) (gives (drawGrid root s)) clear-now) ∙ ap (λ (o : Drawing). record { refused = 0; drawing = o }) (sym q)
-
-  -- so the step is the training of what was drawn
-  step-trains : (d : Drawing) → d ≡ laidDrawing (drawGrid root s) → stepOf table m s e k ≡ trainedFrom s (d .stream) (trainCallOf table m (d .sample) e k)
-  unfolding stepOf stepBy
-  step-trains d q = ap (stepBy table m s e k) (drawn d q)
-
-  pub step-objected : (d : Drawing) (n : ℕ) → d ≡ laidDrawing (drawGrid root s) → n ≡ objectionOf (trainOf root (sampleOf (d .sample)) e k) → (n ≡ 0 → ⊥) → stepEnd n s m ≡ stepOf table m s e k
-  unfolding trainedFrom
-  step-objected d n q o z = sym (step-trains d q ∙ ap (trainedFrom s (d .stream)) (sym (train-objection table m (d .sample) e k n clear-now o z)) ∙ rw (ne-eqb n 0 z))
-
-  pub step-done : (d : Drawing) (n : ℕ) (m′ : Memory) → d ≡ laidDrawing (drawGrid root s) → n ≡ objectionOf (trainOf root (sampleOf (d .sample)) e k) → n ≡ 0 → m′ ≡ absorbed 4 table (d .sample) e k 0 0 m
-      → stepEnd n (d .stream) m′ ≡ stepOf table m s e k
-  unfolding trainedFrom
-  step-done d n m′ q o z h =
-      ap (λ (j : ℕ). stepEnd j (d .stream) m′) z ∙ sym (step-trains d q ∙ ap (trainedFrom s (d .stream)) (sym (train-done table m (d .sample) e k m′ clear-now (sym o ∙ z) h)))
-
   abbrev drawing : Drawing
   drawing = laidDrawing (drawGrid root s)
 
+  -- the draw is not refused
+  drawn : drawnAs s (drawOf table (m .reals) (m .counts) s) ≡ record { refused = 0; drawing = drawing }
+  unfolding drawOf drawnAs
+  drawn = ap (drawnAs s) (answered-last (stateFault table (m .reals) (m .counts)) (gives (drawGrid root s)) clear-now)
+
   abbrev training : StateEnd
   training = trainCallOf table m (drawing .sample) e k
+
+  -- so the step is the training of what was drawn
+  step-trains : stepOf table m s e k ≡ trainedFrom s (drawing .stream) training
+  unfolding stepOf stepBy
+  step-trains = ap (stepBy table m s e k) drawn
+
+  -- a struct that is the drawn sample, whatever its arrays hold past it
+  module _ (c : Sample) (n : ℕ) (q : sampleOf c ≡ drawGrid root s .sample) (short : Short 4 (drawGrid root s .sample)) (o : n ≡ objectionOf (trainOf root (sampleOf c) e k)) where
+    as-drawn : sampleOf c ≡ sampleOf (drawing .sample)
+    unfolding laidDrawing
+    as-drawn = q ∙ sym (sample-back (drawGrid root s .sample) short)
+
+    objects : n ≡ objectionOf (trainOf root (sampleOf (drawing .sample)) e k)
+    objects = o ∙ ap (λ (x : model.Sample). objectionOf (trainOf root x e k)) as-drawn
+
+    pub step-objected : (n ≡ 0 → ⊥) → stepEnd n s m ≡ stepOf table m s e k
+    unfolding trainedFrom
+    step-objected z = sym (step-trains ∙ ap (trainedFrom s (drawing .stream)) (sym (train-objection table m (drawing .sample) e k n clear-now objects z)) ∙ rw (ne-eqb n 0 z))
+
+    pub step-done : (s′ : MonteCarloRng) (m′ : Memory) → sound root ≡ true → s′ ≡ drawGrid root s .stream → n ≡ 0 → m′ ≡ absorbed 4 table c e k 0 0 m → stepEnd n s′ m′ ≡ stepOf table m s e k
+    unfolding trainedFrom laidDrawing
+    step-done s′ m′ well r z h =
+        let left = h ∙ same-left table e k c (drawing .sample) m (takes-root root c e k well (sym o ∙ z)) as-drawn in
+        ap₂ (λ (j : ℕ) (t : MonteCarloRng). stepEnd j t m′) z r ∙ sym (step-trains ∙ ap (trainedFrom s (drawing .stream)) (sym (train-done table m (drawing .sample) e k m′ clear-now (sym objects ∙ z) left)))
 
   -- a step that was not refused leaves a clear state, and its number was at most 2^53, so that the next one's does not overflow
   pub step-onward : (n : ℕ) (s′ : MonteCarloRng) (m′ : Memory) → Words table → stepEnd n s′ m′ ≡ stepOf table m s e k → n ≡ 0 → Cleared table m′ k
@@ -106,10 +118,10 @@ module _ (table : List ℕ) (m : Memory) (s : MonteCarloRng) (e : Float) (k : �
     where
       told : (b : Bool) → eqb (training .answer) 0 ≡ b → Cleared table m′ k
       told true b =
-          let same : stepEnd n s′ m′ ≡ stepEnd 0 (drawing .stream) (training .state) = q ∙ step-trains drawing refl ∙ rw b in
+          let same : stepEnd n s′ m′ ≡ stepEnd 0 (drawing .stream) (training .state) = q ∙ step-trains ∙ rw b in
           rw (ap (λ (o : StepEnd). o .state) same) (trained-onward table m (drawing .sample) e k large clear-now (eqb-true (training .answer) 0 b))
       told false b =
-          let same : stepEnd n s′ m′ ≡ stepEnd (training .answer) s (training .state) = q ∙ step-trains drawing refl ∙ rw b in
+          let same : stepEnd n s′ m′ ≡ stepEnd (training .answer) s (training .state) = q ∙ step-trains ∙ rw b in
           absurd (eqb-false (training .answer) 0 b (sym (ap (λ (o : StepEnd). o .refused) same) ∙ z))
 
 -- ---- the evaluations in order

@@ -7,19 +7,21 @@ use mathlib.Core.List.{List, [], _∷_, _++_}
 use Prim.Native.Nat.{ℕ, zero, suc, _+_, _-_, _≤_, _<_}
 use native.Mathlib.Omega.{arith}
 use borrow.Author.Tests.{ne-eqb}
-use lib.ListN.{length, getD, take, replicate, length-append, length-replicate}
-use lib.Seq.{length-take-le}
+use lib.ListN.{length, getD, take, drop, replicate, length-append, length-replicate}
+use lib.Seq.{length-take-le, take-at, sets, sets-eq, length-sets}
 use lib.Ieee.{Float, nan}
 use Rattle.doubles.specs.Numbers.{zero64}
 use Rattle.plan.specs.Numbers.{wordsAt}
 use Rattle.stream.specs.declared.MonteCarloRng.{MonteCarloRng}
 use Rattle.model.specs.Grid.{Grid, bins}
 use Rattle.model.specs.Sound.{sound}
-use Rattle.model.specs.Draw.{Sample, drawGrid}
+use Rattle.model.specs.Draw.{Sample, Drawing, drawGrid}
 use Rattle.model.specs.Train.{faultOf}
 use Rattle.model.proofs.Drawn.{FewBins, Sized, SizedBins, SizedChild, drawn-formed}
 use Rattle.lent.specs.Drawn.{padded}
-use Rattle.lent.specs.Sampled.{entries, sampleOf, laidSample, Short}
+use Rattle.lent.specs.declared.Sample as given
+use Rattle.lent.specs.declared.Traced.{Traced}
+use Rattle.lent.specs.Sampled.{entries, sampleIn, sampleOf, laidSample, Short, tracedOf, Traces}
 use Rattle.lent.specs.State.{rootOf}
 use Rattle.lent.specs.Absorbed.{formOf}
 use Rattle.lent.specs.Tree.{axesPlanAt, axesGridAt, headAt, childIn, binsIn, gridAt, AxesLaid, Laid}
@@ -82,14 +84,37 @@ pub sample-back : (m : Sample) → Short 4 m → sampleOf (laidSample m) ≡ m
 unfolding sampleOf laidSample
 sample-back m h = rw (entries-back 0 0 4 (m .path) (h .levels), entries-back nan zero64 5 (m .weights) (omega (arith, h .given)), entries-back nan zero64 8 (m .coordinates) (h .axes))
 
--- a drawn sample as the struct has the form of the grid that it was drawn from
-pub form-laid : (table : List ℕ) (reals : List Float) (counts : List ℕ) (R C : ℕ) (s : MonteCarloRng) → Laid 4 table R C 0 → sound (rootOf table reals counts) ≡ true
-    → Short 4 (drawGrid (rootOf table reals counts) s .sample) → formOf (rootOf table reals counts) (laidSample (drawGrid (rootOf table reals counts) s .sample)) ≡ 0
+-- what is written over an array from its beginning is read back
+written-back : {A : Type 0} (z : A) (xs vs : List A) → length vs ≤ length xs → entries z (sets xs 0 vs) 0 (length vs) ≡ vs
+written-back {A} z xs vs h =
+    let e : 0 + length vs ≤ length xs = omega arith in
+    entries-take z (sets xs 0 vs) (length vs) (omega (arith, h, length-sets xs 0 vs)) ∙ ap (take (length vs)) (sets-eq vs xs 0 e) ∙ take-at vs (drop (0 + length vs) xs) (length vs) refl
+
+-- a draw below no level, written over any arrays, is the model's
+pub drawn-back : (m : Drawing) (t : Traced) (ps ps′ : List ℕ) (ws ws′ xs xs′ : List Float) → length ps ≡ 4 → length ws ≡ 5 → length xs ≡ 8 → Traces 4 0 m t ps ps′ ws ws′ xs xs′
+    → sampleOf (sampleIn ps′ (t .levels) ws′ (t .given) xs′ (t .axes)) ≡ m .sample
+unfolding sampleOf tracedOf
+drawn-back m t ps ps′ ws ws′ xs xs′ p w x q =
+    let e : 0 + length (m .sample .path) ≡ length (m .sample .path) = omega arith in
+    let f : 0 + length (m .sample .weights) ≡ length (m .sample .weights) = omega arith in
+    rw (
+      q .0,
+      q .1,
+      q .2,
+      q .3,
+      e,
+      f,
+      written-back 0 ps (m .sample .path) (omega (arith, q .4 .levels, p)),
+      written-back nan ws (m .sample .weights) (omega (arith, q .4 .given, w)),
+      written-back nan xs (m .sample .coordinates) (omega (arith, q .4 .axes, x)),
+    )
+
+-- a struct that is a drawn sample has the form of the grid that it was drawn from
+pub form-drawn : (table : List ℕ) (reals : List Float) (counts : List ℕ) (R C : ℕ) (s : MonteCarloRng) (t : given.Sample) → Laid 4 table R C 0 → sound (rootOf table reals counts) ≡ true
+    → sampleOf t ≡ drawGrid (rootOf table reals counts) s .sample → formOf (rootOf table reals counts) t ≡ 0
 unfolding sampleOf
-form-laid table reals counts R C s a well short =
+form-drawn table reals counts R C s t a well q =
     let g = rootOf table reals counts in
-    let m = drawGrid g s .sample in
-    let t = laidSample m in
     let p : t .levels - 0 ≡ t .levels = omega arith in
     let w : t .given - 0 ≡ t .given = omega arith in
-    rw (p, w) (ap (λ (x : Sample). faultOf g (x .path) (x .weights) (x .coordinates)) (sample-back m short) ∙ laid-drawn 4 table reals counts R C 0 s a well)
+    rw (p, w) (ap (λ (x : Sample). faultOf g (x .path) (x .weights) (x .coordinates)) q ∙ laid-drawn 4 table reals counts R C 0 s a well)

@@ -40,6 +40,7 @@ pub mod Formed
 pub mod Gains
 pub mod AbsorbedOwn
 pub mod AbsorbedTree
+pub mod Given
 pub mod Batches
 pub mod Fitting
 pub mod Plans
