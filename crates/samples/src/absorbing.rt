@@ -14,8 +14,8 @@ ghost use Rattle.lent.specs.Absorbed.{formOf, absorbedAxes, absorbedChild, abso
 ghost use Rattle.lent.specs.Found.{Held, HeldChild, held, heldChild};
 use crate::acceptance;
 use crate::adding;
+use crate::reading::place_at;
 use crate::training;
-use lent::layout;
 
 // At an axes grid: a bin of each axis, then its own accumulator.
 fn absorb_axes(
@@ -35,7 +35,7 @@ fn absorb_axes(
         → memory (now (reals .exit)) (now (counts .exit)) ≡ absorbedAxes (now (table .entry)) (held h) evaluation number w depth (memory (now (reals .entry)) (now (counts .entry)))) ⌝ }
 {
     let weight = weights[depth];
-    let g = layout::axes_place(table, w);
+    let g = place_at(table, w);
     let r = table[w + 9] as usize;
     let c = table[w + 10] as usize;
     let own = adding::gain_at(reals, counts, r, c, evaluation * weight, number);

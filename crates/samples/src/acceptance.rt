@@ -12,8 +12,8 @@ ghost use Rattle.lent.specs.State.{rootOf};
 ghost use Rattle.lent.specs.Absorbed.{pathLeft, weightsLeft, placesIn, formOf, Offered, OfferedChild, offered, offeredChild, objectionOf};
 ghost use Rattle.lent.specs.Found.{Found, FoundChild};
 use crate::adding;
+use crate::reading::place_at;
 use crate::training;
-use lent::layout;
 
 // At an axes grid: its own accumulator and a bin of each axis.
 fn axes_accept(
@@ -35,7 +35,7 @@ fn axes_accept(
         × Found (now (spots .exit)) (axes (axesGridAt (now (table .entry)) (now (reals .entry)) (now (counts .entry)) w)) (offered s) depth) ⌝ }
 {
     let weight = weights[depth];
-    let g = layout::axes_place(table, w);
+    let g = place_at(table, w);
     let fit = training::axes_fit(reals, counts, g, coordinates, weight * evaluation, spots);
     let r = table[w + 9] as usize;
     let c = table[w + 10] as usize;

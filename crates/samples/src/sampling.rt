@@ -10,10 +10,10 @@ ghost use Rattle.model.specs.Draw.{reached, drawAxes, drawNothing, drawGrid, dr
 ghost use Rattle.lent.specs.Tree.{axesGridAt, headAt, childIn, binsIn, gridAt, AxesLaid, BinsLaid, Laid};
 ghost use Rattle.lent.specs.Sampled.{laidDrawing, ChildLaid, soundChild, TracesAxes, Traces};
 use crate::axes;
+use crate::reading::place_at;
 use lent::Drawing;
 use lent::Sample;
 use lent::Traced;
-use lent::layout;
 use stream::MonteCarloRng;
 
 // The first bin whose running sum of probabilities is at least the draw; if none, the last.
@@ -66,7 +66,7 @@ fn draw_from_axes(
     ensures { λ t. ⌜ TracesAxes depth (drawAxes (axesGridAt (now (table .entry)) (now (reals .entry)) (now (counts .entry)) w) start) t
         (now (weights .entry)) (now (weights .exit)) (now (coordinates .entry)) (now (coordinates .exit)) × (length (now (spots .exit)) ≡ length (now (spots .entry))) ⌝ }
 {
-    let g = layout::axes_place(table, w);
+    let g = place_at(table, w);
     let walked = axes::draw_axes(reals, counts, g, start, coordinates, spots);
     weights[depth] = walked.weight;
     let stream = walked.stream;
@@ -147,6 +147,8 @@ fn draw_from_bins(
     let past = first + table[w + 2] as usize;
     let bin = reach(&reals[first..past], unit.value);
     let chance = reals[first + bin];
+    // Divided before the recursion, so that neither waits for the other.
+    let share = plain::inv(chance);
     let link = table[w + 7 + bin] as usize;
     path[depth] = bin;
     let mut traced = draw_child(
@@ -162,7 +164,7 @@ fn draw_from_bins(
         spots,
         depth + 1,
     );
-    let weight = plain::inv(chance) * traced.weight;
+    let weight = share * traced.weight;
     weights[depth] = weight;
     traced.weight = weight;
     traced

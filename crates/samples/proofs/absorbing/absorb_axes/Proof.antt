@@ -1,5 +1,4 @@
 -- What the record gains is found before the axes are written; a well-formed grid and the sample's form give what the axes ask.
-use Rattle.lent.proofs.Places.{placed}
 use native.Mathlib.Omega.{arith}
 use Rattle.lent.specs.Memory.{memory}
 use Rattle.lent.proofs.Accepts.{own-sound}
@@ -17,8 +16,8 @@ mul-weight c = omega arith
 element-copy-out-weight : tie.Need-element-copy-out-weight
 element-copy-out-weight c = omega arith
 
-axes-place-requires : tie.Need-axes-place-requires
-axes-place-requires c κs = tt
+place-at-requires : tie.Need-place-at-requires
+place-at-requires c κs = search needs
 
 add-r : tie.Need-add-r
 add-r c = omega arith
@@ -48,7 +47,7 @@ train-axes-requires : tie.Need-train-axes-requires
 train-axes-requires c κs =
     let o = c .before .before .before .before .before .before .before .before .before .before .before .before in
     let s = held (o .pre .2) in
-    found-asked (o .args .table .now) (o .args .reals .now) (o .args .counts .now) (o .args .w) s (o .args .depth) (o .args .number) (o .pre .0) (o .pre .2 .offer .takes) (c .before .before .before .before .before .before .before .axes-place .result) (placed (o .args .table .now) (o .args .w) (c .before .before .before .before .before .before .before .axes-place .ensures) (search needs)) (o .args .spots .now) (o .pre .2 .found)
+    found-asked (o .args .table .now) (o .args .reals .now) (o .args .counts .now) (o .args .w) s (o .args .depth) (o .args .number) (o .pre .0) (o .pre .2 .offer .takes) (c .before .before .before .before .before .before .before .place-at .result) (c .before .before .before .before .before .before .before .place-at .ensures) (o .args .spots .now) (o .pre .2 .found)
 
 put-requires : tie.Need-put-requires
 put-requires c κs = let o = c .before .before .before .before .before .before .before .before .before .before .before .before .before .before .before .before .before .before .before in (omega (arith, o .pre .0, c .before .before .before .before .before .before .train-axes .kept .0), omega (arith, o .pre .0, c .before .before .before .before .before .before .train-axes .kept .1 .0))
@@ -63,12 +62,12 @@ returns : tie.Need-returns
 returns c h =
     let o = c .before .before .before .before .before .before .before .before .before .before .before .before .before .before .before .before .before .before .before .before .before .before .before .before in
     let s = held h in
-    let g = c .before .before .before .before .before .before .before .before .before .before .before .before .before .before .before .before .before .before .before .axes-place .result in
+    let g = c .before .before .before .before .before .before .before .before .before .before .before .before .before .before .before .before .before .before .before .place-at .result in
     let m = memory (o .args .reals .now) (o .args .counts .now) in
     axes-absorbed (o .args .table .now) s (o .args .evaluation) (o .args .number) (o .args .w) (o .args .depth) m
     (memory (c .before .before .before .before .before .before .before .before .before .before .before .train-axes .last .0) (c .before .before .before .before .before .before .before .before .before .before .before .train-axes .last .1 .0)) (memory (c .before .before .before .before .put .last .0) (c .before .before .before .before .put .last .1 .0))
     g (entries 0 (o .args .spots .now) 0 (g .axes)) (c .before .before .before .before .before .before .before .before .before .before .before .before .before .before .gain-at .result)
-    (placed (o .args .table .now) (o .args .w) (c .before .before .before .before .before .before .before .before .before .before .before .before .before .before .before .before .before .before .before .axes-place .ensures) (search needs)) (found-there (o .args .table .now) (o .args .reals .now) (o .args .counts .now) (o .args .w) s (o .args .depth) (o .args .number) (o .pre .0) (h .offer .takes) g (placed (o .args .table .now) (o .args .w) (c .before .before .before .before .before .before .before .before .before .before .before .before .before .before .before .before .before .before .before .axes-place .ensures) (search needs)) (o .args .spots .now) (h .found)) (c .before .before .before .before .before .before .before .before .before .before .before .before .before .before .gain-at .ensures) (c .before .before .before .before .before .before .before .before .before .before .before .train-axes .ensures) (c .before .before .before .before .put .ensures)
+    (c .before .before .before .before .before .before .before .before .before .before .before .before .before .before .before .before .before .before .before .place-at .ensures) (found-there (o .args .table .now) (o .args .reals .now) (o .args .counts .now) (o .args .w) s (o .args .depth) (o .args .number) (o .pre .0) (h .offer .takes) g (c .before .before .before .before .before .before .before .before .before .before .before .before .before .before .before .before .before .before .before .place-at .ensures) (o .args .spots .now) (h .found)) (c .before .before .before .before .before .before .before .before .before .before .before .before .before .before .gain-at .ensures) (c .before .before .before .before .before .before .before .before .before .before .before .train-axes .ensures) (c .before .before .before .before .put .ensures)
 
 pub absorb-axes-spec : {M : Type 1} → statement M
 absorb-axes-spec =
@@ -76,7 +75,7 @@ absorb-axes-spec =
     (tie.spec
     mul-weight
     element-copy-out-weight
-    axes-place-requires
+    place-at-requires
     add-r
     mul-r
     shared-slice-read-r

@@ -1,5 +1,4 @@
 -- Of well-formed axes only the bins that the sample joins may fail, and the grid's own accumulator.
-use Rattle.lent.proofs.Places.{placed}
 use mathlib.Core.Path.{ap₂, _∙_}
 use mathlib.Core.Bool.{_&&_}
 use native.Mathlib.Omega.{arith}
@@ -18,14 +17,14 @@ mul-weight c = omega arith
 element-copy-out-weight : tie.Need-element-copy-out-weight
 element-copy-out-weight c = omega arith
 
-axes-place-requires : tie.Need-axes-place-requires
-axes-place-requires c κs = tt
+place-at-requires : tie.Need-place-at-requires
+place-at-requires c κs = search needs
 
 axes-fit-requires : tie.Need-axes-fit-requires
 axes-fit-requires c κs =
     let o = c .before .before .before .before .before .before in
     let s = offered (o .pre .2) in
-    (cells-of (o .args .table .now) (o .args .reals .now) (o .args .counts .now) (o .args .w) s (o .args .depth) (o .args .number) (o .pre .0) (o .pre .2 .takes) (c .before .axes-place .result) (placed (o .args .table .now) (o .args .w) (c .before .axes-place .ensures) (search needs)), o .pre .3)
+    (cells-of (o .args .table .now) (o .args .reals .now) (o .args .counts .now) (o .args .w) s (o .args .depth) (o .args .number) (o .pre .0) (o .pre .2 .takes) (c .before .place-at .result) (c .before .place-at .ensures), o .pre .3)
 
 add-r : tie.Need-add-r
 add-r c = omega arith
@@ -55,12 +54,11 @@ returns : tie.Need-returns
 returns c q =
     let o = c .before .before .before .before .before .before .before .before .before .before in
     let s = offered q in
-    let place = c .before .before .before .before .before .axes-place in
-    let at = placed (o .args .table .now) (o .args .w) (place .ensures) (search needs) in
+    let place = c .before .before .before .before .before .place-at in
     let fit = c .before .before .before .axes-fit in (
-      ap₂ _&&_ (c .fits-with .ensures) (fit .ensures .0 ∙ fit-there (o .args .table .now) (o .args .reals .now) (o .args .counts .now) (o .args .w) s (o .args .depth) (o .args .number) (o .pre .0) (q .takes) (place .result) at (mul binary64 (getD (o .args .weights .now) (o .args .depth) nan) (o .args .evaluation)))
+      ap₂ _&&_ (c .fits-with .ensures) (fit .ensures .0 ∙ fit-there (o .args .table .now) (o .args .reals .now) (o .args .counts .now) (o .args .w) s (o .args .depth) (o .args .number) (o .pre .0) (q .takes) (place .result) (place .ensures) (mul binary64 (getD (o .args .weights .now) (o .args .depth) nan) (o .args .evaluation)))
           ∙ axes-told (o .args .table .now) (o .args .reals .now) (o .args .counts .now) (o .args .w) s (o .args .depth) (o .args .number) (o .pre .0) (q .takes) (o .args .evaluation),
-      axes-found (o .args .table .now) (o .args .reals .now) (o .args .counts .now) (o .args .w) s (o .args .depth) (o .args .number) (o .pre .0) (q .takes) (place .result) at (fit .last .1 .1 .1 .1 .1 .0) (fit .ensures .1),
+      axes-found (o .args .table .now) (o .args .reals .now) (o .args .counts .now) (o .args .w) s (o .args .depth) (o .args .number) (o .pre .0) (q .takes) (place .result) (place .ensures) (fit .last .1 .1 .1 .1 .1 .0) (fit .ensures .1),
     )
 
 pub axes-accept-spec : {M : Type 1} → statement M
@@ -69,7 +67,7 @@ axes-accept-spec =
     (tie.spec
     mul-weight
     element-copy-out-weight
-    axes-place-requires
+    place-at-requires
     axes-fit-requires
     add-r
     mul-r

@@ -98,10 +98,10 @@ draw-from-bins-unit-requires : (t : ℕ) → draw-from-bins-lts.Need-unit-requir
   unit-reads.Learnt,
   reach-reads.Asked,
   reach-reads.Learnt,
-  draw-child-below t,
-  draw-child.Post,
   inv-reads.Asked,
   inv-reads.Learnt,
+  draw-child-below t,
+  draw-child.Post,
 ) (draw-from-bins-at t) draw-from-bins.Post
 draw-from-bins-unit-requires t c κs = tt
 
@@ -110,10 +110,10 @@ draw-from-bins-add-first : (t : ℕ) → draw-from-bins-lts.Need-add-first (
   unit-reads.Learnt,
   reach-reads.Asked,
   reach-reads.Learnt,
-  draw-child-below t,
-  draw-child.Post,
   inv-reads.Asked,
   inv-reads.Learnt,
+  draw-child-below t,
+  draw-child.Post,
 ) (draw-from-bins-at t) draw-from-bins.Post
 draw-from-bins-add-first t c = omega (arith, (c .before .before .before .before .before .pre .1) .0)
 
@@ -122,10 +122,10 @@ draw-from-bins-mul-first : (t : ℕ) → draw-from-bins-lts.Need-mul-first (
   unit-reads.Learnt,
   reach-reads.Asked,
   reach-reads.Learnt,
-  draw-child-below t,
-  draw-child.Post,
   inv-reads.Asked,
   inv-reads.Learnt,
+  draw-child-below t,
+  draw-child.Post,
 ) (draw-from-bins-at t) draw-from-bins.Post
 draw-from-bins-mul-first t c = omega (arith, (c .before .before .before .before .before .pre .1) .0)
 
@@ -134,10 +134,10 @@ draw-from-bins-shared-slice-read-first : (t : ℕ) → draw-from-bins-lts.Need-s
   unit-reads.Learnt,
   reach-reads.Asked,
   reach-reads.Learnt,
-  draw-child-below t,
-  draw-child.Post,
   inv-reads.Asked,
   inv-reads.Learnt,
+  draw-child-below t,
+  draw-child.Post,
 ) (draw-from-bins-at t) draw-from-bins.Post
 draw-from-bins-shared-slice-read-first t c = omega (arith, (c .before .before .before .before .before .before .pre .1) .0)
 
@@ -146,10 +146,10 @@ draw-from-bins-add-first-2 : (t : ℕ) → draw-from-bins-lts.Need-add-first-2 (
   unit-reads.Learnt,
   reach-reads.Asked,
   reach-reads.Learnt,
-  draw-child-below t,
-  draw-child.Post,
   inv-reads.Asked,
   inv-reads.Learnt,
+  draw-child-below t,
+  draw-child.Post,
 ) (draw-from-bins-at t) draw-from-bins.Post
 draw-from-bins-add-first-2 t c = omega (arith, (c .before .before .before .before .before .before .pre .1) .0)
 
@@ -158,10 +158,10 @@ draw-from-bins-add-past : (t : ℕ) → draw-from-bins-lts.Need-add-past (
   unit-reads.Learnt,
   reach-reads.Asked,
   reach-reads.Learnt,
-  draw-child-below t,
-  draw-child.Post,
   inv-reads.Asked,
   inv-reads.Learnt,
+  draw-child-below t,
+  draw-child.Post,
 ) (draw-from-bins-at t) draw-from-bins.Post
 draw-from-bins-add-past t c = omega (arith, (c .before .before .before .before .before .before .pre .1) .0)
 
@@ -170,10 +170,10 @@ draw-from-bins-mul-past : (t : ℕ) → draw-from-bins-lts.Need-mul-past (
   unit-reads.Learnt,
   reach-reads.Asked,
   reach-reads.Learnt,
-  draw-child-below t,
-  draw-child.Post,
   inv-reads.Asked,
   inv-reads.Learnt,
+  draw-child-below t,
+  draw-child.Post,
 ) (draw-from-bins-at t) draw-from-bins.Post
 draw-from-bins-mul-past t c = omega (arith, (c .before .before .before .before .before .before .pre .1) .0)
 
@@ -182,10 +182,10 @@ draw-from-bins-shared-slice-read-past : (t : ℕ) → draw-from-bins-lts.Need-sh
   unit-reads.Learnt,
   reach-reads.Asked,
   reach-reads.Learnt,
-  draw-child-below t,
-  draw-child.Post,
   inv-reads.Asked,
   inv-reads.Learnt,
+  draw-child-below t,
+  draw-child.Post,
 ) (draw-from-bins-at t) draw-from-bins.Post
 draw-from-bins-shared-slice-read-past t c = omega (arith, (c .before .before .before .before .before .before .before .pre .1) .0)
 
@@ -194,10 +194,10 @@ draw-from-bins-add-past-2 : (t : ℕ) → draw-from-bins-lts.Need-add-past-2 (
   unit-reads.Learnt,
   reach-reads.Asked,
   reach-reads.Learnt,
-  draw-child-below t,
-  draw-child.Post,
   inv-reads.Asked,
   inv-reads.Learnt,
+  draw-child-below t,
+  draw-child.Post,
 ) (draw-from-bins-at t) draw-from-bins.Post
 draw-from-bins-add-past-2 t c = omega (arith, (c .before .before .before .before .before .before .before .pre .1) .0)
 
@@ -206,10 +206,10 @@ draw-from-bins-mul-reach : (t : ℕ) → draw-from-bins-lts.Need-mul-reach (
   unit-reads.Learnt,
   reach-reads.Asked,
   reach-reads.Learnt,
-  draw-child-below t,
-  draw-child.Post,
   inv-reads.Asked,
   inv-reads.Learnt,
+  draw-child-below t,
+  draw-child.Post,
 ) (draw-from-bins-at t) draw-from-bins.Post
 draw-from-bins-mul-reach t c = omega (arith, (c .before .before .before .before .before .before .before .pre .1) .0)
 
@@ -218,10 +218,10 @@ draw-from-bins-sub-reach : (t : ℕ) → draw-from-bins-lts.Need-sub-reach (
   unit-reads.Learnt,
   reach-reads.Asked,
   reach-reads.Learnt,
-  draw-child-below t,
-  draw-child.Post,
   inv-reads.Asked,
   inv-reads.Learnt,
+  draw-child-below t,
+  draw-child.Post,
 ) (draw-from-bins-at t) draw-from-bins.Post
 draw-from-bins-sub-reach t c = omega (arith, (c .before .before .before .before .before .before .before .pre .1) .0)
 
@@ -230,10 +230,10 @@ draw-from-bins-part-reach-start : (t : ℕ) → draw-from-bins-lts.Need-part-rea
   unit-reads.Learnt,
   reach-reads.Asked,
   reach-reads.Learnt,
-  draw-child-below t,
-  draw-child.Post,
   inv-reads.Asked,
   inv-reads.Learnt,
+  draw-child-below t,
+  draw-child.Post,
 ) (draw-from-bins-at t) draw-from-bins.Post
 draw-from-bins-part-reach-start t c = omega (arith, (c .before .before .before .before .before .before .before .pre .1) .0)
 
@@ -242,10 +242,10 @@ draw-from-bins-part-reach-end : (t : ℕ) → draw-from-bins-lts.Need-part-reach
   unit-reads.Learnt,
   reach-reads.Asked,
   reach-reads.Learnt,
-  draw-child-below t,
-  draw-child.Post,
   inv-reads.Asked,
   inv-reads.Learnt,
+  draw-child-below t,
+  draw-child.Post,
 ) (draw-from-bins-at t) draw-from-bins.Post
 draw-from-bins-part-reach-end t c = omega (arith, (c .before .before .before .before .before .before .before .pre .1) .0)
 
@@ -254,10 +254,10 @@ draw-from-bins-reach-requires : (t : ℕ) → draw-from-bins-lts.Need-reach-requ
   unit-reads.Learnt,
   reach-reads.Asked,
   reach-reads.Learnt,
-  draw-child-below t,
-  draw-child.Post,
   inv-reads.Asked,
   inv-reads.Learnt,
+  draw-child-below t,
+  draw-child.Post,
 ) (draw-from-bins-at t) draw-from-bins.Post
 draw-from-bins-reach-requires t c κs = omega (arith, (length-chances (getD (c .before .before .before .before .before .before .before .before .args .table .now) ((c .before .before .before .before .before .before .before .before .args .w) + 5) 0 + 14) (getD (c .before .before .before .before .before .before .before .before .args .table .now) ((c .before .before .before .before .before .before .before .before .args .w) + 2) 0) (c .before .before .before .before .before .before .before .before .args .reals .now) (omega (arith, (c .before .before .before .before .before .before .before .before .pre .1) .0))), (c .before .before .before .before .before .before .before .before .pre .1) .0 .some)
 
@@ -266,10 +266,10 @@ draw-from-bins-add-chance : (t : ℕ) → draw-from-bins-lts.Need-add-chance (
   unit-reads.Learnt,
   reach-reads.Asked,
   reach-reads.Learnt,
-  draw-child-below t,
-  draw-child.Post,
   inv-reads.Asked,
   inv-reads.Learnt,
+  draw-child-below t,
+  draw-child.Post,
 ) (draw-from-bins-at t) draw-from-bins.Post
 draw-from-bins-add-chance t c = omega (arith, (c .before .before .before .before .before .before .before .before .before .pre .1) .0, c .reach .ensures .1, (length-chances (getD (c .before .before .before .before .before .before .before .before .before .args .table .now) ((c .before .before .before .before .before .before .before .before .before .args .w) + 5) 0 + 14) (getD (c .before .before .before .before .before .before .before .before .before .args .table .now) ((c .before .before .before .before .before .before .before .before .before .args .w) + 2) 0) (c .before .before .before .before .before .before .before .before .before .args .reals .now) (omega (arith, (c .before .before .before .before .before .before .before .before .before .pre .1) .0))))
 
@@ -278,10 +278,10 @@ draw-from-bins-mul-chance : (t : ℕ) → draw-from-bins-lts.Need-mul-chance (
   unit-reads.Learnt,
   reach-reads.Asked,
   reach-reads.Learnt,
-  draw-child-below t,
-  draw-child.Post,
   inv-reads.Asked,
   inv-reads.Learnt,
+  draw-child-below t,
+  draw-child.Post,
 ) (draw-from-bins-at t) draw-from-bins.Post
 draw-from-bins-mul-chance t c = omega (arith, (c .before .before .before .before .before .before .before .before .before .pre .1) .0, c .reach .ensures .1, (length-chances (getD (c .before .before .before .before .before .before .before .before .before .args .table .now) ((c .before .before .before .before .before .before .before .before .before .args .w) + 5) 0 + 14) (getD (c .before .before .before .before .before .before .before .before .before .args .table .now) ((c .before .before .before .before .before .before .before .before .before .args .w) + 2) 0) (c .before .before .before .before .before .before .before .before .before .args .reals .now) (omega (arith, (c .before .before .before .before .before .before .before .before .before .pre .1) .0))))
 
@@ -291,131 +291,131 @@ draw-from-bins-shared-slice-read-chance :
       unit-reads.Learnt,
       reach-reads.Asked,
       reach-reads.Learnt,
-      draw-child-below t,
-      draw-child.Post,
       inv-reads.Asked,
       inv-reads.Learnt,
+      draw-child-below t,
+      draw-child.Post,
     ) (draw-from-bins-at t) draw-from-bins.Post
 draw-from-bins-shared-slice-read-chance t c = omega (arith, (c .before .before .before .before .before .before .before .before .before .before .pre .1) .0, c .before .reach .ensures .1, (length-chances (getD (c .before .before .before .before .before .before .before .before .before .before .args .table .now) ((c .before .before .before .before .before .before .before .before .before .before .args .w) + 5) 0 + 14) (getD (c .before .before .before .before .before .before .before .before .before .before .args .table .now) ((c .before .before .before .before .before .before .before .before .before .before .args .w) + 2) 0) (c .before .before .before .before .before .before .before .before .before .before .args .reals .now) (omega (arith, (c .before .before .before .before .before .before .before .before .before .before .pre .1) .0))))
-
-draw-from-bins-add-link : (t : ℕ) → draw-from-bins-lts.Need-add-link (
-  unit-reads.Asked,
-  unit-reads.Learnt,
-  reach-reads.Asked,
-  reach-reads.Learnt,
-  draw-child-below t,
-  draw-child.Post,
-  inv-reads.Asked,
-  inv-reads.Learnt,
-) (draw-from-bins-at t) draw-from-bins.Post
-draw-from-bins-add-link t c = omega (arith, (c .before .before .before .before .before .before .before .before .before .before .pre .1) .0, c .before .reach .ensures .1, (length-chances (getD (c .before .before .before .before .before .before .before .before .before .before .args .table .now) ((c .before .before .before .before .before .before .before .before .before .before .args .w) + 5) 0 + 14) (getD (c .before .before .before .before .before .before .before .before .before .before .args .table .now) ((c .before .before .before .before .before .before .before .before .before .before .args .w) + 2) 0) (c .before .before .before .before .before .before .before .before .before .before .args .reals .now) (omega (arith, (c .before .before .before .before .before .before .before .before .before .before .pre .1) .0))))
-
-draw-from-bins-add-link-2 : (t : ℕ) → draw-from-bins-lts.Need-add-link-2 (
-  unit-reads.Asked,
-  unit-reads.Learnt,
-  reach-reads.Asked,
-  reach-reads.Learnt,
-  draw-child-below t,
-  draw-child.Post,
-  inv-reads.Asked,
-  inv-reads.Learnt,
-) (draw-from-bins-at t) draw-from-bins.Post
-draw-from-bins-add-link-2 t c = omega (arith, (c .before .before .before .before .before .before .before .before .before .before .pre .1) .0, c .before .reach .ensures .1, (length-chances (getD (c .before .before .before .before .before .before .before .before .before .before .args .table .now) ((c .before .before .before .before .before .before .before .before .before .before .args .w) + 5) 0 + 14) (getD (c .before .before .before .before .before .before .before .before .before .before .args .table .now) ((c .before .before .before .before .before .before .before .before .before .before .args .w) + 2) 0) (c .before .before .before .before .before .before .before .before .before .before .args .reals .now) (omega (arith, (c .before .before .before .before .before .before .before .before .before .before .pre .1) .0))))
-
-draw-from-bins-mul-link : (t : ℕ) → draw-from-bins-lts.Need-mul-link (
-  unit-reads.Asked,
-  unit-reads.Learnt,
-  reach-reads.Asked,
-  reach-reads.Learnt,
-  draw-child-below t,
-  draw-child.Post,
-  inv-reads.Asked,
-  inv-reads.Learnt,
-) (draw-from-bins-at t) draw-from-bins.Post
-draw-from-bins-mul-link t c = omega (arith, (c .before .before .before .before .before .before .before .before .before .before .pre .1) .0, c .before .reach .ensures .1, (length-chances (getD (c .before .before .before .before .before .before .before .before .before .before .args .table .now) ((c .before .before .before .before .before .before .before .before .before .before .args .w) + 5) 0 + 14) (getD (c .before .before .before .before .before .before .before .before .before .before .args .table .now) ((c .before .before .before .before .before .before .before .before .before .before .args .w) + 2) 0) (c .before .before .before .before .before .before .before .before .before .before .args .reals .now) (omega (arith, (c .before .before .before .before .before .before .before .before .before .before .pre .1) .0))))
-
-draw-from-bins-shared-slice-read-link : (t : ℕ) → draw-from-bins-lts.Need-shared-slice-read-link (
-  unit-reads.Asked,
-  unit-reads.Learnt,
-  reach-reads.Asked,
-  reach-reads.Learnt,
-  draw-child-below t,
-  draw-child.Post,
-  inv-reads.Asked,
-  inv-reads.Learnt,
-) (draw-from-bins-at t) draw-from-bins.Post
-draw-from-bins-shared-slice-read-link t c = omega (arith, (c .before .before .before .before .before .before .before .before .before .before .before .pre .1) .0, c .before .before .reach .ensures .1, (length-chances (getD (c .before .before .before .before .before .before .before .before .before .before .before .args .table .now) ((c .before .before .before .before .before .before .before .before .before .before .before .args .w) + 5) 0 + 14) (getD (c .before .before .before .before .before .before .before .before .before .before .before .args .table .now) ((c .before .before .before .before .before .before .before .before .before .before .before .args .w) + 2) 0) (c .before .before .before .before .before .before .before .before .before .before .before .args .reals .now) (omega (arith, (c .before .before .before .before .before .before .before .before .before .before .before .pre .1) .0))))
-
-draw-from-bins-mul-path : (t : ℕ) → draw-from-bins-lts.Need-mul-path (
-  unit-reads.Asked,
-  unit-reads.Learnt,
-  reach-reads.Asked,
-  reach-reads.Learnt,
-  draw-child-below t,
-  draw-child.Post,
-  inv-reads.Asked,
-  inv-reads.Learnt,
-) (draw-from-bins-at t) draw-from-bins.Post
-draw-from-bins-mul-path t c = omega (arith, (c .before .before .before .before .before .before .before .before .before .before .before .pre .1) .1)
-
-draw-from-bins-element-write-path : (t : ℕ) → draw-from-bins-lts.Need-element-write-path (
-  unit-reads.Asked,
-  unit-reads.Learnt,
-  reach-reads.Asked,
-  reach-reads.Learnt,
-  draw-child-below t,
-  draw-child.Post,
-  inv-reads.Asked,
-  inv-reads.Learnt,
-) (draw-from-bins-at t) draw-from-bins.Post
-draw-from-bins-element-write-path t c = omega (arith, (c .before .before .before .before .before .before .before .before .before .before .before .pre .1) .1)
-
-draw-from-bins-add-draw-child : (t : ℕ) → draw-from-bins-lts.Need-add-draw-child (
-  unit-reads.Asked,
-  unit-reads.Learnt,
-  reach-reads.Asked,
-  reach-reads.Learnt,
-  draw-child-below t,
-  draw-child.Post,
-  inv-reads.Asked,
-  inv-reads.Learnt,
-) (draw-from-bins-at t) draw-from-bins.Post
-draw-from-bins-add-draw-child t c = omega (arith, (c .before .before .before .before .before .before .before .before .before .before .before .before .before .before .before .pre .1) .1)
-
-draw-from-bins-draw-child-requires : (t : ℕ) → draw-from-bins-lts.Need-draw-child-requires (
-  unit-reads.Asked,
-  unit-reads.Learnt,
-  reach-reads.Asked,
-  reach-reads.Learnt,
-  draw-child-below t,
-  draw-child.Post,
-  inv-reads.Asked,
-  inv-reads.Learnt,
-) (draw-from-bins-at t) draw-from-bins.Post
-unfolding ChildLaid
-draw-from-bins-draw-child-requires t c κs = (omega (arith, c .before .before .before .before .before .before .before .before .before .before .before .before .before .before .before .pre .0), (λ z. (c .before .before .before .before .before .before .before .before .before .before .before .before .before .before .before .pre .1) .0 .children (c .before .before .before .before .before .before .reach .result) (omega (arith, c .before .before .before .before .before .before .reach .ensures .1, (length-chances (getD (c .before .before .before .before .before .before .before .before .before .before .before .before .before .before .before .args .table .now) ((c .before .before .before .before .before .before .before .before .before .before .before .before .before .before .before .args .w) + 5) 0 + 14) (getD (c .before .before .before .before .before .before .before .before .before .before .before .before .before .before .before .args .table .now) ((c .before .before .before .before .before .before .before .before .before .before .before .before .before .before .before .args .w) + 2) 0) (c .before .before .before .before .before .before .before .before .before .before .before .before .before .before .before .args .reals .now) (omega (arith, (c .before .before .before .before .before .before .before .before .before .before .before .before .before .before .before .pre .1) .0))))) z, omega (arith, (c .before .before .before .before .before .before .before .before .before .before .before .before .before .before .before .pre .1) .1), sound-below (binIn (c .before .before .before .before .before .before .before .before .before .before .before .before .before .before .before .args .table .now) (c .before .before .before .before .before .before .before .before .before .before .before .before .before .before .before .args .reals .now) (c .before .before .before .before .before .before .before .before .before .before .before .before .before .before .before .args .counts .now) (c .before .before .before .before .before .before .before .before .before .before .before .before .before .before .before .args .w) (c .before .before .before .before .before .before .reach .result)) (childIn (gridAt (c .before .before .before .before .before .before .before .before .before .before .before .before .before .before .before .args .level) (c .before .before .before .before .before .before .before .before .before .before .before .before .before .before .before .args .table .now) (c .before .before .before .before .before .before .before .before .before .before .before .before .before .before .before .args .reals .now) (c .before .before .before .before .before .before .before .before .before .before .before .before .before .before .before .args .counts .now)) (getD (c .before .before .before .before .before .before .before .before .before .before .before .before .before .before .before .args .table .now) ((c .before .before .before .before .before .before .before .before .before .before .before .before .before .before .before .args .w) + 7 + (c .before .before .before .before .before .before .reach .result)) 0)) (sound-in (gridAt (c .before .before .before .before .before .before .before .before .before .before .before .before .before .before .before .args .level) (c .before .before .before .before .before .before .before .before .before .before .before .before .before .before .before .args .table .now) (c .before .before .before .before .before .before .before .before .before .before .before .before .before .before .before .args .reals .now) (c .before .before .before .before .before .before .before .before .before .before .before .before .before .before .before .args .counts .now)) (c .before .before .before .before .before .before .before .before .before .before .before .before .before .before .before .args .table .now) (c .before .before .before .before .before .before .before .before .before .before .before .before .before .before .before .args .reals .now) (c .before .before .before .before .before .before .before .before .before .before .before .before .before .before .before .args .counts .now) (c .before .before .before .before .before .before .before .before .before .before .before .before .before .before .before .args .w) (headAt (c .before .before .before .before .before .before .before .before .before .before .before .before .before .before .before .args .table .now) (c .before .before .before .before .before .before .before .before .before .before .before .before .before .before .before .args .reals .now) (c .before .before .before .before .before .before .before .before .before .before .before .before .before .before .before .args .counts .now) (c .before .before .before .before .before .before .before .before .before .before .before .before .before .before .before .args .w)) (getD (c .before .before .before .before .before .before .before .before .before .before .before .before .before .before .before .args .table .now) ((c .before .before .before .before .before .before .before .before .before .before .before .before .before .before .before .args .w) + 2) 0) (c .before .before .before .before .before .before .reach .result) (omega (arith, c .before .before .before .before .before .before .reach .ensures .1, (length-chances (getD (c .before .before .before .before .before .before .before .before .before .before .before .before .before .before .before .args .table .now) ((c .before .before .before .before .before .before .before .before .before .before .before .before .before .before .before .args .w) + 5) 0 + 14) (getD (c .before .before .before .before .before .before .before .before .before .before .before .before .before .before .before .args .table .now) ((c .before .before .before .before .before .before .before .before .before .before .before .before .before .before .before .args .w) + 2) 0) (c .before .before .before .before .before .before .before .before .before .before .before .before .before .before .before .args .reals .now) (omega (arith, (c .before .before .before .before .before .before .before .before .before .before .before .before .before .before .before .pre .1) .0))))) ((c .before .before .before .before .before .before .before .before .before .before .before .before .before .before .before .pre .1) .2)), (c .before .before .before .before .before .before .before .before .before .before .before .before .before .before .before .pre .1) .3))
 
 draw-from-bins-inv-requires : (t : ℕ) → draw-from-bins-lts.Need-inv-requires (
   unit-reads.Asked,
   unit-reads.Learnt,
   reach-reads.Asked,
   reach-reads.Learnt,
-  draw-child-below t,
-  draw-child.Post,
   inv-reads.Asked,
   inv-reads.Learnt,
+  draw-child-below t,
+  draw-child.Post,
 ) (draw-from-bins-at t) draw-from-bins.Post
 draw-from-bins-inv-requires t c κs = tt
+
+draw-from-bins-add-link : (t : ℕ) → draw-from-bins-lts.Need-add-link (
+  unit-reads.Asked,
+  unit-reads.Learnt,
+  reach-reads.Asked,
+  reach-reads.Learnt,
+  inv-reads.Asked,
+  inv-reads.Learnt,
+  draw-child-below t,
+  draw-child.Post,
+) (draw-from-bins-at t) draw-from-bins.Post
+draw-from-bins-add-link t c = omega (arith, (c .before .before .before .before .before .before .before .before .before .before .before .pre .1) .0, c .before .before .reach .ensures .1, (length-chances (getD (c .before .before .before .before .before .before .before .before .before .before .before .args .table .now) ((c .before .before .before .before .before .before .before .before .before .before .before .args .w) + 5) 0 + 14) (getD (c .before .before .before .before .before .before .before .before .before .before .before .args .table .now) ((c .before .before .before .before .before .before .before .before .before .before .before .args .w) + 2) 0) (c .before .before .before .before .before .before .before .before .before .before .before .args .reals .now) (omega (arith, (c .before .before .before .before .before .before .before .before .before .before .before .pre .1) .0))))
+
+draw-from-bins-add-link-2 : (t : ℕ) → draw-from-bins-lts.Need-add-link-2 (
+  unit-reads.Asked,
+  unit-reads.Learnt,
+  reach-reads.Asked,
+  reach-reads.Learnt,
+  inv-reads.Asked,
+  inv-reads.Learnt,
+  draw-child-below t,
+  draw-child.Post,
+) (draw-from-bins-at t) draw-from-bins.Post
+draw-from-bins-add-link-2 t c = omega (arith, (c .before .before .before .before .before .before .before .before .before .before .before .pre .1) .0, c .before .before .reach .ensures .1, (length-chances (getD (c .before .before .before .before .before .before .before .before .before .before .before .args .table .now) ((c .before .before .before .before .before .before .before .before .before .before .before .args .w) + 5) 0 + 14) (getD (c .before .before .before .before .before .before .before .before .before .before .before .args .table .now) ((c .before .before .before .before .before .before .before .before .before .before .before .args .w) + 2) 0) (c .before .before .before .before .before .before .before .before .before .before .before .args .reals .now) (omega (arith, (c .before .before .before .before .before .before .before .before .before .before .before .pre .1) .0))))
+
+draw-from-bins-mul-link : (t : ℕ) → draw-from-bins-lts.Need-mul-link (
+  unit-reads.Asked,
+  unit-reads.Learnt,
+  reach-reads.Asked,
+  reach-reads.Learnt,
+  inv-reads.Asked,
+  inv-reads.Learnt,
+  draw-child-below t,
+  draw-child.Post,
+) (draw-from-bins-at t) draw-from-bins.Post
+draw-from-bins-mul-link t c = omega (arith, (c .before .before .before .before .before .before .before .before .before .before .before .pre .1) .0, c .before .before .reach .ensures .1, (length-chances (getD (c .before .before .before .before .before .before .before .before .before .before .before .args .table .now) ((c .before .before .before .before .before .before .before .before .before .before .before .args .w) + 5) 0 + 14) (getD (c .before .before .before .before .before .before .before .before .before .before .before .args .table .now) ((c .before .before .before .before .before .before .before .before .before .before .before .args .w) + 2) 0) (c .before .before .before .before .before .before .before .before .before .before .before .args .reals .now) (omega (arith, (c .before .before .before .before .before .before .before .before .before .before .before .pre .1) .0))))
+
+draw-from-bins-shared-slice-read-link : (t : ℕ) → draw-from-bins-lts.Need-shared-slice-read-link (
+  unit-reads.Asked,
+  unit-reads.Learnt,
+  reach-reads.Asked,
+  reach-reads.Learnt,
+  inv-reads.Asked,
+  inv-reads.Learnt,
+  draw-child-below t,
+  draw-child.Post,
+) (draw-from-bins-at t) draw-from-bins.Post
+draw-from-bins-shared-slice-read-link t c = omega (arith, (c .before .before .before .before .before .before .before .before .before .before .before .before .pre .1) .0, c .before .before .before .reach .ensures .1, (length-chances (getD (c .before .before .before .before .before .before .before .before .before .before .before .before .args .table .now) ((c .before .before .before .before .before .before .before .before .before .before .before .before .args .w) + 5) 0 + 14) (getD (c .before .before .before .before .before .before .before .before .before .before .before .before .args .table .now) ((c .before .before .before .before .before .before .before .before .before .before .before .before .args .w) + 2) 0) (c .before .before .before .before .before .before .before .before .before .before .before .before .args .reals .now) (omega (arith, (c .before .before .before .before .before .before .before .before .before .before .before .before .pre .1) .0))))
+
+draw-from-bins-mul-path : (t : ℕ) → draw-from-bins-lts.Need-mul-path (
+  unit-reads.Asked,
+  unit-reads.Learnt,
+  reach-reads.Asked,
+  reach-reads.Learnt,
+  inv-reads.Asked,
+  inv-reads.Learnt,
+  draw-child-below t,
+  draw-child.Post,
+) (draw-from-bins-at t) draw-from-bins.Post
+draw-from-bins-mul-path t c = omega (arith, (c .before .before .before .before .before .before .before .before .before .before .before .before .pre .1) .1)
+
+draw-from-bins-element-write-path : (t : ℕ) → draw-from-bins-lts.Need-element-write-path (
+  unit-reads.Asked,
+  unit-reads.Learnt,
+  reach-reads.Asked,
+  reach-reads.Learnt,
+  inv-reads.Asked,
+  inv-reads.Learnt,
+  draw-child-below t,
+  draw-child.Post,
+) (draw-from-bins-at t) draw-from-bins.Post
+draw-from-bins-element-write-path t c = omega (arith, (c .before .before .before .before .before .before .before .before .before .before .before .before .pre .1) .1)
+
+draw-from-bins-add-draw-child : (t : ℕ) → draw-from-bins-lts.Need-add-draw-child (
+  unit-reads.Asked,
+  unit-reads.Learnt,
+  reach-reads.Asked,
+  reach-reads.Learnt,
+  inv-reads.Asked,
+  inv-reads.Learnt,
+  draw-child-below t,
+  draw-child.Post,
+) (draw-from-bins-at t) draw-from-bins.Post
+draw-from-bins-add-draw-child t c = omega (arith, (c .before .before .before .before .before .before .before .before .before .before .before .before .before .before .before .before .pre .1) .1)
+
+draw-from-bins-draw-child-requires : (t : ℕ) → draw-from-bins-lts.Need-draw-child-requires (
+  unit-reads.Asked,
+  unit-reads.Learnt,
+  reach-reads.Asked,
+  reach-reads.Learnt,
+  inv-reads.Asked,
+  inv-reads.Learnt,
+  draw-child-below t,
+  draw-child.Post,
+) (draw-from-bins-at t) draw-from-bins.Post
+unfolding ChildLaid
+draw-from-bins-draw-child-requires t c κs = (omega (arith, c .before .before .before .before .before .before .before .before .before .before .before .before .before .before .before .before .pre .0), (λ z. (c .before .before .before .before .before .before .before .before .before .before .before .before .before .before .before .before .pre .1) .0 .children (c .before .before .before .before .before .before .before .reach .result) (omega (arith, c .before .before .before .before .before .before .before .reach .ensures .1, (length-chances (getD (c .before .before .before .before .before .before .before .before .before .before .before .before .before .before .before .before .args .table .now) ((c .before .before .before .before .before .before .before .before .before .before .before .before .before .before .before .before .args .w) + 5) 0 + 14) (getD (c .before .before .before .before .before .before .before .before .before .before .before .before .before .before .before .before .args .table .now) ((c .before .before .before .before .before .before .before .before .before .before .before .before .before .before .before .before .args .w) + 2) 0) (c .before .before .before .before .before .before .before .before .before .before .before .before .before .before .before .before .args .reals .now) (omega (arith, (c .before .before .before .before .before .before .before .before .before .before .before .before .before .before .before .before .pre .1) .0))))) z, omega (arith, (c .before .before .before .before .before .before .before .before .before .before .before .before .before .before .before .before .pre .1) .1), sound-below (binIn (c .before .before .before .before .before .before .before .before .before .before .before .before .before .before .before .before .args .table .now) (c .before .before .before .before .before .before .before .before .before .before .before .before .before .before .before .before .args .reals .now) (c .before .before .before .before .before .before .before .before .before .before .before .before .before .before .before .before .args .counts .now) (c .before .before .before .before .before .before .before .before .before .before .before .before .before .before .before .before .args .w) (c .before .before .before .before .before .before .before .reach .result)) (childIn (gridAt (c .before .before .before .before .before .before .before .before .before .before .before .before .before .before .before .before .args .level) (c .before .before .before .before .before .before .before .before .before .before .before .before .before .before .before .before .args .table .now) (c .before .before .before .before .before .before .before .before .before .before .before .before .before .before .before .before .args .reals .now) (c .before .before .before .before .before .before .before .before .before .before .before .before .before .before .before .before .args .counts .now)) (getD (c .before .before .before .before .before .before .before .before .before .before .before .before .before .before .before .before .args .table .now) ((c .before .before .before .before .before .before .before .before .before .before .before .before .before .before .before .before .args .w) + 7 + (c .before .before .before .before .before .before .before .reach .result)) 0)) (sound-in (gridAt (c .before .before .before .before .before .before .before .before .before .before .before .before .before .before .before .before .args .level) (c .before .before .before .before .before .before .before .before .before .before .before .before .before .before .before .before .args .table .now) (c .before .before .before .before .before .before .before .before .before .before .before .before .before .before .before .before .args .reals .now) (c .before .before .before .before .before .before .before .before .before .before .before .before .before .before .before .before .args .counts .now)) (c .before .before .before .before .before .before .before .before .before .before .before .before .before .before .before .before .args .table .now) (c .before .before .before .before .before .before .before .before .before .before .before .before .before .before .before .before .args .reals .now) (c .before .before .before .before .before .before .before .before .before .before .before .before .before .before .before .before .args .counts .now) (c .before .before .before .before .before .before .before .before .before .before .before .before .before .before .before .before .args .w) (headAt (c .before .before .before .before .before .before .before .before .before .before .before .before .before .before .before .before .args .table .now) (c .before .before .before .before .before .before .before .before .before .before .before .before .before .before .before .before .args .reals .now) (c .before .before .before .before .before .before .before .before .before .before .before .before .before .before .before .before .args .counts .now) (c .before .before .before .before .before .before .before .before .before .before .before .before .before .before .before .before .args .w)) (getD (c .before .before .before .before .before .before .before .before .before .before .before .before .before .before .before .before .args .table .now) ((c .before .before .before .before .before .before .before .before .before .before .before .before .before .before .before .before .args .w) + 2) 0) (c .before .before .before .before .before .before .before .reach .result) (omega (arith, c .before .before .before .before .before .before .before .reach .ensures .1, (length-chances (getD (c .before .before .before .before .before .before .before .before .before .before .before .before .before .before .before .before .args .table .now) ((c .before .before .before .before .before .before .before .before .before .before .before .before .before .before .before .before .args .w) + 5) 0 + 14) (getD (c .before .before .before .before .before .before .before .before .before .before .before .before .before .before .before .before .args .table .now) ((c .before .before .before .before .before .before .before .before .before .before .before .before .before .before .before .before .args .w) + 2) 0) (c .before .before .before .before .before .before .before .before .before .before .before .before .before .before .before .before .args .reals .now) (omega (arith, (c .before .before .before .before .before .before .before .before .before .before .before .before .before .before .before .before .pre .1) .0))))) ((c .before .before .before .before .before .before .before .before .before .before .before .before .before .before .before .before .pre .1) .2)), (c .before .before .before .before .before .before .before .before .before .before .before .before .before .before .before .before .pre .1) .3))
 
 draw-from-bins-mul-weights : (t : ℕ) → draw-from-bins-lts.Need-mul-weights (
   unit-reads.Asked,
   unit-reads.Learnt,
   reach-reads.Asked,
   reach-reads.Learnt,
-  draw-child-below t,
-  draw-child.Post,
   inv-reads.Asked,
   inv-reads.Learnt,
+  draw-child-below t,
+  draw-child.Post,
 ) (draw-from-bins-at t) draw-from-bins.Post
 draw-from-bins-mul-weights t c = omega (arith, (c .before .before .before .before .before .before .before .before .before .before .before .before .before .before .before .before .before .before .pre .1) .1)
 
@@ -424,10 +424,10 @@ draw-from-bins-element-write-weights : (t : ℕ) → draw-from-bins-lts.Need-ele
   unit-reads.Learnt,
   reach-reads.Asked,
   reach-reads.Learnt,
-  draw-child-below t,
-  draw-child.Post,
   inv-reads.Asked,
   inv-reads.Learnt,
+  draw-child-below t,
+  draw-child.Post,
 ) (draw-from-bins-at t) draw-from-bins.Post
 draw-from-bins-element-write-weights t c = omega (arith, (c .before .before .before .before .before .before .before .before .before .before .before .before .before .before .before .before .before .before .pre .1) .1)
 
@@ -436,12 +436,12 @@ draw-from-bins-returns : (t : ℕ) → draw-from-bins-lts.Need-returns (
   unit-reads.Learnt,
   reach-reads.Asked,
   reach-reads.Learnt,
-  draw-child-below t,
-  draw-child.Post,
   inv-reads.Asked,
   inv-reads.Learnt,
+  draw-child-below t,
+  draw-child.Post,
 ) (draw-from-bins-at t) draw-from-bins.Post
-draw-from-bins-returns t c = (bins-made (gridAt (c .before .before .before .before .before .before .before .before .before .before .before .before .before .before .before .before .before .before .args .level) (c .before .before .before .before .before .before .before .before .before .before .before .before .before .before .before .before .before .before .args .table .now) (c .before .before .before .before .before .before .before .before .before .before .before .before .before .before .before .before .before .before .args .reals .now) (c .before .before .before .before .before .before .before .before .before .before .before .before .before .before .before .before .before .before .args .counts .now)) (c .before .before .before .before .before .before .before .before .before .before .before .before .before .before .before .before .before .before .args .table .now) (c .before .before .before .before .before .before .before .before .before .before .before .before .before .before .before .before .before .before .args .reals .now) (c .before .before .before .before .before .before .before .before .before .before .before .before .before .before .before .before .before .before .args .counts .now) (c .before .before .before .before .before .before .before .before .before .before .before .before .before .before .before .before .before .before .args .w) (headAt (c .before .before .before .before .before .before .before .before .before .before .before .before .before .before .before .before .before .before .args .table .now) (c .before .before .before .before .before .before .before .before .before .before .before .before .before .before .before .before .before .before .args .reals .now) (c .before .before .before .before .before .before .before .before .before .before .before .before .before .before .before .before .before .before .args .counts .now) (c .before .before .before .before .before .before .before .before .before .before .before .before .before .before .before .before .before .before .args .w)) (c .before .before .before .before .before .before .before .before .before .before .before .before .before .before .before .before .before .before .args .level) (c .before .before .before .before .before .before .before .before .before .before .before .before .before .before .before .before .before .before .args .depth) (c .before .before .before .before .before .before .before .before .before .before .before .before .before .before .before .before .before .before .args .start) (c .before .before .before .before .before .before .before .before .before .before .before .before .before .before .unit .result) (c .before .before .before .before .before .before .before .before .before .reach .result) (drawChild (childIn (gridAt (c .before .before .before .before .before .before .before .before .before .before .before .before .before .before .before .before .before .before .args .level) (c .before .before .before .before .before .before .before .before .before .before .before .before .before .before .before .before .before .before .args .table .now) (c .before .before .before .before .before .before .before .before .before .before .before .before .before .before .before .before .before .before .args .reals .now) (c .before .before .before .before .before .before .before .before .before .before .before .before .before .before .before .before .before .before .args .counts .now)) (getD (c .before .before .before .before .before .before .before .before .before .before .before .before .before .before .before .before .before .before .args .table .now) ((c .before .before .before .before .before .before .before .before .before .before .before .before .before .before .before .before .before .before .args .w) + 7 + (c .before .before .before .before .before .before .before .before .before .reach .result)) 0)) (c .before .before .before .before .before .before .before .before .before .before .before .before .before .before .unit .result .stream)) (c .before .before .draw-child .result) (c .before .inv .result) (c .before .before .before .before .before .before .before .before .before .before .before .before .before .before .before .before .before .before .args .path .now) (c .before .before .draw-child .last .1 .1 .1 .1 .1 .1 .0) (c .before .before .before .before .before .before .before .before .before .before .before .before .before .before .before .before .before .before .args .weights .now) (c .before .before .draw-child .last .1 .1 .1 .1 .1 .1 .1 .0) (c .before .before .before .before .before .before .before .before .before .before .before .before .before .before .before .before .before .before .args .coordinates .now) (c .before .before .draw-child .last .1 .1 .1 .1 .1 .1 .1 .1 .0) (omega (arith, (c .before .before .before .before .before .before .before .before .before .before .before .before .before .before .before .before .before .before .pre .1) .0)) (c .before .before .before .before .before .before .before .before .before .before .before .before .before .before .unit .ensures) (c .before .before .before .before .before .before .before .before .before .reach .ensures .0) (omega (arith, c .before .before .before .before .before .before .before .before .before .reach .ensures .1, (length-chances (getD (c .before .before .before .before .before .before .before .before .before .before .before .before .before .before .before .before .before .before .args .table .now) ((c .before .before .before .before .before .before .before .before .before .before .before .before .before .before .before .before .before .before .args .w) + 5) 0 + 14) (getD (c .before .before .before .before .before .before .before .before .before .before .before .before .before .before .before .before .before .before .args .table .now) ((c .before .before .before .before .before .before .before .before .before .before .before .before .before .before .before .before .before .before .args .w) + 2) 0) (c .before .before .before .before .before .before .before .before .before .before .before .before .before .before .before .before .before .before .args .reals .now) (omega (arith, (c .before .before .before .before .before .before .before .before .before .before .before .before .before .before .before .before .before .before .pre .1) .0))))) refl (c .before .before .draw-child .ensures .0) (c .before .inv .ensures), c .before .before .draw-child .ensures .1)
+draw-from-bins-returns t c = (bins-made (gridAt (c .before .before .before .before .before .before .before .before .before .before .before .before .before .before .before .before .before .before .args .level) (c .before .before .before .before .before .before .before .before .before .before .before .before .before .before .before .before .before .before .args .table .now) (c .before .before .before .before .before .before .before .before .before .before .before .before .before .before .before .before .before .before .args .reals .now) (c .before .before .before .before .before .before .before .before .before .before .before .before .before .before .before .before .before .before .args .counts .now)) (c .before .before .before .before .before .before .before .before .before .before .before .before .before .before .before .before .before .before .args .table .now) (c .before .before .before .before .before .before .before .before .before .before .before .before .before .before .before .before .before .before .args .reals .now) (c .before .before .before .before .before .before .before .before .before .before .before .before .before .before .before .before .before .before .args .counts .now) (c .before .before .before .before .before .before .before .before .before .before .before .before .before .before .before .before .before .before .args .w) (headAt (c .before .before .before .before .before .before .before .before .before .before .before .before .before .before .before .before .before .before .args .table .now) (c .before .before .before .before .before .before .before .before .before .before .before .before .before .before .before .before .before .before .args .reals .now) (c .before .before .before .before .before .before .before .before .before .before .before .before .before .before .before .before .before .before .args .counts .now) (c .before .before .before .before .before .before .before .before .before .before .before .before .before .before .before .before .before .before .args .w)) (c .before .before .before .before .before .before .before .before .before .before .before .before .before .before .before .before .before .before .args .level) (c .before .before .before .before .before .before .before .before .before .before .before .before .before .before .before .before .before .before .args .depth) (c .before .before .before .before .before .before .before .before .before .before .before .before .before .before .before .before .before .before .args .start) (c .before .before .before .before .before .before .before .before .before .before .before .before .before .before .unit .result) (c .before .before .before .before .before .before .before .before .before .reach .result) (drawChild (childIn (gridAt (c .before .before .before .before .before .before .before .before .before .before .before .before .before .before .before .before .before .before .args .level) (c .before .before .before .before .before .before .before .before .before .before .before .before .before .before .before .before .before .before .args .table .now) (c .before .before .before .before .before .before .before .before .before .before .before .before .before .before .before .before .before .before .args .reals .now) (c .before .before .before .before .before .before .before .before .before .before .before .before .before .before .before .before .before .before .args .counts .now)) (getD (c .before .before .before .before .before .before .before .before .before .before .before .before .before .before .before .before .before .before .args .table .now) ((c .before .before .before .before .before .before .before .before .before .before .before .before .before .before .before .before .before .before .args .w) + 7 + (c .before .before .before .before .before .before .before .before .before .reach .result)) 0)) (c .before .before .before .before .before .before .before .before .before .before .before .before .before .before .unit .result .stream)) (c .before .draw-child .result) (c .before .before .before .before .before .before .before .inv .result) (c .before .before .before .before .before .before .before .before .before .before .before .before .before .before .before .before .before .before .args .path .now) (c .before .draw-child .last .1 .1 .1 .1 .1 .1 .0) (c .before .before .before .before .before .before .before .before .before .before .before .before .before .before .before .before .before .before .args .weights .now) (c .before .draw-child .last .1 .1 .1 .1 .1 .1 .1 .0) (c .before .before .before .before .before .before .before .before .before .before .before .before .before .before .before .before .before .before .args .coordinates .now) (c .before .draw-child .last .1 .1 .1 .1 .1 .1 .1 .1 .0) (omega (arith, (c .before .before .before .before .before .before .before .before .before .before .before .before .before .before .before .before .before .before .pre .1) .0)) (c .before .before .before .before .before .before .before .before .before .before .before .before .before .before .unit .ensures) (c .before .before .before .before .before .before .before .before .before .reach .ensures .0) (omega (arith, c .before .before .before .before .before .before .before .before .before .reach .ensures .1, (length-chances (getD (c .before .before .before .before .before .before .before .before .before .before .before .before .before .before .before .before .before .before .args .table .now) ((c .before .before .before .before .before .before .before .before .before .before .before .before .before .before .before .before .before .before .args .w) + 5) 0 + 14) (getD (c .before .before .before .before .before .before .before .before .before .before .before .before .before .before .before .before .before .before .args .table .now) ((c .before .before .before .before .before .before .before .before .before .before .before .before .before .before .before .before .before .before .args .w) + 2) 0) (c .before .before .before .before .before .before .before .before .before .before .before .before .before .before .before .before .before .before .args .reals .now) (omega (arith, (c .before .before .before .before .before .before .before .before .before .before .before .before .before .before .before .before .before .before .pre .1) .0))))) refl (c .before .draw-child .ensures .0) (c .before .before .before .before .before .before .before .inv .ensures), c .before .draw-child .ensures .1)
 
 draw-grid-mul-if1 : (t : ℕ) → draw-grid-lts.Need-mul-if1 (
   draw-from-axes-reads.Asked,
@@ -516,10 +516,10 @@ pub +draw-child+draw-from-bins+draw-grid-spec : {M : Type 1} → statement M
       unit-reads.Learnt,
       reach-reads.Asked,
       reach-reads.Learnt,
-      draw-child-below t,
-      draw-child.Post,
       inv-reads.Asked,
       inv-reads.Learnt,
+      draw-child-below t,
+      draw-child.Post,
     )
     (draw-from-bins-at t)
     draw-from-bins.Post
@@ -540,6 +540,7 @@ pub +draw-child+draw-from-bins+draw-grid-spec : {M : Type 1} → statement M
     (draw-from-bins-add-chance t)
     (draw-from-bins-mul-chance t)
     (draw-from-bins-shared-slice-read-chance t)
+    (draw-from-bins-inv-requires t)
     (draw-from-bins-add-link t)
     (draw-from-bins-add-link-2 t)
     (draw-from-bins-mul-link t)
@@ -548,7 +549,6 @@ pub +draw-child+draw-from-bins+draw-grid-spec : {M : Type 1} → statement M
     (draw-from-bins-element-write-path t)
     (draw-from-bins-add-draw-child t)
     (draw-from-bins-draw-child-requires t)
-    (draw-from-bins-inv-requires t)
     (draw-from-bins-mul-weights t)
     (draw-from-bins-element-write-weights t)
     (draw-from-bins-returns t))
