@@ -48,7 +48,7 @@ use Rattle.lent.proofs.States.{passes, stopped, went-on}
 use Rattle.lent.proofs.AbsorbedTree.{train-stays}
 use Rattle.lent.proofs.UpdatedState.{Called}
 use Rattle.lent.proofs.Objections.{train-done}
-use Rattle.lent.proofs.Batches.{step-objected, step-done}
+use Rattle.lent.proofs.Batches.{drawn-objected, drawn-done}
 use Rattle.lent.proofs.Formed.{own-kept}
 use Rattle.grid.specs.History as model
 use Rattle.grid.specs.History.{Word, numbered}
@@ -431,7 +431,7 @@ module _ (table : List ℕ) (m : Memory) where
     batch-stops n f =
         let z = first-above (trainTests root (sampleOf (drawn .sample)) e k) n (train-above root (sampleOf (drawn .sample)) e k) f in
         let q = train-ordered root (sampleOf (drawn .sample)) e k .refused n .1 f in
-        let o = step-objected table m s e k (none-fault w) drawn n refl (sym (ap objectionOf q)) z in
+        let o = drawn-objected table m s e k (none-fault w) n (sym (ap objectionOf q)) z in
         sym (ap rest o) ∙ stopped n (batchEnd (batched n done s) m) _ z
 
     batch-goes-on : NoneHolds (trainTests root (sampleOf (drawn .sample)) e k)
@@ -441,7 +441,7 @@ module _ (table : List ℕ) (m : Memory) where
         let q = train-ordered root (sampleOf (drawn .sample)) e k .answered none in
         let nil : objectionOf answer ≡ 0 = ap objectionOf (q .1) in
         let taken = absorbed 4 table (drawn .sample) e k 0 0 m in
-        let o = step-done table m s e k (none-fault w) drawn 0 taken refl (sym nil) refl refl in
+        let o = drawn-done table m s e k (none-fault w) 0 taken (sym nil) refl refl in
         let t = train-done table m (drawn .sample) e k taken (none-fault w) nil refl in
         sym (ap rest o) ∙ ap (λ (x : StateEnd). stepsOf table es (x .state) (drawGrid root s .stream) (k + 1) (done + 1)) t
 

@@ -24,7 +24,7 @@ use Rattle.lent.specs.Calls.{StateEnd, freshEnd, freshOf, trainCallOf}
 use Rattle.lent.specs.Batched.{StepEnd, BatchEnd, batchEnd, batched, unlessRefused, stepsOf, batchOf}
 use Rattle.lent.proofs.States.{stopped, went-on}
 use Rattle.lent.proofs.Objections.{grants, train-objection, train-done}
-use Rattle.lent.proofs.Batches.{step-objected, step-done, trained-onward}
+use Rattle.lent.proofs.Batches.{drawn-objected, drawn-done, trained-onward}
 use Rattle.lent.proofs.FreshState.{fresh-founds}
 use Rattle.grid.specs.Lent.{Deed, stateOf, ending, lentLog}
 use Rattle.grid.specs.Batch.{batchDeeds, Act, one, batch, actState, acted, actDeeds, opened}
@@ -59,7 +59,7 @@ module _ (table : List ℕ) (m : Memory) (s : MonteCarloRng) (e : Float) (es : L
   stepped-by (gives g) h =
       let nil : objectionOf (trainOf root (sampleOf (drawn .sample)) e k) ≡ 0 = ap objectionOf h in
       let taken = absorbed 4 table (drawn .sample) e k 0 0 m in
-      let o = step-done table m s e k fault drawn 0 taken refl (sym nil) refl refl in
+      let o = drawn-done table m s e k fault 0 taken (sym nil) refl refl in
       let t = train-done table m (drawn .sample) e k taken fault nil refl in
       record {
         stops = λ z. absurd (z (sym (ap (λ (x : StateEnd). x .answer) t)));
@@ -67,7 +67,7 @@ module _ (table : List ℕ) (m : Memory) (s : MonteCarloRng) (e : Float) (es : L
       }
   stepped-by (refuses n) h =
       let z : n ≡ 0 → ⊥ = λ y. refused-none n _ (sym h ∙ grants root (drawn .sample) e k (ap objectionOf h ∙ y) .gave) in
-      let o = step-objected table m s e k fault drawn n refl (sym (ap objectionOf h)) z in
+      let o = drawn-objected table m s e k fault n (sym (ap objectionOf h)) z in
       let t = train-objection table m (drawn .sample) e k n fault (sym (ap objectionOf h)) z in
       record {
         stops = λ y. (sym (ap rest o) ∙ stopped n (batchEnd (batched n done s) m) _ z ∙ ap (λ (x : StateEnd). batchEnd (batched (x .answer) done s) m) t, sym (ap (λ (x : StateEnd). x .state) t));

@@ -1,5 +1,5 @@
 -- Draws and trainings one by one on a state that was judged once: a trained state is clear again, so no later draw or training is refused for it.
-use mathlib.Core.Path.{_≡_, refl, sym, ap, ap₂, _∙_}
+use mathlib.Core.Path.{_≡_, refl, sym, ap, _∙_}
 use mathlib.Core.Bool.{Bool, true, false}
 use mathlib.Core.List.{List}
 use Prim.Native.Nat.{ℕ, suc, _+_, _^_, _≤_, _<_}
@@ -92,7 +92,16 @@ module _ (table : List ℕ) (m : Memory) (s : MonteCarloRng) (e : Float) (k : �
   unfolding stepOf stepBy
   step-trains = ap (stepBy table m s e k) drawn
 
-  -- a struct that is the drawn sample, whatever its arrays hold past it
+  pub drawn-objected : (n : ℕ) → n ≡ objectionOf (trainOf root (sampleOf (drawing .sample)) e k) → (n ≡ 0 → ⊥) → stepEnd n s m ≡ stepOf table m s e k
+  unfolding trainedFrom
+  drawn-objected n o z = sym (step-trains ∙ ap (trainedFrom s (drawing .stream)) (sym (train-objection table m (drawing .sample) e k n clear-now o z)) ∙ rw (ne-eqb n 0 z))
+
+  pub drawn-done : (n : ℕ) (m′ : Memory) → n ≡ objectionOf (trainOf root (sampleOf (drawing .sample)) e k) → n ≡ 0 → m′ ≡ absorbed 4 table (drawing .sample) e k 0 0 m → stepEnd n (drawing .stream) m′ ≡ stepOf table m s e k
+  unfolding trainedFrom
+  drawn-done n m′ o z h =
+      ap (λ (j : ℕ). stepEnd j (drawing .stream) m′) z ∙ sym (step-trains ∙ ap (trainedFrom s (drawing .stream)) (sym (train-done table m (drawing .sample) e k m′ clear-now (sym o ∙ z) h)))
+
+  -- the same of a struct that is the drawn sample, whatever its arrays hold past it
   module _ (c : Sample) (n : ℕ) (q : sampleOf c ≡ drawGrid root s .sample) (short : Short 4 (drawGrid root s .sample)) (o : n ≡ objectionOf (trainOf root (sampleOf c) e k)) where
     as-drawn : sampleOf c ≡ sampleOf (drawing .sample)
     unfolding laidDrawing
@@ -102,14 +111,12 @@ module _ (table : List ℕ) (m : Memory) (s : MonteCarloRng) (e : Float) (k : �
     objects = o ∙ ap (λ (x : model.Sample). objectionOf (trainOf root x e k)) as-drawn
 
     pub step-objected : (n ≡ 0 → ⊥) → stepEnd n s m ≡ stepOf table m s e k
-    unfolding trainedFrom
-    step-objected z = sym (step-trains ∙ ap (trainedFrom s (drawing .stream)) (sym (train-objection table m (drawing .sample) e k n clear-now objects z)) ∙ rw (ne-eqb n 0 z))
+    step-objected z = drawn-objected n objects z
 
     pub step-done : (s′ : MonteCarloRng) (m′ : Memory) → sound root ≡ true → s′ ≡ drawGrid root s .stream → n ≡ 0 → m′ ≡ absorbed 4 table c e k 0 0 m → stepEnd n s′ m′ ≡ stepOf table m s e k
-    unfolding trainedFrom laidDrawing
+    unfolding laidDrawing
     step-done s′ m′ well r z h =
-        let left = h ∙ same-left table e k c (drawing .sample) m (takes-root root c e k well (sym o ∙ z)) as-drawn in
-        ap₂ (λ (j : ℕ) (t : MonteCarloRng). stepEnd j t m′) z r ∙ sym (step-trains ∙ ap (trainedFrom s (drawing .stream)) (sym (train-done table m (drawing .sample) e k m′ clear-now (sym objects ∙ z) left)))
+        ap (λ (t : MonteCarloRng). stepEnd n t m′) r ∙ drawn-done n m′ objects z (h ∙ same-left table e k c (drawing .sample) m (takes-root root c e k well (sym o ∙ z)) as-drawn)
 
   -- a step that was not refused leaves a clear state, and its number was at most 2^53, so that the next one's does not overflow
   pub step-onward : (n : ℕ) (s′ : MonteCarloRng) (m′ : Memory) → Words table → stepEnd n s′ m′ ≡ stepOf table m s e k → n ≡ 0 → Cleared table m′ k
