@@ -46,14 +46,14 @@ module _ (weighted : Bool) (a g : StatisticsAccumulator) (e : Iterated) (n all :
       }
 
   pub steps-are : g ≡ gatheredOf a → n ≡ countOf (a .«new_samples») → all ≡ countOf (a .«processed_samples» + a .«new_samples»)
-      → e ≡ iteratedOf weighted (eqb (a .«cur_iter») 0) (figuresOf (a .sum) (a .«sum_sq») n (g .«total_sum») (g .«total_sum_sq») all) (courseOf a)
+      → e ≡ iteratedOf weighted (eqb (a .«cur_iter») 0) (figuresOf weighted (a .sum) (a .«sum_sq») n (g .«total_sum») (g .«total_sum_sq») all (a .«weight_sum»)) (courseOf a)
       → after ≡ processedOf weighted a
   unfolding processedOf gatheredOf courseOf iteratedOf settledOf figuresOf
   steps-are is-g is-n is-all is-e = rw (is-e, is-all, is-n, is-g)
 
 -- the estimates alone, with the plain average
 pub estimates-are : (a : StatisticsAccumulator) (e : Iterated) (n all : Float) → n ≡ countOf (a .«new_samples») → all ≡ countOf (a .«processed_samples» + a .«new_samples»)
-    → e ≡ iteratedOf false (eqb (a .«cur_iter») 0) (figuresOf (a .sum) (a .«sum_sq») n (add binary64 (a .«total_sum») (a .sum)) (add binary64 (a .«total_sum_sq») (a .«sum_sq»)) all) (courseOf a)
+    → e ≡ iteratedOf false (eqb (a .«cur_iter») 0) (figuresOf false (a .sum) (a .«sum_sq») n (add binary64 (a .«total_sum») (a .sum)) (add binary64 (a .«total_sum_sq») (a .«sum_sq»)) all (a .«weight_sum»)) (courseOf a)
     → e .estimate ≡ estimatesOf (processedOf false a)
 unfolding estimatesOf processedOf courseOf iteratedOf settledOf figuresOf
 estimates-are a e n all is-n is-all is-e = rw (is-e, is-all, is-n)

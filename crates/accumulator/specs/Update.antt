@@ -25,17 +25,14 @@ varianceOf mean squares n = varianceFrom mean (rootOf squares) n
 unfoldable pub weightOf : Float → Float
 weightOf variance = cond (eq variance zero64) (ofBits binary64 0x43f0_0000_0000_0000) (invOf variance)
 
--- the figures of an iteration's n samples and of all samples, from the sums of both and of their squares
-unfoldable pub figuresOf : Float → Float → Float → Float → Float → Float → Figures
-figuresOf sum sumSq n total totalSq all =
+-- the figures of an iteration's n samples and of all samples, from the sums of both and of their squares, and the weight of all iterations before
+unfoldable pub figuresOf : Bool → Float → Float → Float → Float → Float → Float → Float → Figures
+figuresOf weighted sum sumSq n total totalSq all weights =
     let mean = div binary64 sum n in
     let avg = div binary64 total all in
-    record {
-      mean = mean;
-      weight = weightOf (varianceOf mean (div binary64 sumSq n) n);
-      avg = avg;
-      spread = varianceOf avg (div binary64 totalSq all) all;
-    }
+    let weight = weightOf (varianceOf mean (div binary64 sumSq n) n) in
+    let sigma = invOf (add binary64 weights weight) in
+    record { mean = mean; weight = weight; avg = avg; err = cond weighted (rootOf sigma) (rootOf (varianceOf avg (div binary64 totalSq all) all)); sigma = sigma }
 
 -- the waiting samples among the processed ones, one iteration on; the estimates stay
 unfoldable pub gatheredOf : StatisticsAccumulator → StatisticsAccumulator
@@ -82,18 +79,17 @@ settledOf c f first =
       guess = guess;
     }
 
--- the course after an iteration, and the estimates then
+-- the course after an iteration with these figures, and the estimates then
 unfoldable pub iteratedOf : Bool → Bool → Figures → Course → Iterated
 iteratedOf weighted first f c =
     let r = settledOf c f first in
-    let sigma = invOf (r .«weight_sum») in
-    let weightedMean = mul binary64 sigma (r .«avg_sum») in
+    let weightedMean = mul binary64 (f .sigma) (r .«avg_sum») in
     record {
       course = r;
       estimate =
           record {
             avg = cond weighted weightedMean (f .avg);
-            err = cond weighted (rootOf sigma) (rootOf (f .spread));
+            err = f .err;
             «chi_sq» = sub binary64 (r .«chi_sq_sum») (mul binary64 weightedMean (r .«chi_sum»));
           };
     }

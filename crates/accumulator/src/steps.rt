@@ -110,12 +110,15 @@ pub fn copied(a: StatisticsAccumulator) -> StatisticsAccumulator
     r
 }
 
-// What an iteration's samples say, its mean and its weight; and the plain mean of all samples with its variance.
+// What an iteration comes to: its samples' mean and weight; the plain mean of all samples; the error, and the weighted mean's variance.
+// The two quotients avg and sigma stand apart: side by side the compiler would divide for both at once, and the first would wait for
+// the weight.
 struct Figures {
     mean: f64,
     weight: f64,
     avg: f64,
-    spread: f64,
+    err: f64,
+    sigma: f64,
 }
 
 // The variance of a mean, from the root of the mean square, with no clamp: rounding may take it below zero.
@@ -135,18 +138,34 @@ fn weight(variance: f64) -> f64
     plain::inv(variance)
 }
 
-// The figures of an iteration's n samples and of all samples. The two roots are taken together.
-fn figures_of(sum: f64, sum_sq: f64, n: f64, total: f64, total_sq: f64, all: f64) -> Figures
-    ensures { λ r. ⌜ r ≡ figuresOf sum «sum_sq» n total «total_sq» all ⌝ }
+// The figures of an iteration's n samples and of all samples, after iterations of this weight in all. The first two roots are taken
+// together. An update and a live estimate call this function, so that it stays a call; it hands on numbers alone, and what a record
+// keeps need not pass through memory.
+fn figures_of(
+    weighted: bool,
+    sum: f64,
+    sum_sq: f64,
+    n: f64,
+    total: f64,
+    total_sq: f64,
+    all: f64,
+    weight_sum: f64,
+) -> Figures
+    ensures { λ r. ⌜ r ≡ figuresOf weighted sum «sum_sq» n total «total_sq» all «weight_sum» ⌝ }
 {
     let mean = sum / n;
     let avg = total / all;
     let roots = root::sqrts(sum_sq / n, total_sq / all);
+    let weight = weight(variance(mean, roots.first, n));
+    let sigma = plain::inv(weight_sum + weight);
+    let spread = variance(avg, roots.second, all);
+    let err = root::sqrt(either(weighted, sigma, spread));
     Figures {
-        mean: mean,
-        weight: weight(variance(mean, roots.first, n)),
-        avg: avg,
-        spread: variance(avg, roots.second, all),
+        mean,
+        weight,
+        avg,
+        err,
+        sigma,
     }
 }
 
@@ -207,27 +226,14 @@ struct Iterated {
     estimate: Estimate,
 }
 
-// The course after an iteration of n samples, with all samples so far, and the estimates then. Two functions call this one, so that it stays
-// a call, and what stands around it is small enough to be inlined wherever a record is updated.
-fn iterate(
-    weighted: bool,
-    first: bool,
-    sum: f64,
-    sum_sq: f64,
-    n: f64,
-    total: f64,
-    total_sq: f64,
-    all: f64,
-    c: Course,
-) -> Iterated
-    ensures { λ r. ⌜ r ≡ iteratedOf weighted first (figuresOf sum «sum_sq» n total «total_sq» all) c ⌝ }
+// The course after an iteration with these figures, and the estimates then.
+fn iterate(weighted: bool, first: bool, f: Figures, c: Course) -> Iterated
+    ensures { λ r. ⌜ r ≡ iteratedOf weighted first f c ⌝ }
 {
-    let f = figures_of(sum, sum_sq, n, total, total_sq, all);
     let after = settled(c, f, first);
-    let sigma = plain::inv(after.weight_sum);
-    let weighted_avg = sigma * after.avg_sum;
+    let weighted_avg = f.sigma * after.avg_sum;
     let avg = either(weighted, weighted_avg, f.avg);
-    let err = root::sqrt(either(weighted, sigma, f.spread));
+    let err = f.err;
     let chi_sq = after.chi_sq_sum - weighted_avg * after.chi_sum;
     Iterated {
         course: after,
@@ -243,17 +249,17 @@ fn processed(weighted: bool, a: StatisticsAccumulator) -> StatisticsAccumulator
     let mut r = gathered(a);
     let n = a.new_samples as f64;
     let all = (a.processed_samples as f64) + n;
-    let e = iterate(
+    let f = figures_of(
         weighted,
-        a.cur_iter == 0,
         a.sum,
         a.sum_sq,
         n,
         r.total_sum,
         r.total_sum_sq,
         all,
-        course_of(a),
+        a.weight_sum,
     );
+    let e = iterate(weighted, a.cur_iter == 0, f, course_of(a));
     r.weight_sum = e.course.weight_sum;
     r.avg_sum = e.course.avg_sum;
     r.chi_sum = e.course.chi_sum;
@@ -307,16 +313,16 @@ pub fn live(a: StatisticsAccumulator) -> Estimate
     let all = (a.processed_samples as f64) + n;
     let total = a.total_sum + a.sum;
     let total_sq = a.total_sum_sq + a.sum_sq;
-    let e = iterate(
+    let f = figures_of(
         false,
-        a.cur_iter == 0,
         a.sum,
         a.sum_sq,
         n,
         total,
         total_sq,
         all,
-        course_of(a),
+        a.weight_sum,
     );
+    let e = iterate(false, a.cur_iter == 0, f, course_of(a));
     e.estimate
 }

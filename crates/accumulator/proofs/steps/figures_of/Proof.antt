@@ -1,6 +1,7 @@
--- The calls, put together, are the definition.
+-- The calls, put together, are the definition: the root of the variance that was chosen is the chosen root.
 use Rattle.root.specs.Pair.{rootsOf}
 use Rattle.accumulator.specs.Update.{varianceOf, figuresOf}
+use Rattle.accumulator.proofs.Processed.{root-of-choice}
 use Rattle.accumulator.proofs.steps.figures_of.Statement.{statement}
 use Rattle.accumulator.proofs.steps.figures_of.Tie as tie
 
@@ -13,14 +14,41 @@ variance-requires c κs = tt
 weight-requires : tie.Need-weight-requires
 weight-requires c κs = tt
 
+inv-requires : tie.Need-inv-requires
+inv-requires c κs = tt
+
 variance-requires-2 : tie.Need-variance-requires-2
 variance-requires-2 c κs = tt
 
+either-requires : tie.Need-either-requires
+either-requires c κs = tt
+
+sqrt-requires : tie.Need-sqrt-requires
+sqrt-requires c κs = tt
+
 returns : tie.Need-returns
 unfolding figuresOf varianceOf rootsOf
-returns c = rw (c .variance2 .ensures, c .before .weight .ensures, c .before .before .variance .ensures, c .before .before .before .sqrts .ensures)
+returns c =
+    rw (
+      c .sqrt .ensures,
+      c .before .either .ensures,
+      root-of-choice _ _ _,
+      c .before .before .variance2 .ensures,
+      c .before .before .before .inv .ensures,
+      c .before .before .before .before .weight .ensures,
+      c .before .before .before .before .before .variance .ensures,
+      c .before .before .before .before .before .before .sqrts .ensures,
+    )
 
 pub figures-of-spec : {M : Type 1} → statement M
 figures-of-spec =
     tie.close
-    (tie.spec sqrts-requires variance-requires weight-requires variance-requires-2 returns)
+    (tie.spec
+    sqrts-requires
+    variance-requires
+    weight-requires
+    inv-requires
+    variance-requires-2
+    either-requires
+    sqrt-requires
+    returns)

@@ -20,6 +20,9 @@ int-to-float-n c = exact _ (within _ (c .before .before .before .pre) .waiting)
 int-to-float-all : tie.Need-int-to-float-all
 int-to-float-all c = exact _ (within _ (c .before .before .before .before .pre) .processed)
 
+figures-of-requires : tie.Need-figures-of-requires
+figures-of-requires c κs = tt
+
 course-of-requires : tie.Need-course-of-requires
 course-of-requires c κs = tt
 
@@ -29,11 +32,11 @@ iterate-requires c κs = tt
 returns-2 : tie.Need-returns-2
 unfolding updatedOf enough countOf
 returns-2 c =
-    rw (le-leb _ _ (c .before .before .before .before .before .before .before .before .if1 .left))
+    rw (le-leb _ _ (c .before .before .before .before .before .before .before .before .before .if1 .left))
     (estimates-are _ _ _ _
     refl
-    (all-count _ (c .before .before .before .before .before .before .before .before .before .before .pre))
-    (rw (c .before .before .course-of .ensures) at (c .before .iterate .ensures)))
+    (all-count _ (c .before .before .before .before .before .before .before .before .before .before .before .pre))
+    (rw (c .before .before .course-of .ensures, c .before .before .before .before .figures-of .ensures) at (c .before .iterate .ensures)))
 
 pub live-spec : {M : Type 1} → statement M
 live-spec =
@@ -42,6 +45,7 @@ live-spec =
     returns
     int-to-float-n
     int-to-float-all
+    figures-of-requires
     course-of-requires
     iterate-requires
     returns-2)

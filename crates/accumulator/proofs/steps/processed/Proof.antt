@@ -16,6 +16,9 @@ int-to-float-n c = exact _ (within _ (c .before .before .pre) .waiting)
 int-to-float-all : tie.Need-int-to-float-all
 int-to-float-all c = exact _ (within _ (c .before .before .before .pre) .processed)
 
+figures-of-requires : tie.Need-figures-of-requires
+figures-of-requires c κs = tt
+
 course-of-requires : tie.Need-course-of-requires
 course-of-requires c κs = tt
 
@@ -26,10 +29,10 @@ returns : tie.Need-returns
 unfolding countOf
 returns c =
     steps-are _ _ _ _ _ _
-    (c .before .before .before .before .before .gathered .ensures)
+    (c .before .before .before .before .before .before .gathered .ensures)
     refl
-    (all-count _ (c .before .before .before .before .before .before .pre))
-    (rw (c .before .course-of .ensures) at (c .iterate .ensures))
+    (all-count _ (c .before .before .before .before .before .before .before .pre))
+    (rw (c .before .course-of .ensures, c .before .before .before .figures-of .ensures) at (c .iterate .ensures))
 
 pub processed-spec : {M : Type 1} → statement M
 processed-spec =
@@ -38,6 +41,7 @@ processed-spec =
     gathered-requires
     int-to-float-n
     int-to-float-all
+    figures-of-requires
     course-of-requires
     iterate-requires
     returns)
