@@ -23,7 +23,7 @@ use Rattle.lent.specs.Drawn.{axesAt}
 use Rattle.lent.specs.Tree.{axesPlanAt, axesPlace, axesGridAt, binIn, childIn, binsIn, AxesLaid}
 use Rattle.lent.specs.Trained.{binsOn, trainedAt, trainedOver, Cell}
 use Rattle.lent.specs.Absorbed.{pathLeft, weightsLeft, placesIn, Takes, gainAt, gained, absorbedAxes}
-use Rattle.lent.proofs.Same.{Same, same-sym}
+use Rattle.lent.proofs.Same.{same-sym}
 use Rattle.lent.proofs.Reading.{record-same, axes-same}
 use Rattle.lent.proofs.Over.{over-below, over-above}
 use Rattle.lent.proofs.Trains.{trained-frames, trained-local}
@@ -135,9 +135,9 @@ above zero (suc i) n h = absurd (omega arith)
 above (suc j) zero n h = omega arith
 above (suc j) (suc i) n h = let q = above j i (λ e. n (ap suc e)) (omega arith) in omega arith
 
--- ---- a bins grid's own: its accumulator and that of bin i, once what hangs below it was written
+-- ---- a bins grid's own: its accumulator and that of bin i
 
-module _ (table : List ℕ) (w i : ℕ) (m below : Memory) (own inner : Gain) where
+module _ (table : List ℕ) (w i : ℕ) (m : Memory) (own inner : Gain) where
   abbrev BR : ℕ
   BR = getD table (w + 5) 0
 
@@ -154,66 +154,61 @@ module _ (table : List ℕ) (w i : ℕ) (m below : Memory) (own inner : Gain) wh
   place j = BC + 7 + 7 * j
 
   abbrev near : Memory
-  near = gained (spot i) (place i) inner below
+  near = gained (spot i) (place i) inner m
 
-  abbrev last : Memory
-  last = gained BR BC own near
+  abbrev put : Memory
+  put = gained BR BC own near
 
-  module _ (u u′ c c′ : ℕ) (inside : i < BN) (room : BR + 14 + 15 * BN ≤ length (m .reals)) (places : BC + 7 + 7 * BN ≤ length (m .counts))
-      (past : BR + 14 + 15 * BN ≤ u) (after : BC + 7 + 7 * BN ≤ c) (deep : Within u u′ c c′ m below) where
-    abbrev first : Within (spot i) (spot i + 14) (place i) (place i + 7) below near
-    first = gained-within (spot i) (place i) inner below
+  module _ (inside : i < BN) where
+    abbrev first : Within (spot i) (spot i + 14) (place i) (place i + 7) m near
+    first = gained-within (spot i) (place i) inner m
 
-    abbrev second : Within BR (BR + 14) BC (BC + 7) near last
+    abbrev second : Within BR (BR + 14) BC (BC + 7) near put
     second = gained-within BR BC own near
 
-    size : length (near .reals) ≡ length (m .reals)
-    size = first .low 0 0 (omega arith) .size ∙ deep .low 0 0 (omega arith) .size
-
-    sizes : length (near .counts) ≡ length (m .counts)
-    sizes = first .few 0 0 (omega arith) .size ∙ deep .few 0 0 (omega arith) .size
-
-    pub own-within : Within BR (BR + 14 + 15 * BN) BC (BC + 7 + 7 * BN) below last
+    pub own-within : Within BR (BR + 14 + 15 * BN) BC (BC + 7 + 7 * BN) m put
     own-within =
-        within-on BR (BR + 14 + 15 * BN) BC (BC + 7 + 7 * BN) (spot i) (spot i + 14) (place i) (place i + 7) BR (BR + 14) BC (BC + 7) below near last (omega arith) (omega arith) (omega arith) (omega arith)
+        within-on BR (BR + 14 + 15 * BN) BC (BC + 7 + 7 * BN) (spot i) (spot i + 14) (place i) (place i + 7) BR (BR + 14) BC (BC + 7) m near put (omega arith) (omega arith) (omega arith) (omega arith)
         (omega arith) (omega arith) (omega arith) (omega arith) first second
 
-    pub head-read : recordAt (last .reals) (last .counts) BR BC ≡ withGain (recordAt (m .reals) (m .counts) BR BC) own
-    head-read =
-        gained-record BR BC own near (omega (arith, size)) (omega (arith, sizes))
-        ∙ ap (λ (a : StatisticsAccumulator). withGain a own)
-        (record-same BR BC (near .reals) (below .reals) (near .counts) (below .counts) (first .low BR (BR + 14) (omega arith)) (first .few BC (BC + 7) (omega arith))
-        ∙ record-same BR BC (below .reals) (m .reals) (below .counts) (m .counts) (deep .low BR (BR + 14) (omega arith)) (deep .few BC (BC + 7) (omega arith)))
+    -- read once what hangs below took the sample too
+    module _ (last : Memory) (u u′ c c′ : ℕ) (room : BR + 14 + 15 * BN ≤ length (m .reals)) (places : BC + 7 + 7 * BN ≤ length (m .counts))
+        (past : BR + 14 + 15 * BN ≤ u) (after : BC + 7 + 7 * BN ≤ c) (deep : Within u u′ c c′ put last) where
+      kept : (r k : ℕ) → r + 14 ≤ BR + 14 + 15 * BN → k + 7 ≤ BC + 7 + 7 * BN → recordAt (last .reals) (last .counts) r k ≡ recordAt (put .reals) (put .counts) r k
+      kept r k h j = record-same r k (last .reals) (put .reals) (last .counts) (put .counts) (deep .low r (r + 14) (omega arith)) (deep .few k (k + 7) (omega arith))
 
-    pub spot-read : recordAt (last .reals) (last .counts) (spot i) (place i) ≡ withGain (recordAt (m .reals) (m .counts) (spot i) (place i)) inner
-    spot-read =
-        record-same (spot i) (place i) (last .reals) (near .reals) (last .counts) (near .counts) (second .high (spot i) (spot i + 14) (omega arith)) (second .many (place i) (place i + 7) (omega arith))
-        ∙ gained-record (spot i) (place i) inner below (omega (arith, deep .low 0 0 (omega arith) .size)) (omega (arith, deep .few 0 0 (omega arith) .size))
-        ∙ ap (λ (a : StatisticsAccumulator). withGain a inner)
-        (record-same (spot i) (place i) (below .reals) (m .reals) (below .counts) (m .counts) (deep .low (spot i) (spot i + 14) (omega arith)) (deep .few (place i) (place i + 7) (omega arith)))
+      pub head-read : recordAt (last .reals) (last .counts) BR BC ≡ withGain (recordAt (m .reals) (m .counts) BR BC) own
+      head-read =
+          kept BR BC (omega arith) (omega arith)
+          ∙ gained-record BR BC own near (omega (arith, first .low 0 0 (omega arith) .size)) (omega (arith, first .few 0 0 (omega arith) .size))
+          ∙ ap (λ (a : StatisticsAccumulator). withGain a own)
+          (record-same BR BC (near .reals) (m .reals) (near .counts) (m .counts) (first .low BR (BR + 14) (omega arith)) (first .few BC (BC + 7) (omega arith)))
 
-    pub chance-read : (j : ℕ) → j < BN → getD (last .reals) (BR + 14 + j) nan ≡ getD (m .reals) (BR + 14 + j) nan
-    chance-read j h =
-        second .high (BR + 14 + j) (BR + 14 + j + 1) (omega arith) .cells (BR + 14 + j) (omega arith) (omega arith)
-        ∙ first .low (BR + 14 + j) (BR + 14 + j + 1) (omega arith) .cells (BR + 14 + j) (omega arith) (omega arith)
-        ∙ deep .low (BR + 14 + j) (BR + 14 + j + 1) (omega arith) .cells (BR + 14 + j) (omega arith) (omega arith)
+      -- bin j's, as it was before the grid's own was put
+      beside : (j : ℕ) → j < BN → recordAt (last .reals) (last .counts) (spot j) (place j) ≡ recordAt (near .reals) (near .counts) (spot j) (place j)
+      beside j h =
+          kept (spot j) (place j) (omega arith) (omega arith)
+          ∙ record-same (spot j) (place j) (put .reals) (near .reals) (put .counts) (near .counts) (second .high (spot j) (spot j + 14) (omega arith)) (second .many (place j) (place j + 7) (omega arith))
 
-    -- beside the touched one
-    beside : (j : ℕ) → j < BN → (lo : Same nan (spot j) (spot j + 14) (near .reals) (below .reals)) (hi : Same 0 (place j) (place j + 7) (near .counts) (below .counts))
-        → recordAt (last .reals) (last .counts) (spot j) (place j) ≡ recordAt (m .reals) (m .counts) (spot j) (place j)
-    beside j h lo hi =
-        record-same (spot j) (place j) (last .reals) (near .reals) (last .counts) (near .counts) (second .high (spot j) (spot j + 14) (omega arith)) (second .many (place j) (place j + 7) (omega arith))
-        ∙ record-same (spot j) (place j) (near .reals) (below .reals) (near .counts) (below .counts) lo hi
-        ∙ record-same (spot j) (place j) (below .reals) (m .reals) (below .counts) (m .counts) (deep .low (spot j) (spot j + 14) (omega arith)) (deep .few (place j) (place j + 7) (omega arith))
+      pub spot-read : recordAt (last .reals) (last .counts) (spot i) (place i) ≡ withGain (recordAt (m .reals) (m .counts) (spot i) (place i)) inner
+      spot-read = beside i inside ∙ gained-record (spot i) (place i) inner m (omega arith) (omega arith)
 
-    pub other-read : (j : ℕ) → j < BN → j ≢ i → recordAt (last .reals) (last .counts) (spot j) (place j) ≡ recordAt (m .reals) (m .counts) (spot j) (place j)
-    other-read j h n = told (ltb j i) refl
-      where
-        told : (b : Bool) → ltb j i ≡ b → recordAt (last .reals) (last .counts) (spot j) (place j) ≡ recordAt (m .reals) (m .counts) (spot j) (place j)
-        told true e = let q : j < i = ltb-true j i e in beside j h (first .low (spot j) (spot j + 14) (omega arith)) (first .few (place j) (place j + 7) (omega arith))
-        told false e =
-            let q : i < j = above j i n (ltb-false j i e) in
-            beside j h (first .high (spot j) (spot j + 14) (omega arith)) (first .many (place j) (place j + 7) (omega arith))
+      pub chance-read : (j : ℕ) → j < BN → getD (last .reals) (BR + 14 + j) nan ≡ getD (m .reals) (BR + 14 + j) nan
+      chance-read j h =
+          deep .low (BR + 14 + j) (BR + 14 + j + 1) (omega arith) .cells (BR + 14 + j) (omega arith) (omega arith)
+          ∙ second .high (BR + 14 + j) (BR + 14 + j + 1) (omega arith) .cells (BR + 14 + j) (omega arith) (omega arith)
+          ∙ first .low (BR + 14 + j) (BR + 14 + j + 1) (omega arith) .cells (BR + 14 + j) (omega arith) (omega arith)
+
+      pub other-read : (j : ℕ) → j < BN → j ≢ i → recordAt (last .reals) (last .counts) (spot j) (place j) ≡ recordAt (m .reals) (m .counts) (spot j) (place j)
+      other-read j h n = beside j h ∙ told (ltb j i) refl
+        where
+          told : (b : Bool) → ltb j i ≡ b → recordAt (near .reals) (near .counts) (spot j) (place j) ≡ recordAt (m .reals) (m .counts) (spot j) (place j)
+          told true e =
+              let q : j < i = ltb-true j i e in
+              record-same (spot j) (place j) (near .reals) (m .reals) (near .counts) (m .counts) (first .low (spot j) (spot j + 14) (omega arith)) (first .few (place j) (place j + 7) (omega arith))
+          told false e =
+              let q : i < j = above j i n (ltb-false j i e) in
+              record-same (spot j) (place j) (near .reals) (m .reals) (near .counts) (m .counts) (first .high (spot j) (spot j + 14) (omega arith)) (first .many (place j) (place j + 7) (omega arith))
 
 -- ---- the bins, one by one
 

@@ -24,30 +24,29 @@ use Rattle.plan.proofs.Tables.{Words}
 use Rattle.plan.proofs.Rereads.{taken-words}
 use Rattle.plan.proofs.Records.{Stands, Upto, axes-record, bins-record, child-record, passed-stands}
 use Rattle.model.specs.Grid as model
-use Rattle.model.specs.Sound.{sound, formedGrid, formedChild, keptChild}
+use Rattle.model.specs.Sound.{sound, formedChild, keptChild}
 use Rattle.model.specs.Train.{trainGrid, trainBin, trainChild, trainOf}
 use Rattle.lent.specs.declared.Sample.{Sample}
 use Rattle.lent.specs.declared.Gain.{Gain}
 use Rattle.lent.specs.Memory.{Memory, recordAt}
 use Rattle.lent.specs.Sampled.{soundChild, sampleOf}
-use Rattle.lent.specs.Tree.{axesGridAt, headAt, binIn, childIn, binsIn, nodeAt, gridAt}
-use Rattle.lent.specs.Absorbed.{pathLeft, weightsLeft, placesIn, Takes, TakesChild, gainAt, absorbedChild, absorbedBin, absorbedBins, absorbedNode, absorbed, objectionOf}
+use Rattle.lent.specs.Tree.{axesGridAt, headAt, binIn, childIn, binsIn, nodeAt, gridAt, BinsLaid, Laid}
+use Rattle.lent.specs.Absorbed.{pathLeft, weightsLeft, placesIn, Takes, TakesChild, gainAt, gained, absorbedChild, absorbedBin, absorbedBins, absorbedNode, absorbed, objectionOf}
 use Rattle.lent.specs.State.{rootOf, stateFault}
 use Rattle.lent.specs.Calls.{onState, StateEnd, stateEnd, trainedBy, trainCallOf}
 use Rattle.lent.proofs.Same.{Same, Alike, same-alike, same-sym, same-on}
-use Rattle.lent.proofs.Laid.{stands-laid, laid-axes}
+use Rattle.lent.proofs.Laid.{stands-laid, stands-bins, laid-axes}
 use Rattle.lent.proofs.Sounds.{node-axes}
 use Rattle.lent.proofs.States.{clear}
 use Rattle.lent.proofs.Samples.{sound-in, sound-below}
 use Rattle.lent.proofs.Fitting.{one-left}
 use Rattle.lent.proofs.FoundedOwn.{Within, within-same, within-on}
 use Rattle.lent.proofs.Trees.{axes-differ, bins-differ, taken-reals, taken-counts, below}
-use Rattle.lent.proofs.Alike.{grid-alike}
 use Rattle.lent.proofs.Children.{stands-in, behind, alike-grid}
 use Rattle.lent.proofs.Accepts.{formed, takes-below, takes-grid}
-use Rattle.lent.proofs.Absorbs.{absorbed-axes}
+use Rattle.lent.proofs.Absorbs.{child-still, absorbed-axes}
 use Rattle.lent.proofs.Objections.{whole, grants, takes-root, train-done}
-use Rattle.lent.proofs.Formed.{grid-formed, sound-formed, sound-trained}
+use Rattle.lent.proofs.Formed.{sound-trained}
 use Rattle.lent.proofs.Gains.{gain-all}
 use Rattle.lent.proofs.AbsorbedOwn.{axes-within, axes-grid-read, above, own-within, head-read, spot-read, chance-read, other-read, bins-absorbed}
 
@@ -104,11 +103,10 @@ module _ (xs : List ℕ) (s : Sample) (e : Float) (k : ℕ) where
       })
 
   module _ (l : ℕ) (deeper : Ties l) where
-    -- ---- what hangs at a link: any memory that is alike there reads as the model's
+    -- ---- what hangs at a link
     abbrev Hung : (q : Tree) (u : Tally) (at d : ℕ) (m : Memory) → Type 0
-    Hung q u at d m = Within (u .reals) (after q u .reals) (u .counts) (after q u .counts) m (absorbedChild (step l) at d m)
-        × ((n : Memory) → Alike nan (u .reals) (after q u .reals) (absorbedChild (step l) at d m .reals) (n .reals) → Alike 0 (u .counts) (after q u .counts) (absorbedChild (step l) at d m .counts) (n .counts)
-        → childIn (gridAt l xs (n .reals) (n .counts)) at ≡ trainedChild d (childIn (gridAt l xs (m .reals) (m .counts)) at))
+    Hung q u at d m =
+        Tied (u .reals) (after q u .reals) (u .counts) (after q u .counts) m (absorbedChild (step l) at d m) (λ (n : Memory). childIn (gridAt l xs (n .reals) (n .counts)) at) (trainedChild d (childIn (gridAt l xs (m .reals) (m .counts)) at))
 
     hung : (q : Tree) (u : Tally) (at d : ℕ) (m : Memory) → (q ≡ nothing → ⊥) → at ≡ u .words → 1 ≤ u .words → Stands xs l q u → after q u .reals ≤ length (m .reals) → after q u .counts ≤ length (m .counts)
         → TakesChild (childIn (gridAt l xs (m .reals) (m .counts)) at) s d k → Hung q u at d m
@@ -116,18 +114,13 @@ module _ (xs : List ℕ) (s : Sample) (e : Float) (k : ℕ) where
     hung q u at d m there a n st h j t =
         let z : at ≡ 0 → ⊥ = λ r. absurd (omega arith) in
         let G = gridAt l xs (m .reals) (m .counts) in
-        let takes : Takes (G (u .words)) s d k = subst (λ (o : ℕ). Takes (G o) s d k) a (takes-grid G at s d k z t) in
-        let f = deeper q u m d there st h j takes in
-        let m′ = step l (u .words) d m in
-        let size : length (m′ .reals) ≡ length (m .reals) = f .within .low 0 0 (omega arith) .size in
-        let sizes : length (m′ .counts) ≡ length (m .counts) = f .within .few 0 0 (omega arith) .size in
-        let form : formedGrid (gridAt l xs (m′ .reals) (m′ .counts) (u .words)) ≡ true = ap formedGrid (f .reads) ∙ grid-formed (G (u .words)) (pathLeft s d) (weightsLeft s d) (placesIn s) e k ∙ sound-formed (G (u .words)) (takes .well) in
-        rw (ne-eqb at 0 z, a) (f .within, λ o x y. ap model.grid (sym (grid-alike xs (m′ .reals) (o .reals) (m′ .counts) (o .counts) l q u there st (omega (arith, h)) (omega (arith, j)) form x y) ∙ f .reads))
+        let f = deeper q u m d there st h j (subst (λ (o : ℕ). Takes (G o) s d k) a (takes-grid G at s d k z t)) in
+        rw (ne-eqb at 0 z, a) (record { within = f .within; reads = ap model.grid (f .reads) })
 
     pick : (q : Tree) (u : Tally) (at d : ℕ) (m : Memory) → at ≡ link q u → 1 ≤ u .words → Stands xs l q u → after q u .reals ≤ length (m .reals) → after q u .counts ≤ length (m .counts)
         → TakesChild (childIn (gridAt l xs (m .reals) (m .counts)) at) s d k → Hung q u at d m
     unfolding link absorbedChild childIn trainChild after
-    pick nothing u at d m a n st h j t = rw a (within-same (u .reals) (u .reals) (u .counts) (u .counts) m, λ o x y. refl)
+    pick nothing u at d m a n st h j t = rw a (record { within = within-same (u .reals) (u .reals) (u .counts) (u .counts) m; reads = refl })
     pick (axes b es) u at d m a n st h j t = hung (axes b es) u at d m (axes-differ b es) a n st h j t
     pick (bins b ts) u at d m a n st h j t = hung (bins b ts) u at d m (bins-differ b ts) a n st h j t
 
@@ -147,17 +140,17 @@ module _ (xs : List ℕ) (s : Sample) (e : Float) (k : ℕ) where
       N = getD xs (y .words + 2) 0
 
       -- another child, out of memory that is alike on what it takes
-      other-child : (j : ℕ) (m n : Memory) → j < b .bins → end .reals ≤ length (m .reals) → end .counts ≤ length (m .counts) → formedChild (childIn (gridAt l xs (m .reals) (m .counts)) (at j)) ≡ true
+      other-child : (j : ℕ) (m n : Memory) → j < b .bins → formedChild (childIn (gridAt l xs (m .reals) (m .counts)) (at j)) ≡ true
           → Alike nan (before ts j own .reals) (after (childAt ts j) (before ts j own) .reals) (m .reals) (n .reals)
           → Alike 0 (before ts j own .counts) (after (childAt ts j) (before ts j own) .counts) (m .counts) (n .counts)
           → childIn (gridAt l xs (n .reals) (n .counts)) (at j) ≡ childIn (gridAt l xs (m .reals) (m .counts)) (at j)
       unfolding childIn formedChild
-      other-child j m n c h g f x z = told (eqb (at j) 0) refl f
+      other-child j m n c f x z = told (eqb (at j) 0) refl f
         where
           told : (o : Bool) → eqb (at j) 0 ≡ o → formedChild (cond o model.nothing (model.grid (gridAt l xs (m .reals) (m .counts) (at j)))) ≡ true
               → cond o model.nothing (model.grid (gridAt l xs (n .reals) (n .counts) (at j))) ≡ cond o model.nothing (model.grid (gridAt l xs (m .reals) (m .counts) (at j)))
           told true o q = refl
-          told false o q = ap model.grid (sym (alike-grid xs l b ts y st j m n c h g (eqb-false (at j) 0 o) q x z))
+          told false o q = ap model.grid (sym (alike-grid xs l b ts y st j m n c (eqb-false (at j) 0 o) q x z))
 
       -- ---- one step at this bins grid
 
@@ -190,9 +183,6 @@ module _ (xs : List ℕ) (s : Sample) (e : Float) (k : ℕ) where
         abbrev u′ : Tally
         u′ = after (childAt ts i) (before ts i own)
 
-        abbrev deep : Memory
-        deep = absorbedChild (absorbed l xs s e k) (at i) (d + 1) m
-
         abbrev spot : ℕ → ℕ
         spot j = R + 14 + N + 14 * j
 
@@ -207,6 +197,9 @@ module _ (xs : List ℕ) (s : Sample) (e : Float) (k : ℕ) where
 
         abbrev outer : Gain
         outer = gainAt R C (mul binary64 e v) k m
+
+        abbrev put : Memory
+        put = gained R C outer (gained (spot i) (place i) inner m)
 
         abbrev last : Memory
         last = absorbedBin (absorbed l xs s e k) xs v e k w d i m
@@ -233,36 +226,37 @@ module _ (xs : List ℕ) (s : Sample) (e : Float) (k : ℕ) where
         upto-end : (j : ℕ) → j < N → Upto (after (childAt ts j) (before ts j own)) end
         upto-end j o = child-record xs (suc l) b ts y j st (omega (arith, as-many)) .inside
 
-        room : R + 14 + 15 * N ≤ length (m .reals)
-        room = let a = below b ts y in omega (arith, a .reals, taken-reals b y, from-reals, as-many, h)
+        abbrev laid : BinsLaid (Laid l xs (length (m .reals)) (length (m .counts))) xs (length (m .reals)) (length (m .counts)) w
+        laid = stands-bins xs (length (m .reals)) (length (m .counts)) l b ts y st h g
 
-        places : C + 7 + 7 * N ≤ length (m .counts)
-        places = let a = below b ts y in omega (arith, a .counts, taken-counts b y, from-counts, as-many, g)
+        -- what was put keeps to the grid's own
+        touched : Within R (R + 14 + 15 * N) C (C + 7 + 7 * N) m put
+        touched = own-within xs w i m outer inner inside
 
-        child : Hung (childAt ts i) u (at i) (d + 1) m
+        child : Tied (u .reals) (u′ .reals) (u .counts) (u′ .counts) put last (λ (n : Memory). childIn (gridAt l xs (n .reals) (n .counts)) (at i)) (trainedChild (d + 1) (childIn F (at i)))
+        unfolding absorbedBin
         child =
             let r = child-record xs (suc l) b ts y i st (omega (arith, as-many, inside)) in
             let z = upto-end i inside in
-            pick (childAt ts i) u (at i) (d + 1) m (r .linked) (omega (arith, r .behind .words, taken-words b y)) (stands-in xs l b ts y st i (omega (arith, as-many, inside))) (omega (arith, z .reals, h)) (omega (arith, z .counts, g))
-            (takes-below F xs (m .reals) (m .counts) w N H s d k t)
-
-        touched : Within R (R + 14 + 15 * N) C (C + 7 + 7 * N) deep last
-        unfolding absorbedBin
-        touched = own-within xs w i m deep outer inner (u .reals) (u′ .reals) (u .counts) (u′ .counts) inside room places (past i inside .0) (past i inside .1) (child .0)
+            let still = child-still l xs w m laid outer inner (gained (spot i) (place i) inner m) put s d k t refl refl in
+            let o = pick (childAt ts i) u (at i) (d + 1) put (r .linked) (omega (arith, r .behind .words, taken-words b y)) (stands-in xs l b ts y st i (omega (arith, as-many, inside)))
+            (omega (arith, z .reals, h, touched .low 0 0 (omega arith) .size)) (omega (arith, z .counts, g, touched .few 0 0 (omega arith) .size))
+            (subst (λ (c : model.Child). TakesChild c s (d + 1) k) still (takes-below F xs (m .reals) (m .counts) w N H s d k t)) in
+            record { within = o .within; reads = o .reads ∙ sym (ap (trainedChild (d + 1)) still) }
 
         step-within : Within (y .reals) (end .reals) (y .counts) (end .counts) m last
         step-within =
             let a = below b ts y in
             let z = upto-end i inside in
-            within-on (y .reals) (end .reals) (y .counts) (end .counts) (u .reals) (u′ .reals) (u .counts) (u′ .counts) R (R + 14 + 15 * N) C (C + 7 + 7 * N) m deep last
-            (omega (arith, past i inside .0, from-reals)) (z .reals) (omega (arith, past i inside .1, from-counts)) (z .counts)
+            within-on (y .reals) (end .reals) (y .counts) (end .counts) R (R + 14 + 15 * N) C (C + 7 + 7 * N) (u .reals) (u′ .reals) (u .counts) (u′ .counts) m put last
             (omega (arith, from-reals)) (omega (arith, a .reals, taken-reals b y, from-reals, as-many)) (omega (arith, from-counts)) (omega (arith, a .counts, taken-counts b y, from-counts, as-many))
-            (child .0) touched
+            (omega (arith, past i inside .0, from-reals)) (z .reals) (omega (arith, past i inside .1, from-counts)) (z .counts)
+            touched (child .within)
 
         head-trained : headAt xs (last .reals) (last .counts) w ≡ model.withHead H (addedOf (H .own) (mul binary64 e v) k)
         unfolding headAt model.withHead absorbedBin gainAt
         head-trained =
-            rw (head-read xs w i m deep outer inner (u .reals) (u′ .reals) (u .counts) (u′ .counts) inside room places (past i inside .0) (past i inside .1) (child .0)
+            rw (head-read xs w i m outer inner inside last (u .reals) (u′ .reals) (u .counts) (u′ .counts) (laid .room) (laid .places) (past i inside .0) (past i inside .1) (child .within)
             ∙ gain-all (recordAt (m .reals) (m .counts) R C) (mul binary64 e v) k)
 
         bin-trained : binIn xs (last .reals) (last .counts) w i
@@ -270,24 +264,19 @@ module _ (xs : List ℕ) (s : Sample) (e : Float) (k : ℕ) where
         unfolding binIn model.withBin absorbedBin gainAt
         bin-trained =
             rw (
-              chance-read xs w i m deep outer inner (u .reals) (u′ .reals) (u .counts) (u′ .counts) inside room places (past i inside .0) (past i inside .1) (child .0) i inside,
-              spot-read xs w i m deep outer inner (u .reals) (u′ .reals) (u .counts) (u′ .counts) inside room places (past i inside .0) (past i inside .1) (child .0)
+              chance-read xs w i m outer inner inside last (u .reals) (u′ .reals) (u .counts) (u′ .counts) (laid .room) (laid .places) (past i inside .0) (past i inside .1) (child .within) i inside,
+              spot-read xs w i m outer inner inside last (u .reals) (u′ .reals) (u .counts) (u′ .counts) (laid .room) (laid .places) (past i inside .0) (past i inside .1) (child .within)
                   ∙ gain-all (recordAt (m .reals) (m .counts) (spot i) (place i)) value k,
             )
 
-        child-trained : childIn (gridAt l xs (last .reals) (last .counts)) (at i) ≡ trainedChild (d + 1) (childIn F (at i))
-        child-trained =
-            child .1 last (same-alike nan (u .reals) (u′ .reals) (deep .reals) (last .reals) (same-sym nan _ _ (last .reals) (deep .reals) (touched .high (u .reals) (u′ .reals) (past i inside .0))))
-            (same-alike 0 (u .counts) (u′ .counts) (deep .counts) (last .counts) (same-sym 0 _ _ (last .counts) (deep .counts) (touched .many (u .counts) (u′ .counts) (past i inside .1))))
-
         -- beside it all is as it was
-        around : (x z : Tally) → R + 14 + 15 * N ≤ x .reals → C + 7 + 7 * N ≤ x .counts → Same nan (x .reals) (z .reals) (deep .reals) (m .reals) → Same 0 (x .counts) (z .counts) (deep .counts) (m .counts)
+        around : (x z : Tally) → R + 14 + 15 * N ≤ x .reals → C + 7 + 7 * N ≤ x .counts → Same nan (x .reals) (z .reals) (last .reals) (put .reals) → Same 0 (x .counts) (z .counts) (last .counts) (put .counts)
             → Alike nan (x .reals) (z .reals) (m .reals) (last .reals) × Alike 0 (x .counts) (z .counts) (m .counts) (last .counts)
         around x z o n c f = (
           same-alike nan (x .reals) (z .reals) (m .reals) (last .reals) (same-sym nan (x .reals) (z .reals) (last .reals) (m .reals)
-              (same-on nan (x .reals) (z .reals) (last .reals) (deep .reals) (m .reals) (touched .high (x .reals) (z .reals) o) c)),
+              (same-on nan (x .reals) (z .reals) (last .reals) (put .reals) (m .reals) c (touched .high (x .reals) (z .reals) o))),
           same-alike 0 (x .counts) (z .counts) (m .counts) (last .counts) (same-sym 0 (x .counts) (z .counts) (last .counts) (m .counts)
-              (same-on 0 (x .counts) (z .counts) (last .counts) (deep .counts) (m .counts) (touched .many (x .counts) (z .counts) n) f)),
+              (same-on 0 (x .counts) (z .counts) (last .counts) (put .counts) (m .counts) f (touched .many (x .counts) (z .counts) n))),
         )
 
         kept-still : (j : ℕ) → j < N → j ≢ i → Alike nan (before ts j own .reals) (after (childAt ts j) (before ts j own) .reals) (m .reals) (last .reals)
@@ -298,17 +287,17 @@ module _ (xs : List ℕ) (s : Sample) (e : Float) (k : ℕ) where
                 × Alike 0 (before ts j own .counts) (after (childAt ts j) (before ts j own) .counts) (m .counts) (last .counts)
             told true a =
                 let r = behind xs l b ts y st j i (ltb-true j i a) (omega (arith, as-many)) in
-                around (before ts j own) (after (childAt ts j) (before ts j own)) (past j o .0) (past j o .1) (child .0 .low _ _ (r .reals)) (child .0 .few _ _ (r .counts))
+                around (before ts j own) (after (childAt ts j) (before ts j own)) (past j o .0) (past j o .1) (child .within .low _ _ (r .reals)) (child .within .few _ _ (r .counts))
             told false a =
                 let r = behind xs l b ts y st i j (above j i n (ltb-false j i a)) (omega (arith, as-many, inside)) in
-                around (before ts j own) (after (childAt ts j) (before ts j own)) (past j o .0) (past j o .1) (child .0 .high _ _ (r .reals)) (child .0 .many _ _ (r .counts))
+                around (before ts j own) (after (childAt ts j) (before ts j own)) (past j o .0) (past j o .1) (child .within .high _ _ (r .reals)) (child .within .many _ _ (r .counts))
 
         bin-still : (j : ℕ) → j < N → j ≢ i → binIn xs (last .reals) (last .counts) w j ≡ binIn xs (m .reals) (m .counts) w j
         unfolding binIn absorbedBin
         bin-still j o n =
             rw (
-              chance-read xs w i m deep outer inner (u .reals) (u′ .reals) (u .counts) (u′ .counts) inside room places (past i inside .0) (past i inside .1) (child .0) j o,
-              other-read xs w i m deep outer inner (u .reals) (u′ .reals) (u .counts) (u′ .counts) inside room places (past i inside .0) (past i inside .1) (child .0) j o n,
+              chance-read xs w i m outer inner inside last (u .reals) (u′ .reals) (u .counts) (u′ .counts) (laid .room) (laid .places) (past i inside .0) (past i inside .1) (child .within) j o,
+              other-read xs w i m outer inner inside last (u .reals) (u′ .reals) (u .counts) (u′ .counts) (laid .room) (laid .places) (past i inside .0) (past i inside .1) (child .within) j o n,
             )
 
         child-form : (j : ℕ) → j < N → formedChild (childIn F (at j)) ≡ true
@@ -319,8 +308,8 @@ module _ (xs : List ℕ) (s : Sample) (e : Float) (k : ℕ) where
             ≡ trainBin (binsIn F xs (m .reals) (m .counts) w 0 N) i v (pathLeft s (d + 1)) (weightsLeft s (d + 1)) (placesIn s) e k
         all-trained =
             bins-absorbed F (gridAt l xs (last .reals) (last .counts)) xs m last w v (pathLeft s (d + 1)) (weightsLeft s (d + 1)) (placesIn s) e k N 0 i i (omega arith) inside
-            (λ j a o n. record { bin = bin-still j (omega arith) n; child = other-child j m last (omega (arith, as-many)) h g (child-form j (omega arith)) (kept-still j (omega arith) n .0) (kept-still j (omega arith) n .1) })
-            bin-trained child-trained
+            (λ j a o n. record { bin = bin-still j (omega arith) n; child = other-child j m last (omega (arith, as-many)) (child-form j (omega arith)) (kept-still j (omega arith) n .0) (kept-still j (omega arith) n .1) })
+            bin-trained (child .reads)
 
         step-trained : model.bins (headAt xs (last .reals) (last .counts) w) (binsIn (gridAt l xs (last .reals) (last .counts)) xs (last .reals) (last .counts) w 0 N)
             ≡ trained d (model.bins H (binsIn F xs (m .reals) (m .counts) w 0 N))

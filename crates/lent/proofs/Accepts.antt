@@ -402,6 +402,9 @@ module _ {path : List ℕ} {weights coordinates : List Float} {d number : ℕ} w
   abbrev pub offered-as : {g g′ : Grid} → g ≡ g′ → Offered path weights coordinates g d number → Offered path weights coordinates g′ d number
   offered-as e o = offered-of (offered o) (subst (λ (g : Grid). Takes g (offered o) d number) e (o .takes))
 
+  abbrev pub offered-child-as : {c c′ : Child} → c ≡ c′ → OfferedChild path weights coordinates c d number → OfferedChild path weights coordinates c′ d number
+  offered-child-as e o = offered-child (offeredChild o) (subst (λ (c : Child). TakesChild c (offeredChild o) d number) e (o .takes))
+
   module _ (f : ℕ → Grid) where
     abbrev pub offered-below : (table : List ℕ) (reals : List Float) (counts : List ℕ) (w n : ℕ) (h : Head) → Offered path weights coordinates (bins h (binsIn f table reals counts w 0 n)) d number
         → OfferedChild path weights coordinates (childIn f (getD table (w + 7 + getD path d 0) 0)) (d + 1) number

@@ -5,7 +5,7 @@ use mathlib.Core.Bool.{true}
 use mathlib.Core.List.{List}
 use Prim.Native.Nat.{ℕ, zero, suc, _+_, _-_, _≤_, _<_}
 use native.Mathlib.Omega.{arith}
-use lib.ListN.{length, getD}
+use lib.ListN.{getD}
 use lib.Ieee.{nan}
 use Rattle.plan.specs.declared.Tally.{Tally}
 use Rattle.plan.specs.declared.BinsPlan.{BinsPlan}
@@ -39,9 +39,6 @@ module _ (xs : List ℕ) (l : ℕ) (b : BinsPlan) (ts : Trees) (y : Tally) (st :
   abbrev own : Tally
   own = binsTaken b y
 
-  abbrev end : Tally
-  end = after (bins b ts) y
-
   abbrev at : ℕ → ℕ
   at i = getD xs (y .words + 7 + i) 0
 
@@ -57,37 +54,37 @@ module _ (xs : List ℕ) (l : ℕ) (b : BinsPlan) (ts : Trees) (y : Tally) (st :
       subst (λ (u : Tally). Upto u (before ts j own)) next (before-upto ts (suc i) j own (omega arith))
 
   -- child j, out of memory that is alike on what it takes
-  pub alike-grid : (j : ℕ) (m n : Memory) → j < b .bins → end .reals ≤ length (m .reals) → end .counts ≤ length (m .counts) → at j ≢ 0 → formedGrid (gridAt l xs (m .reals) (m .counts) (at j)) ≡ true
+  pub alike-grid : (j : ℕ) (m n : Memory) → j < b .bins → at j ≢ 0 → formedGrid (gridAt l xs (m .reals) (m .counts) (at j)) ≡ true
       → Alike nan (before ts j own .reals) (after (childAt ts j) (before ts j own) .reals) (m .reals) (n .reals)
       → Alike 0 (before ts j own .counts) (after (childAt ts j) (before ts j own) .counts) (m .counts) (n .counts)
       → gridAt l xs (m .reals) (m .counts) (at j) ≡ gridAt l xs (n .reals) (n .counts) (at j)
-  alike-grid j m n c h g z f x u =
+  alike-grid j m n c z f x u =
       let r = child-record xs (suc l) b ts y j st c in
       let v = before ts j own in
       let q = childAt ts j in
       let there : q ≡ nothing → ⊥ = linked-grid q v (subst (λ (n : ℕ). n ≢ 0) (r .linked) z) in
       let a : at j ≡ v .words = r .linked ∙ grid-link q v there in
       subst (λ (o : ℕ). gridAt l xs (m .reals) (m .counts) o ≡ gridAt l xs (n .reals) (n .counts) o) (sym a)
-      (grid-alike xs (m .reals) (n .reals) (m .counts) (n .counts) l q v there (stands-in j c) (omega (arith, r .inside .reals)) (omega (arith, r .inside .counts))
+      (grid-alike xs (m .reals) (n .reals) (m .counts) (n .counts) l q v there (stands-in j c)
       (sym (ap (λ (o : ℕ). formedGrid (gridAt l xs (m .reals) (m .counts) o)) a) ∙ f) x u)
 
   -- a child reads as it did after a step that keeps below it
-  pub unmoved : (j r e c d : ℕ) (s t : Memory) → j < b .bins → end .reals ≤ length (s .reals) → end .counts ≤ length (s .counts) → Within r e c d s t
+  pub unmoved : (j r e c d : ℕ) (s t : Memory) → j < b .bins → Within r e c d s t
       → e ≤ before ts j own .reals → d ≤ before ts j own .counts → at j ≢ 0 → formedGrid (gridAt l xs (s .reals) (s .counts) (at j)) ≡ true
       → gridAt l xs (t .reals) (t .counts) (at j) ≡ gridAt l xs (s .reals) (s .counts) (at j)
-  unmoved j r e c d s t k rr cc w low few z f =
+  unmoved j r e c d s t k w low few z f =
       let v = before ts j own in
       let q = childAt ts j in
-      sym (alike-grid j s t k rr cc z f
+      sym (alike-grid j s t k z f
       (same-alike nan (v .reals) (after q v .reals) (s .reals) (t .reals) (same-sym nan (v .reals) (after q v .reals) (t .reals) (s .reals) (w .high (v .reals) (after q v .reals) low)))
       (same-alike 0 (v .counts) (after q v .counts) (s .counts) (t .counts) (same-sym 0 (v .counts) (after q v .counts) (t .counts) (s .counts) (w .many (v .counts) (after q v .counts) few))))
 
   -- so does a child after one that a step keeps to
-  pub later : (i j : ℕ) (s t : Memory) → i < j → j < b .bins → end .reals ≤ length (s .reals) → end .counts ≤ length (s .counts)
+  pub later : (i j : ℕ) (s t : Memory) → i < j → j < b .bins
       → Within (before ts i own .reals) (after (childAt ts i) (before ts i own) .reals) (before ts i own .counts) (after (childAt ts i) (before ts i own) .counts) s t
       → at j ≢ 0 → formedGrid (gridAt l xs (s .reals) (s .counts) (at j)) ≡ true
       → gridAt l xs (t .reals) (t .counts) (at j) ≡ gridAt l xs (s .reals) (s .counts) (at j)
-  later i j s t h k rr cc w z f =
+  later i j s t h k w z f =
       let past = behind i j h (omega arith) in
-      unmoved j (before ts i own .reals) (after (childAt ts i) (before ts i own) .reals) (before ts i own .counts) (after (childAt ts i) (before ts i own) .counts) s t k rr cc w
+      unmoved j (before ts i own .reals) (after (childAt ts i) (before ts i own) .reals) (before ts i own .counts) (after (childAt ts i) (before ts i own) .counts) s t k w
       (past .reals) (past .counts) z f

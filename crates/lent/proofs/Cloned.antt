@@ -15,8 +15,7 @@ use Rattle.plan.specs.declared.Needs.{Needs}
 use Rattle.plan.specs.declared.AxesPlan as planned
 use Rattle.plan.specs.declared.BinsPlan.{BinsPlan}
 use Rattle.plan.specs.Plan.{Tree, Trees, nothing, axes, bins}
-use Rattle.plan.specs.Needs.{binsTaken, after, untaken, needsOf}
-use Rattle.plan.specs.Walk.{binsRow}
+use Rattle.plan.specs.Needs.{after, untaken, needsOf}
 use Rattle.plan.specs.Paper as plan
 use Rattle.plan.specs.Calls.{sizesOf}
 use Rattle.plan.proofs.Tables.{Words}
@@ -34,13 +33,13 @@ use Rattle.lent.specs.State.{rootOf, judgedTo}
 use Rattle.lent.specs.Calls.{copiedTo, clonedBy, cloneOf}
 use Rattle.lent.proofs.Same.{same-on, same-sym, same-alike, same-set-below, same-set-above}
 use Rattle.lent.proofs.Reading.{Holding, length-bins, record-same, axes-same}
-use Rattle.lent.proofs.Laid.{stands-laid, laid-axes}
+use Rattle.lent.proofs.Laid.{stands-laid, stands-bins, laid-axes}
 use Rattle.lent.proofs.Copies.{roomed, cleared-axes, cleared-below}
 use Rattle.lent.proofs.Sounds.{node-axes, node-bins}
 use Rattle.lent.proofs.Samples.{sound-stands, sound-in, sound-below}
 use Rattle.lent.proofs.FoundedOwn.{Within, within-same, within-on}
-use Rattle.lent.proofs.Trees.{axes-differ, taken-reals, taken-counts, below}
-use Rattle.lent.proofs.Alike.{grid-alike, child-read}
+use Rattle.lent.proofs.Trees.{axes-differ}
+use Rattle.lent.proofs.Alike.{child-alike}
 use Rattle.lent.proofs.Clones.{root-axes, root-bins, front-length, ready, copy-reads, copy-sound}
 
 -- ---- one accumulator
@@ -263,18 +262,12 @@ module _ (xs : List ℕ) (s : Memory) (well : sound (rootOf xs (s .reals) (s .co
 
   bins-root : (b : BinsPlan) (ts : Trees) → records.Stands xs 4 (bins b ts) untaken → after (bins b ts) untaken .reals ≤ length (s .reals) → after (bins b ts) untaken .counts ≤ length (s .counts)
       → rootOf xs (done .reals) (done .counts) ≡ model.copyGrid (rootOf xs (s .reals) (s .counts))
-  unfolding model.copyGrid binsRow soundChild
+  unfolding model.copyGrid soundChild
   bins-root b ts st h k =
-      let m = records.bins-record xs 4 b ts untaken st in
-      let bns : getD xs 2 0 ≡ b .bins = ap (λ (a : BinsPlan). a .bins) (m .numbers) in
-      let rr : getD xs 5 0 ≡ untaken .reals = m .reals in
-      let cc : getD xs 6 0 ≡ untaken .counts = m .counts in
-      let up = below b ts untaken in
-      let er = taken-reals b untaken in
-      let ec = taken-counts b untaken in
-      let other : getD xs 0 0 ≡ 1 → ⊥ = λ e. absurd (omega (arith, m .kind)) in
-      let room : getD xs 5 0 + 14 + 15 * getD xs 2 0 ≤ length (s .reals) = omega (arith, up .reals) in
-      let places : getD xs 6 0 + 7 + 7 * getD xs 2 0 ≤ length (s .counts) = omega (arith, up .counts) in
+      let laid = stands-bins xs (length (s .reals)) (length (s .counts)) 3 b ts untaken st h k in
+      let other : getD xs 0 0 ≡ 1 → ⊥ = λ e. absurd (omega (arith, laid .kind)) in
+      let room = laid .room in
+      let places = laid .places in
       let t = clearedOwn xs 0 s in
       let w = own-within xs 0 s room places in
       let f = gridAt 3 xs (s .reals) (s .counts) in
@@ -285,10 +278,9 @@ module _ (xs : List ℕ) (s : Memory) (well : sound (rootOf xs (s .reals) (s .co
       λ i j. both (formedChild (childIn f (getD xs (7 + i) 0))) (keptChild (childIn f (getD xs (7 + i) 0)))
       (sound-below (binIn xs (s .reals) (s .counts) 0 i) (childIn f (getD xs (7 + i) 0)) (sound-in f xs (s .reals) (s .counts) 0 head (getD xs 2 0) i j fine)) .0 in
       let still : (i : ℕ) → i < getD xs 2 0 → childIn f (getD xs (7 + i) 0) ≡ childIn (gridAt 3 xs (t .reals) (t .counts)) (getD xs (7 + i) 0) =
-      λ i j. child-read xs (s .reals) (t .reals) (s .counts) (t .counts) 3 (grid-alike xs (s .reals) (t .reals) (s .counts) (t .counts) 3) b ts untaken st h k
-      (same-alike nan _ _ (s .reals) (t .reals) (same-sym nan _ _ (t .reals) (s .reals) (w .high (binsTaken b untaken .reals) (after (bins b ts) untaken .reals) (omega arith))))
-      (same-alike 0 _ _ (s .counts) (t .counts) (same-sym 0 _ _ (t .counts) (s .counts) (w .many (binsTaken b untaken .counts) (after (bins b ts) untaken .counts) (omega arith))))
-      i (omega arith) (formed i j) in
+      λ i j. child-alike xs (s .reals) (t .reals) (s .counts) (t .counts) (length (s .reals)) (length (s .counts)) 3 0 laid i j (formed i j)
+      (same-alike nan _ _ (s .reals) (t .reals) (same-sym nan _ _ (t .reals) (s .reals) (w .high (getD xs 5 0 + 14 + 15 * getD xs 2 0) (length (s .reals)) (omega arith))))
+      (same-alike 0 _ _ (s .counts) (t .counts) (same-sym 0 _ _ (t .counts) (s .counts) (w .many (getD xs 6 0 + 7 + 7 * getD xs 2 0) (length (s .counts)) (omega arith)))) in
       ap (λ (m : Memory). rootOf xs (m .reals) (m .counts)) (sym (root-bins xs s other))
       ∙ node-bins 4 xs (t .reals) (t .counts) 0 other (omega arith)
       ∙ ap₂ model.bins (head-cleared xs 0 s room places) (bins-cleared xs 0 s room places f (gridAt 3 xs (t .reals) (t .counts)) still (getD xs 2 0) 0 (omega arith))

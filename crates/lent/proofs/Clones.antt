@@ -125,7 +125,7 @@ module _ (table : List ℕ) (s to : Memory) (n : Needs) (large : Words table) (p
       let lr = front-length (n .reals) (s .reals) (to .reals) a x in
       let lc = front-length (n .counts) (s .counts) (to .counts) b y in
       grid-alike table (s .reals) (overFront (n .reals) (s .reals) (to .reals)) (s .counts) (overFront (n .counts) (s .counts) (to .counts)) 4 (p .tree) untaken (p .grid) (p .stands)
-      (omega arith) (omega arith) (both (formedGrid (rootOf table (s .reals) (s .counts))) (keptGrid (rootOf table (s .reals) (s .counts))) (r .well) .0)
+      (both (formedGrid (rootOf table (s .reals) (s .counts))) (keptGrid (rootOf table (s .reals) (s .counts))) (r .well) .0)
       (inside-alike nan (untaken .reals) (after (p .tree) untaken .reals) (s .reals) (overFront (n .reals) (s .reals) (to .reals)) (omega arith) (omega arith)
       (λ q i j. front-cells nan (n .reals) (s .reals) (to .reals) a q (omega arith)))
       (inside-alike 0 (untaken .counts) (after (p .tree) untaken .counts) (s .counts) (overFront (n .counts) (s .counts) (to .counts)) (omega arith) (omega arith)

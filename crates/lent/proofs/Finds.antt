@@ -6,7 +6,7 @@ use native.Mathlib.Omega.{arith}
 use borrow.Author.Tests.{ne-eqb}
 use lib.ListN.{length, getD}
 use lib.Ieee.{Float, nan}
-use Rattle.model.specs.Grid.{Grid, Head, axes, bins}
+use Rattle.model.specs.Grid.{Grid, Child, Head, axes, bins}
 use Rattle.lent.specs.declared.Sample.{Sample}
 use Rattle.lent.specs.declared.AxesAt.{AxesAt}
 use Rattle.lent.specs.Memory.{memory, Asked}
@@ -17,7 +17,7 @@ use Rattle.lent.specs.Trained.{binsOn, Cell}
 use Rattle.lent.specs.Absorbed.{pathLeft, placesIn, Takes}
 use Rattle.lent.specs.Found.{spotsOf, spotsOfBin, spotsOfChild, Begins, Found, FoundChild, Held, HeldChild, held, heldChild}
 use Rattle.lent.proofs.Fitting.{one-left}
-use Rattle.lent.proofs.Accepts.{spots-there, spots-many, cells-of, formed, offered-of, offered-as, offered-below, offered-grid}
+use Rattle.lent.proofs.Accepts.{spots-there, spots-many, cells-of, formed, offered-of, offered-as, offered-child-as, offered-below, offered-grid}
 
 -- ---- an axes grid
 
@@ -93,6 +93,10 @@ held-of s t k = record { coordinates = s .coordinates; offer = offered-of s t; f
 module _ {path : List ℕ} {weights : List Float} {spots : List ℕ} {d number : ℕ} where
   abbrev pub held-as : {g g′ : Grid} → g ≡ g′ → Held path weights spots g d number → Held path weights spots g′ d number
   held-as e h = record { coordinates = h .coordinates; offer = offered-as e (h .offer); found = subst (λ (g : Grid). Found spots g (held h) d) e (h .found) }
+
+  abbrev pub held-child-as : {c c′ : Child} → c ≡ c′ → HeldChild path weights spots c d number → HeldChild path weights spots c′ d number
+  held-child-as e h =
+      record { coordinates = h .coordinates; offer = offered-child-as e (h .offer); found = subst (λ (c : Child). FoundChild spots c (heldChild h) d) e (h .found) }
 
   module _ (f : ℕ → Grid) where
     abbrev pub held-below : (table : List ℕ) (reals : List Float) (counts : List ℕ) (w n : ℕ) (o : Head) → Held path weights spots (bins o (binsIn f table reals counts w 0 n)) d number

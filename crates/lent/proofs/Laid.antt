@@ -1,4 +1,4 @@
--- What lies in a table that passed: the whole plan's grids, each within the lent memory that the plan needs.
+-- What lies in a table that passed: the whole plan's grids, each within the lent memory that the plan needs and past the grid above it.
 use mathlib.Core.Path.{_≡_, refl, sym, ap, _∙_, subst}
 use mathlib.Core.Logic.{_≢_, inl, inr}
 use mathlib.Core.Bool.{Bool, true, false, cond}
@@ -22,7 +22,7 @@ use Rattle.plan.specs.Paper.{gives}
 use Rattle.plan.specs.Calls.{sizesOf}
 use Rattle.plan.proofs.Tables.{Words}
 use Rattle.plan.proofs.Records.{Stands, axes-record, bins-record, upto-all, child-record, passed-stands, grid-link, words-at}
-use Rattle.lent.specs.Tree.{AxesLaid, BinsLaid, Laid}
+use Rattle.lent.specs.Tree.{realsFrom, countsFrom, AxesLaid, BinsLaid, Laid}
 
 -- a number within bounds lies between them
 in-bounds : (lo hi n : ℕ) → within lo hi n ≡ true → (lo ≤ n) × (n ≤ hi)
@@ -70,6 +70,24 @@ each-bounded [] i h e = absurd (omega arith)
 each-bounded (v ∷ vs) zero h e = in-bounds 1 1024 v (both (within 1 1024 v) (bounded vs) e .0) .0
 each-bounded (v ∷ vs) (suc i) h e = each-bounded vs i (omega arith) (both (within 1 1024 v) (bounded vs) e .1)
 
+-- ---- where a run's stretches begin
+
+module _ (table : List ℕ) (w : ℕ) where
+  pub axes-from : getD table w 0 ≡ 1 → (realsFrom table w ≡ getD table (w + 9) 0) × (countsFrom table w ≡ getD table (w + 10) 0)
+  unfolding realsFrom countsFrom
+  axes-from e = rw e (refl, refl)
+
+  pub bins-from : getD table w 0 ≡ 2 → (realsFrom table w ≡ getD table (w + 5) 0) × (countsFrom table w ≡ getD table (w + 6) 0)
+  unfolding realsFrom countsFrom
+  bins-from e = rw e (refl, refl)
+
+pub stands-from : (xs : List ℕ) (l : ℕ) (t : Tree) (y : Tally) → (t ≡ nothing → ⊥) → Stands xs l t y → (realsFrom xs (y .words) ≡ y .reals) × (countsFrom xs (y .words) ≡ y .counts)
+stands-from xs l nothing y g s = absurd (g refl)
+stands-from xs l (axes a es) y g s = let m = axes-record xs l a es y s in let f = axes-from xs (y .words) (m .kind) in (f .0 ∙ m .reals, f .1 ∙ m .counts)
+stands-from xs l (bins b ts) y g s = let m = bins-record xs l b ts y s in let f = bins-from xs (y .words) (m .kind) in (f .0 ∙ m .reals, f .1 ∙ m .counts)
+
+-- ---- what stands in a table lies there
+
 module _ (xs : List ℕ) (R C : ℕ) where
   axes-laid : (l : ℕ) (a : AxesPlan) (es : List ℕ) (y : Tally) → Stands xs l (axes a es) y → after (axes a es) y .reals ≤ R → after (axes a es) y .counts ≤ C
       → AxesLaid xs R C (y .words)
@@ -113,15 +131,22 @@ module _ (xs : List ℕ) (R C : ℕ) where
 
   module _ (l : ℕ) (b : BinsPlan) (ts : Trees) (y : Tally) (s : Stands xs (suc l) (bins b ts) y) (h : after (bins b ts) y .reals ≤ R) (k : after (bins b ts) y .counts ≤ C)
       (deeper : (t : Tree) (u : Tally) → (t ≡ nothing → ⊥) → Stands xs l t u → after t u .reals ≤ R → after t u .counts ≤ C → Laid l xs R C (u .words)) where
-    below : (i : ℕ) → i < b .bins → getD xs (y .words + 7 + i) 0 ≢ 0 → Laid l xs R C (getD xs (y .words + 7 + i) 0)
+    -- child i lies there too, past what this grid takes itself
+    below : (i : ℕ) → i < b .bins → getD xs (y .words + 7 + i) 0 ≢ 0
+        → Laid l xs R C (getD xs (y .words + 7 + i) 0) × (binsTaken b y .reals ≤ realsFrom xs (getD xs (y .words + 7 + i) 0)) × (binsTaken b y .counts ≤ countsFrom xs (getD xs (y .words + 7 + i) 0))
     unfolding link
     below i j z =
         let u = before ts i (binsTaken b y) in
         let c = child-record xs (suc l) b ts y i s j in
         let there : childAt ts i ≡ nothing → ⊥ = λ q. z (c .linked ∙ ap (λ (t : Tree). link t u) q) in
         let level : suc l - 1 ≡ l = omega arith in
-        subst (Laid l xs R C) (sym (c .linked ∙ grid-link (childAt ts i) u there))
-        (deeper (childAt ts i) u there (subst (λ (n : ℕ). Stands xs n (childAt ts i) u) level (c .stands)) (omega (arith, c .inside .reals, h)) (omega (arith, c .inside .counts, k)))
+        let stands = subst (λ (n : ℕ). Stands xs n (childAt ts i) u) level (c .stands) in
+        let from = stands-from xs l (childAt ts i) u there stands in
+        subst (λ (n : ℕ). Laid l xs R C n × (binsTaken b y .reals ≤ realsFrom xs n) × (binsTaken b y .counts ≤ countsFrom xs n)) (sym (c .linked ∙ grid-link (childAt ts i) u there)) (
+          deeper (childAt ts i) u there stands (omega (arith, c .inside .reals, h)) (omega (arith, c .inside .counts, k)),
+          omega (arith, from .0, c .behind .reals),
+          omega (arith, from .1, c .behind .counts),
+        )
 
     bins-laid : BinsLaid (Laid l xs R C) xs R C (y .words)
     unfolding after binsTaken binsReals binsCounts binsRow
@@ -144,7 +169,8 @@ module _ (xs : List ℕ) (R C : ℕ) where
           ratio = ap ratioFits rto ∙ m .ranges .ratio;
           room = omega (arith, up .reals, h);
           places = omega (arith, up .counts, k);
-          children = λ i j z. below i (omega arith) z;
+          children = λ i j z. below i (omega arith) z .0;
+          past = λ i j z. let q = below i (omega arith) z in (omega (arith, q .1), omega (arith, q .2));
         }
 
   -- at a level: whatever stands there
@@ -166,6 +192,10 @@ module _ (xs : List ℕ) (R C : ℕ) where
   pub stands-laid : (l : ℕ) → Level l
   stands-laid zero = last-level
   stands-laid (suc l) = next-level l (stands-laid l)
+
+  pub stands-bins : (l : ℕ) (b : BinsPlan) (ts : Trees) (y : Tally) → Stands xs (suc l) (bins b ts) y → after (bins b ts) y .reals ≤ R → after (bins b ts) y .counts ≤ C
+      → BinsLaid (Laid l xs R C) xs R C (y .words)
+  stands-bins l b ts y s h k = bins-laid l b ts y s h k (stands-laid l)
 
 -- the root's grid
 pub root-laid : (xs : List ℕ) (n : Needs) (R C : ℕ) → Words xs → sizesOf xs ≡ gives n → n .reals ≤ R → n .counts ≤ C → Laid 4 xs R C 0

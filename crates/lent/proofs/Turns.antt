@@ -126,7 +126,7 @@ module _ (xs : List ℕ) (l : ℕ) (f : ℕ → Memory → Outcome Memory) (F : 
         let near : Within (before ts i own .reals) (after t (before ts i own) .reals) (before ts i own .counts) (after t (before ts i own) .counts) s s₁ =
         subst (λ (x : Tally). Within (x .reals) (after t x .reals) (x .counts) (after t x .counts) s s₁) o (one .within) in
         let still : (j : ℕ) → i + 1 ≤ j → j < b .bins → at j ≢ 0 → gridAt l xs (s₁ .reals) (s₁ .counts) (at j) ≡ G (at j) =
-        λ j x z n. later xs l b ts y st i j s s₁ (omega arith) z h g near n (ap formedGrid (q j (omega arith) z n) ∙ formed (at j) (G (at j)) (p j (omega arith) z n)) ∙ q j (omega arith) z n in
+        λ j x z n. later xs l b ts y st i j s s₁ (omega arith) z near n (ap formedGrid (q j (omega arith) z n) ∙ formed (at j) (G (at j)) (p j (omega arith) z n)) ∙ q j (omega arith) z n in
         let r = children-turned k (i + 1) v s₁ (omega arith) next (inside .reals) (inside .counts) (omega arith) (omega arith) (λ j x. p j (omega arith)) still in
         let last = childrenTurned f xs (y .words) (i + 1) k s₁ .after in
         record {

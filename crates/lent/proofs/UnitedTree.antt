@@ -308,7 +308,7 @@ module _ (xs ys : List ℕ) (others : Memory) where
           let near : Within (before ts i own .reals) (after t (before ts i own) .reals) (before ts i own .counts) (after t (before ts i own) .counts) s s₁ =
           subst (λ (x : Tally). Within (x .reals) (after t x .reals) (x .counts) (after t x .counts) s s₁) o (one .within) in
           let on : (j : ℕ) → i + 1 ≤ j → j < b .bins → mine j ≢ 0 → here l s₁ (mine j) ≡ here l s₀ (mine j) =
-          λ j x z m. later xs l b ts y st i j s s₁ (omega arith) z h g near m (ap formedGrid (q j (omega arith) z m) ∙ form-of j z m) ∙ q j (omega arith) z m in
+          λ j x z m. later xs l b ts y st i j s s₁ (omega arith) z near m (ap formedGrid (q j (omega arith) z m) ∙ form-of j z m) ∙ q j (omega arith) z m in
           let r = children-unite k (i + 1) n s₁ (omega arith) next (inside .reals) (inside .counts) (omega arith) (omega arith) on in
           let last = unitedChildren xs ys others step (y .words) v (i + 1) k s₁ in
           record {
@@ -354,7 +354,7 @@ module _ (xs ys : List ℕ) (others : Memory) where
           let sizes : length (s₁ .counts) ≡ length (s₀ .counts) = o .few 0 0 (omega arith) .size in
           let still : (j : ℕ) → 0 ≤ j → j < b .bins → mine j ≢ 0 → here l s₁ (mine j) ≡ here l s₀ (mine j) =
           λ j x z n. let c = child-record xs (suc l) b ts y j st z in
-          unmoved xs l b ts y st j R (R + 14 + 15 * N) C (C + 7 + 7 * N) s₀ s₁ z h g o (omega (arith, c .behind .reals)) (omega (arith, c .behind .counts)) n (form-of j z n) in
+          unmoved xs l b ts y st j R (R + 14 + 15 * N) C (C + 7 + 7 * N) s₀ s₁ z o (omega (arith, c .behind .reals)) (omega (arith, c .behind .counts)) n (form-of j z n) in
           let f = children-unite N 0 own s₁ (omega arith) (before-none ts own) (up .reals) (up .counts) (omega arith) (omega arith) still in
           let z : getD xs w 0 ≡ 1 → ⊥ = λ e. absurd (omega (arith, m .kind)) in
           let level : suc l - 1 ≡ l = omega arith in

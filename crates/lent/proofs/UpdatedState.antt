@@ -62,7 +62,7 @@ module _ (table : List ℕ) (binsRate axesRate : Float) (s to : Memory) (n : Nee
       let p = passed-stands table n large planned in
       let rr : n .reals ≡ after (p .tree) untaken .reals = ap (λ (m : Needs). m .reals) (p .needs) in
       let cc : n .counts ≡ after (p .tree) untaken .counts = ap (λ (m : Needs). m .counts) (p .needs) in
-      grid-alike table (a .reals) (b .reals) (a .counts) (b .counts) 4 (p .tree) untaken (p .grid) (p .stands) (omega arith) (omega arith) (sound-formed (rootOf table (a .reals) (a .counts)) well)
+      grid-alike table (a .reals) (b .reals) (a .counts) (b .counts) 4 (p .tree) untaken (p .grid) (p .stands) (sound-formed (rootOf table (a .reals) (a .counts)) well)
       (inside-alike nan (untaken .reals) (after (p .tree) untaken .reals) (a .reals) (b .reals) (omega arith) (omega arith) (λ q u v. x q (omega arith)))
       (inside-alike 0 (untaken .counts) (after (p .tree) untaken .counts) (a .counts) (b .counts) (omega arith) (omega arith) (λ q u v. y q (omega arith)))
 

@@ -105,14 +105,14 @@ absorbedAxes table s e number w d m =
 unfoldable pub absorbedChild : (ℕ → ℕ → Memory → Memory) → ℕ → ℕ → Memory → Memory
 absorbedChild f link d m = cond (eqb link 0) m (f link d m)
 
--- a bins grid: what hangs at the bin; (weight · probability) · evaluation in the bin's accumulator, evaluation · weight in its own
+-- a bins grid: (weight · probability) · evaluation in the bin's accumulator, evaluation · weight in its own; then what hangs at the bin
 unfoldable pub absorbedBin : (ℕ → ℕ → Memory → Memory) → List ℕ → Float → Float → ℕ → ℕ → ℕ → ℕ → Memory → Memory
 absorbedBin f table weight e number w d i m =
-    gained (getD table (w + 5) 0) (getD table (w + 6) 0) (gainAt (getD table (w + 5) 0) (getD table (w + 6) 0) (mul binary64 e weight) number m)
+    absorbedChild f (getD table (w + 7 + i) 0) (d + 1)
+    (gained (getD table (w + 5) 0) (getD table (w + 6) 0) (gainAt (getD table (w + 5) 0) (getD table (w + 6) 0) (mul binary64 e weight) number m)
     (gained (getD table (w + 5) 0 + 14 + getD table (w + 2) 0 + 14 * i) (getD table (w + 6) 0 + 7 + 7 * i)
     (gainAt (getD table (w + 5) 0 + 14 + getD table (w + 2) 0 + 14 * i) (getD table (w + 6) 0 + 7 + 7 * i)
-    (mul binary64 (mul binary64 weight (getD (m .reals) (getD table (w + 5) 0 + 14 + i) nan)) e) number m)
-    (absorbedChild f (getD table (w + 7 + i) 0) (d + 1) m))
+    (mul binary64 (mul binary64 weight (getD (m .reals) (getD table (w + 5) 0 + 14 + i) nan)) e) number m) m))
 
 unfoldable pub absorbedBins : (ℕ → ℕ → Memory → Memory) → List ℕ → Sample → Float → ℕ → ℕ → ℕ → Memory → Memory
 absorbedBins f table s e number w d m = absorbedBin f table (getD (s .weights) d nan) e number w d (getD (s .path) d 0) m

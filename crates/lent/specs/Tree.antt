@@ -108,7 +108,14 @@ pub record AxesLaid (table : List ℕ) (R C w : ℕ) : Type 0 where
   pub room : getD table (w + 9) 0 + 14 + getD table (w + 2) 0 * (6 * getD table (w + 7) 0 + 1) ≤ R
   pub places : getD table (w + 10) 0 + 7 + getD table (w + 2) 0 * (3 * getD table (w + 7) 0 + 2) ≤ C
 
--- a bins grid's, where each link is 0 or that of a child
+-- where a run's reals and counts begin
+unfoldable pub realsFrom : List ℕ → ℕ → ℕ
+realsFrom table w = cond (eqb (getD table w 0) 1) (getD table (w + 9) 0) (getD table (w + 5) 0)
+
+unfoldable pub countsFrom : List ℕ → ℕ → ℕ
+countsFrom table w = cond (eqb (getD table w 0) 1) (getD table (w + 10) 0) (getD table (w + 6) 0)
+
+-- a bins grid's, where each link is 0 or that of a child, whose stretches begin past its own
 pub record BinsLaid (f : ℕ → Type 0) (table : List ℕ) (R C w : ℕ) : Type 0 where
   pub kind : getD table w 0 ≡ 2
   pub head : w + (7 + getD table (w + 2) 0) ≤ length table
@@ -118,6 +125,8 @@ pub record BinsLaid (f : ℕ → Type 0) (table : List ℕ) (R C w : ℕ) : Type
   pub room : getD table (w + 5) 0 + 14 + 15 * getD table (w + 2) 0 ≤ R
   pub places : getD table (w + 6) 0 + 7 + 7 * getD table (w + 2) 0 ≤ C
   pub children : (i : ℕ) → i < getD table (w + 2) 0 → getD table (w + 7 + i) 0 ≢ 0 → f (getD table (w + 7 + i) 0)
+  pub past : (i : ℕ) → i < getD table (w + 2) 0 → getD table (w + 7 + i) 0 ≢ 0
+      → (getD table (w + 5) 0 + 14 + 15 * getD table (w + 2) 0 ≤ realsFrom table (getD table (w + 7 + i) 0)) × (getD table (w + 6) 0 + 7 + 7 * getD table (w + 2) 0 ≤ countsFrom table (getD table (w + 7 + i) 0))
 
 unfoldable pub Laid : ℕ → List ℕ → ℕ → ℕ → ℕ → Type 0
 Laid zero table R C w = AxesLaid table R C w

@@ -1,4 +1,5 @@
-// A sample taken into the tree: what the records gain is read first, what hangs below is written first, so that all sees memory as it was.
+// A sample taken into the tree: a bins grid's records gain before what hangs below takes the sample, so that nothing is kept across the
+// recursion; what hangs below lies past them, and sees memory as it was.
 ghost use mathlib.Core.Path.{_≡_};
 ghost use mathlib.Core.Bool.{true};
 ghost use Prim.Native.Nat.{_+_, _≤_};
@@ -79,7 +80,7 @@ fn absorb_child(
     );
 }
 
-// At a bins grid: what hangs at the sample's bin, then that bin's accumulator and its own.
+// At a bins grid: the accumulator of the sample's bin and its own, then what hangs at that bin.
 fn absorb_bins(
     table: &[u64],
     reals: &mut [f64],
@@ -109,6 +110,8 @@ fn absorb_bins(
     let inner_r = r + 14 + n + 14 * bin;
     let inner_c = c + 7 + 7 * bin;
     let inner = adding::gain_at(reals, counts, inner_r, inner_c, value, number);
+    adding::put(reals, counts, inner_r, inner_c, inner);
+    adding::put(reals, counts, r, c, own);
     absorb_child(
         table,
         reals,
@@ -122,8 +125,6 @@ fn absorb_bins(
         number,
         spots,
     );
-    adding::put(reals, counts, inner_r, inner_c, inner);
-    adding::put(reals, counts, r, c, own);
 }
 
 // At the grid whose run begins at word w, below `depth` bins grids.

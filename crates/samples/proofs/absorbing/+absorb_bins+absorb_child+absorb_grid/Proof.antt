@@ -1,4 +1,4 @@
--- What both records gain is read before what hangs below is written, so all is the definition's step on memory as it was.
+-- Both records are put before what hangs below takes the sample: it lies past them, so what was handed over for it holds there still, and all is the definition's step.
 use mathlib.Core.Path.{_≡_, _∙_}
 use mathlib.Core.Bool.{true}
 use native.Mathlib.Omega.{arith}
@@ -13,8 +13,9 @@ use Rattle.lent.specs.Found.{held, heldChild}
 use Rattle.lent.proofs.Laid.{laid-axes, laid-bins, laid-head}
 use Rattle.lent.proofs.Sounds.{node-axes, node-bins}
 use Rattle.lent.proofs.Accepts.{formed, head-sound, spot-sound}
-use Rattle.lent.proofs.Finds.{held-as, held-below, held-grid}
-use Rattle.lent.proofs.Absorbs.{bins-absorbed, nothing-absorbed, child-absorbed, absorbed-axes, absorbed-bins}
+use Rattle.lent.proofs.Founds.{bins-kept}
+use Rattle.lent.proofs.Finds.{held-as, held-grid}
+use Rattle.lent.proofs.Absorbs.{bins-absorbed, held-past, nothing-absorbed, child-absorbed, absorbed-axes, absorbed-bins}
 use Prim.Native.Nat.{ℕ, _<_}
 use borrow.Fn.Kinds.{In}
 use borrow.Fn.PlainCycle.{Measures, is, falls, and}
@@ -75,10 +76,10 @@ abbrev Begun : ℕ → Type 0
 Begun t = absorb-bins-lts.Start (
   gain-at-reads.Asked,
   gain-at-reads.Learnt,
-  absorb-child-below t,
-  absorb-child.Post,
   put-reads.Asked,
   put-reads.Learnt,
+  absorb-child-below t,
+  absorb-child.Post,
 ) (absorb-bins-at t) absorb-bins.Post
 
 -- there the sample's bin is one of the grid's, and both accumulators are well formed
@@ -97,373 +98,397 @@ spot-well t o = spot-sound (gridAt (o .args .level) (o .args .table .now) (o .ar
 absorb-bins-mul-bin : (t : ℕ) → absorb-bins-lts.Need-mul-bin (
   gain-at-reads.Asked,
   gain-at-reads.Learnt,
-  absorb-child-below t,
-  absorb-child.Post,
   put-reads.Asked,
   put-reads.Learnt,
+  absorb-child-below t,
+  absorb-child.Post,
 ) (absorb-bins-at t) absorb-bins.Post
 absorb-bins-mul-bin t c = omega (arith, c .before .before .before .pre .1 .1)
 
 absorb-bins-element-copy-out-bin : (t : ℕ) → absorb-bins-lts.Need-element-copy-out-bin (
   gain-at-reads.Asked,
   gain-at-reads.Learnt,
-  absorb-child-below t,
-  absorb-child.Post,
   put-reads.Asked,
   put-reads.Learnt,
+  absorb-child-below t,
+  absorb-child.Post,
 ) (absorb-bins-at t) absorb-bins.Post
 absorb-bins-element-copy-out-bin t c = omega (arith, c .before .before .before .pre .1 .1)
 
 absorb-bins-mul-weight : (t : ℕ) → absorb-bins-lts.Need-mul-weight (
   gain-at-reads.Asked,
   gain-at-reads.Learnt,
-  absorb-child-below t,
-  absorb-child.Post,
   put-reads.Asked,
   put-reads.Learnt,
+  absorb-child-below t,
+  absorb-child.Post,
 ) (absorb-bins-at t) absorb-bins.Post
 absorb-bins-mul-weight t c = omega (arith, c .before .before .before .before .pre .1 .1)
 
 absorb-bins-element-copy-out-weight : (t : ℕ) → absorb-bins-lts.Need-element-copy-out-weight (
   gain-at-reads.Asked,
   gain-at-reads.Learnt,
-  absorb-child-below t,
-  absorb-child.Post,
   put-reads.Asked,
   put-reads.Learnt,
+  absorb-child-below t,
+  absorb-child.Post,
 ) (absorb-bins-at t) absorb-bins.Post
 absorb-bins-element-copy-out-weight t c = omega (arith, c .before .before .before .before .pre .1 .1)
 
 absorb-bins-add-n : (t : ℕ) → absorb-bins-lts.Need-add-n (
   gain-at-reads.Asked,
   gain-at-reads.Learnt,
-  absorb-child-below t,
-  absorb-child.Post,
   put-reads.Asked,
   put-reads.Learnt,
+  absorb-child-below t,
+  absorb-child.Post,
 ) (absorb-bins-at t) absorb-bins.Post
 absorb-bins-add-n t c = omega (arith, (c .before .before .before .before .before .pre .1 .0))
 
 absorb-bins-mul-n : (t : ℕ) → absorb-bins-lts.Need-mul-n (
   gain-at-reads.Asked,
   gain-at-reads.Learnt,
-  absorb-child-below t,
-  absorb-child.Post,
   put-reads.Asked,
   put-reads.Learnt,
+  absorb-child-below t,
+  absorb-child.Post,
 ) (absorb-bins-at t) absorb-bins.Post
 absorb-bins-mul-n t c = omega (arith, (c .before .before .before .before .before .pre .1 .0))
 
 absorb-bins-shared-slice-read-n : (t : ℕ) → absorb-bins-lts.Need-shared-slice-read-n (
   gain-at-reads.Asked,
   gain-at-reads.Learnt,
-  absorb-child-below t,
-  absorb-child.Post,
   put-reads.Asked,
   put-reads.Learnt,
+  absorb-child-below t,
+  absorb-child.Post,
 ) (absorb-bins-at t) absorb-bins.Post
 absorb-bins-shared-slice-read-n t c = omega (arith, (c .before .before .before .before .before .before .pre .1 .0))
 
 absorb-bins-add-r : (t : ℕ) → absorb-bins-lts.Need-add-r (
   gain-at-reads.Asked,
   gain-at-reads.Learnt,
-  absorb-child-below t,
-  absorb-child.Post,
   put-reads.Asked,
   put-reads.Learnt,
+  absorb-child-below t,
+  absorb-child.Post,
 ) (absorb-bins-at t) absorb-bins.Post
 absorb-bins-add-r t c = omega (arith, (c .before .before .before .before .before .before .pre .1 .0))
 
 absorb-bins-mul-r : (t : ℕ) → absorb-bins-lts.Need-mul-r (
   gain-at-reads.Asked,
   gain-at-reads.Learnt,
-  absorb-child-below t,
-  absorb-child.Post,
   put-reads.Asked,
   put-reads.Learnt,
+  absorb-child-below t,
+  absorb-child.Post,
 ) (absorb-bins-at t) absorb-bins.Post
 absorb-bins-mul-r t c = omega (arith, (c .before .before .before .before .before .before .pre .1 .0))
 
 absorb-bins-shared-slice-read-r : (t : ℕ) → absorb-bins-lts.Need-shared-slice-read-r (
   gain-at-reads.Asked,
   gain-at-reads.Learnt,
-  absorb-child-below t,
-  absorb-child.Post,
   put-reads.Asked,
   put-reads.Learnt,
+  absorb-child-below t,
+  absorb-child.Post,
 ) (absorb-bins-at t) absorb-bins.Post
 absorb-bins-shared-slice-read-r t c = omega (arith, (c .before .before .before .before .before .before .before .pre .1 .0))
 
 absorb-bins-add-c : (t : ℕ) → absorb-bins-lts.Need-add-c (
   gain-at-reads.Asked,
   gain-at-reads.Learnt,
-  absorb-child-below t,
-  absorb-child.Post,
   put-reads.Asked,
   put-reads.Learnt,
+  absorb-child-below t,
+  absorb-child.Post,
 ) (absorb-bins-at t) absorb-bins.Post
 absorb-bins-add-c t c = omega (arith, (c .before .before .before .before .before .before .before .pre .1 .0))
 
 absorb-bins-mul-c : (t : ℕ) → absorb-bins-lts.Need-mul-c (
   gain-at-reads.Asked,
   gain-at-reads.Learnt,
-  absorb-child-below t,
-  absorb-child.Post,
   put-reads.Asked,
   put-reads.Learnt,
+  absorb-child-below t,
+  absorb-child.Post,
 ) (absorb-bins-at t) absorb-bins.Post
 absorb-bins-mul-c t c = omega (arith, (c .before .before .before .before .before .before .before .pre .1 .0))
 
 absorb-bins-shared-slice-read-c : (t : ℕ) → absorb-bins-lts.Need-shared-slice-read-c (
   gain-at-reads.Asked,
   gain-at-reads.Learnt,
-  absorb-child-below t,
-  absorb-child.Post,
   put-reads.Asked,
   put-reads.Learnt,
+  absorb-child-below t,
+  absorb-child.Post,
 ) (absorb-bins-at t) absorb-bins.Post
 absorb-bins-shared-slice-read-c t c = omega (arith, (c .before .before .before .before .before .before .before .before .pre .1 .0))
 
 absorb-bins-add-link : (t : ℕ) → absorb-bins-lts.Need-add-link (
   gain-at-reads.Asked,
   gain-at-reads.Learnt,
-  absorb-child-below t,
-  absorb-child.Post,
   put-reads.Asked,
   put-reads.Learnt,
+  absorb-child-below t,
+  absorb-child.Post,
 ) (absorb-bins-at t) absorb-bins.Post
 absorb-bins-add-link t c = omega (arith, (c .before .before .before .before .before .before .before .before .pre .1 .0), below t (c .before .before .before .before .before .before .before .before))
 
 absorb-bins-add-link-2 : (t : ℕ) → absorb-bins-lts.Need-add-link-2 (
   gain-at-reads.Asked,
   gain-at-reads.Learnt,
-  absorb-child-below t,
-  absorb-child.Post,
   put-reads.Asked,
   put-reads.Learnt,
+  absorb-child-below t,
+  absorb-child.Post,
 ) (absorb-bins-at t) absorb-bins.Post
 absorb-bins-add-link-2 t c = omega (arith, (c .before .before .before .before .before .before .before .before .pre .1 .0), below t (c .before .before .before .before .before .before .before .before))
 
 absorb-bins-mul-link : (t : ℕ) → absorb-bins-lts.Need-mul-link (
   gain-at-reads.Asked,
   gain-at-reads.Learnt,
-  absorb-child-below t,
-  absorb-child.Post,
   put-reads.Asked,
   put-reads.Learnt,
+  absorb-child-below t,
+  absorb-child.Post,
 ) (absorb-bins-at t) absorb-bins.Post
 absorb-bins-mul-link t c = omega (arith, (c .before .before .before .before .before .before .before .before .pre .1 .0), below t (c .before .before .before .before .before .before .before .before))
 
 absorb-bins-shared-slice-read-link : (t : ℕ) → absorb-bins-lts.Need-shared-slice-read-link (
   gain-at-reads.Asked,
   gain-at-reads.Learnt,
-  absorb-child-below t,
-  absorb-child.Post,
   put-reads.Asked,
   put-reads.Learnt,
+  absorb-child-below t,
+  absorb-child.Post,
 ) (absorb-bins-at t) absorb-bins.Post
 absorb-bins-shared-slice-read-link t c = omega (arith, (c .before .before .before .before .before .before .before .before .before .pre .1 .0), below t (c .before .before .before .before .before .before .before .before .before))
 
 absorb-bins-add-value : (t : ℕ) → absorb-bins-lts.Need-add-value (
   gain-at-reads.Asked,
   gain-at-reads.Learnt,
-  absorb-child-below t,
-  absorb-child.Post,
   put-reads.Asked,
   put-reads.Learnt,
+  absorb-child-below t,
+  absorb-child.Post,
 ) (absorb-bins-at t) absorb-bins.Post
 absorb-bins-add-value t c = omega (arith, (c .before .before .before .before .before .before .before .before .before .pre .1 .0), below t (c .before .before .before .before .before .before .before .before .before))
 
 absorb-bins-add-value-2 : (t : ℕ) → absorb-bins-lts.Need-add-value-2 (
   gain-at-reads.Asked,
   gain-at-reads.Learnt,
-  absorb-child-below t,
-  absorb-child.Post,
   put-reads.Asked,
   put-reads.Learnt,
+  absorb-child-below t,
+  absorb-child.Post,
 ) (absorb-bins-at t) absorb-bins.Post
 absorb-bins-add-value-2 t c = omega (arith, (c .before .before .before .before .before .before .before .before .before .pre .1 .0), below t (c .before .before .before .before .before .before .before .before .before))
 
 absorb-bins-mul-value : (t : ℕ) → absorb-bins-lts.Need-mul-value (
   gain-at-reads.Asked,
   gain-at-reads.Learnt,
-  absorb-child-below t,
-  absorb-child.Post,
   put-reads.Asked,
   put-reads.Learnt,
+  absorb-child-below t,
+  absorb-child.Post,
 ) (absorb-bins-at t) absorb-bins.Post
 absorb-bins-mul-value t c = omega (arith, (c .before .before .before .before .before .before .before .before .before .pre .1 .0), below t (c .before .before .before .before .before .before .before .before .before))
 
 absorb-bins-slice-read-value : (t : ℕ) → absorb-bins-lts.Need-slice-read-value (
   gain-at-reads.Asked,
   gain-at-reads.Learnt,
-  absorb-child-below t,
-  absorb-child.Post,
   put-reads.Asked,
   put-reads.Learnt,
+  absorb-child-below t,
+  absorb-child.Post,
 ) (absorb-bins-at t) absorb-bins.Post
 absorb-bins-slice-read-value t c = omega (arith, (c .before .before .before .before .before .before .before .before .before .before .pre .1 .0), below t (c .before .before .before .before .before .before .before .before .before .before))
 
 absorb-bins-gain-at-requires : (t : ℕ) → absorb-bins-lts.Need-gain-at-requires (
   gain-at-reads.Asked,
   gain-at-reads.Learnt,
-  absorb-child-below t,
-  absorb-child.Post,
   put-reads.Asked,
   put-reads.Learnt,
+  absorb-child-below t,
+  absorb-child.Post,
 ) (absorb-bins-at t) absorb-bins.Post
 absorb-bins-gain-at-requires t c κs = (omega (arith, c .before .before .before .before .before .before .before .before .before .before .before .before .pre .1 .0, below t (c .before .before .before .before .before .before .before .before .before .before .before .before)), omega (arith, c .before .before .before .before .before .before .before .before .before .before .before .before .pre .1 .0, below t (c .before .before .before .before .before .before .before .before .before .before .before .before)), own-well t (c .before .before .before .before .before .before .before .before .before .before .before .before))
 
 absorb-bins-add-inner-r : (t : ℕ) → absorb-bins-lts.Need-add-inner-r (
   gain-at-reads.Asked,
   gain-at-reads.Learnt,
-  absorb-child-below t,
-  absorb-child.Post,
   put-reads.Asked,
   put-reads.Learnt,
+  absorb-child-below t,
+  absorb-child.Post,
 ) (absorb-bins-at t) absorb-bins.Post
 absorb-bins-add-inner-r t c = omega (arith, (c .before .before .before .before .before .before .before .before .before .before .before .before .before .pre .1 .0), below t (c .before .before .before .before .before .before .before .before .before .before .before .before .before))
 
 absorb-bins-add-inner-r-2 : (t : ℕ) → absorb-bins-lts.Need-add-inner-r-2 (
   gain-at-reads.Asked,
   gain-at-reads.Learnt,
-  absorb-child-below t,
-  absorb-child.Post,
   put-reads.Asked,
   put-reads.Learnt,
+  absorb-child-below t,
+  absorb-child.Post,
 ) (absorb-bins-at t) absorb-bins.Post
 absorb-bins-add-inner-r-2 t c = omega (arith, (c .before .before .before .before .before .before .before .before .before .before .before .before .before .pre .1 .0), below t (c .before .before .before .before .before .before .before .before .before .before .before .before .before))
 
 absorb-bins-mul-inner-r : (t : ℕ) → absorb-bins-lts.Need-mul-inner-r (
   gain-at-reads.Asked,
   gain-at-reads.Learnt,
-  absorb-child-below t,
-  absorb-child.Post,
   put-reads.Asked,
   put-reads.Learnt,
+  absorb-child-below t,
+  absorb-child.Post,
 ) (absorb-bins-at t) absorb-bins.Post
 absorb-bins-mul-inner-r t c = omega (arith, (c .before .before .before .before .before .before .before .before .before .before .before .before .before .pre .1 .0), below t (c .before .before .before .before .before .before .before .before .before .before .before .before .before))
 
 absorb-bins-add-inner-r-3 : (t : ℕ) → absorb-bins-lts.Need-add-inner-r-3 (
   gain-at-reads.Asked,
   gain-at-reads.Learnt,
-  absorb-child-below t,
-  absorb-child.Post,
   put-reads.Asked,
   put-reads.Learnt,
+  absorb-child-below t,
+  absorb-child.Post,
 ) (absorb-bins-at t) absorb-bins.Post
 absorb-bins-add-inner-r-3 t c = omega (arith, (c .before .before .before .before .before .before .before .before .before .before .before .before .before .pre .1 .0), below t (c .before .before .before .before .before .before .before .before .before .before .before .before .before))
 
 absorb-bins-add-inner-c : (t : ℕ) → absorb-bins-lts.Need-add-inner-c (
   gain-at-reads.Asked,
   gain-at-reads.Learnt,
-  absorb-child-below t,
-  absorb-child.Post,
   put-reads.Asked,
   put-reads.Learnt,
+  absorb-child-below t,
+  absorb-child.Post,
 ) (absorb-bins-at t) absorb-bins.Post
 absorb-bins-add-inner-c t c = omega (arith, (c .before .before .before .before .before .before .before .before .before .before .before .before .before .pre .1 .0), below t (c .before .before .before .before .before .before .before .before .before .before .before .before .before))
 
 absorb-bins-mul-inner-c : (t : ℕ) → absorb-bins-lts.Need-mul-inner-c (
   gain-at-reads.Asked,
   gain-at-reads.Learnt,
-  absorb-child-below t,
-  absorb-child.Post,
   put-reads.Asked,
   put-reads.Learnt,
+  absorb-child-below t,
+  absorb-child.Post,
 ) (absorb-bins-at t) absorb-bins.Post
 absorb-bins-mul-inner-c t c = omega (arith, (c .before .before .before .before .before .before .before .before .before .before .before .before .before .pre .1 .0), below t (c .before .before .before .before .before .before .before .before .before .before .before .before .before))
 
 absorb-bins-add-inner-c-2 : (t : ℕ) → absorb-bins-lts.Need-add-inner-c-2 (
   gain-at-reads.Asked,
   gain-at-reads.Learnt,
-  absorb-child-below t,
-  absorb-child.Post,
   put-reads.Asked,
   put-reads.Learnt,
+  absorb-child-below t,
+  absorb-child.Post,
 ) (absorb-bins-at t) absorb-bins.Post
 absorb-bins-add-inner-c-2 t c = omega (arith, (c .before .before .before .before .before .before .before .before .before .before .before .before .before .pre .1 .0), below t (c .before .before .before .before .before .before .before .before .before .before .before .before .before))
 
 absorb-bins-gain-at-requires-2 : (t : ℕ) → absorb-bins-lts.Need-gain-at-requires-2 (
   gain-at-reads.Asked,
   gain-at-reads.Learnt,
-  absorb-child-below t,
-  absorb-child.Post,
   put-reads.Asked,
   put-reads.Learnt,
+  absorb-child-below t,
+  absorb-child.Post,
 ) (absorb-bins-at t) absorb-bins.Post
 absorb-bins-gain-at-requires-2 t c κs = (omega (arith, c .before .before .before .before .before .before .before .before .before .before .before .before .before .before .before .pre .1 .0, below t (c .before .before .before .before .before .before .before .before .before .before .before .before .before .before .before)), omega (arith, c .before .before .before .before .before .before .before .before .before .before .before .before .before .before .before .pre .1 .0, below t (c .before .before .before .before .before .before .before .before .before .before .before .before .before .before .before)), spot-well t (c .before .before .before .before .before .before .before .before .before .before .before .before .before .before .before))
-
-absorb-bins-add-absorb-child : (t : ℕ) → absorb-bins-lts.Need-add-absorb-child (
-  gain-at-reads.Asked,
-  gain-at-reads.Learnt,
-  absorb-child-below t,
-  absorb-child.Post,
-  put-reads.Asked,
-  put-reads.Learnt,
-) (absorb-bins-at t) absorb-bins.Post
-absorb-bins-add-absorb-child t c = omega (arith, c .before .before .before .before .before .before .before .before .before .before .before .before .before .before .before .before .before .before .pre .1 .1)
-
-absorb-bins-absorb-child-requires : (t : ℕ) → absorb-bins-lts.Need-absorb-child-requires (
-  gain-at-reads.Asked,
-  gain-at-reads.Learnt,
-  absorb-child-below t,
-  absorb-child.Post,
-  put-reads.Asked,
-  put-reads.Learnt,
-) (absorb-bins-at t) absorb-bins.Post
-unfolding ChildLaid
-absorb-bins-absorb-child-requires t c κs = (omega (arith, c .before .before .before .before .before .before .before .before .before .before .before .before .before .before .before .before .before .before .pre .0), (λ z. (c .before .before .before .before .before .before .before .before .before .before .before .before .before .before .before .before .before .before .pre .1 .0) .children (getD (c .before .before .before .before .before .before .before .before .before .before .before .before .before .before .before .before .before .before .args .path .now) (c .before .before .before .before .before .before .before .before .before .before .before .before .before .before .before .before .before .before .args .depth) 0) (below t (c .before .before .before .before .before .before .before .before .before .before .before .before .before .before .before .before .before .before)) z, omega (arith, c .before .before .before .before .before .before .before .before .before .before .before .before .before .before .before .before .before .before .pre .1 .1), held-below (gridAt (c .before .before .before .before .before .before .before .before .before .before .before .before .before .before .before .before .before .before .args .level) (c .before .before .before .before .before .before .before .before .before .before .before .before .before .before .before .before .before .before .args .table .now) (c .before .before .before .before .before .before .before .before .before .before .before .before .before .before .before .before .before .before .args .reals .now) (c .before .before .before .before .before .before .before .before .before .before .before .before .before .before .before .before .before .before .args .counts .now)) (c .before .before .before .before .before .before .before .before .before .before .before .before .before .before .before .before .before .before .args .table .now) (c .before .before .before .before .before .before .before .before .before .before .before .before .before .before .before .before .before .before .args .reals .now) (c .before .before .before .before .before .before .before .before .before .before .before .before .before .before .before .before .before .before .args .counts .now) (c .before .before .before .before .before .before .before .before .before .before .before .before .before .before .before .before .before .before .args .w) (getD (c .before .before .before .before .before .before .before .before .before .before .before .before .before .before .before .before .before .before .args .table .now) (c .before .before .before .before .before .before .before .before .before .before .before .before .before .before .before .before .before .before .args .w + 2) 0) (headAt (c .before .before .before .before .before .before .before .before .before .before .before .before .before .before .before .before .before .before .args .table .now) (c .before .before .before .before .before .before .before .before .before .before .before .before .before .before .before .before .before .before .args .reals .now) (c .before .before .before .before .before .before .before .before .before .before .before .before .before .before .before .before .before .before .args .counts .now) (c .before .before .before .before .before .before .before .before .before .before .before .before .before .before .before .before .before .before .args .w)) (c .before .before .before .before .before .before .before .before .before .before .before .before .before .before .before .before .before .before .pre .1 .2)))
 
 absorb-bins-put-requires : (t : ℕ) → absorb-bins-lts.Need-put-requires (
   gain-at-reads.Asked,
   gain-at-reads.Learnt,
-  absorb-child-below t,
-  absorb-child.Post,
   put-reads.Asked,
   put-reads.Learnt,
+  absorb-child-below t,
+  absorb-child.Post,
 ) (absorb-bins-at t) absorb-bins.Post
-absorb-bins-put-requires t c κs = (omega (arith, (c .before .before .before .before .before .before .before .before .before .before .before .before .before .before .before .before .before .before .before .before .before .before .before .before .before .pre .1 .0), below t (c .before .before .before .before .before .before .before .before .before .before .before .before .before .before .before .before .before .before .before .before .before .before .before .before .before), c .before .before .before .before .before .before .absorb-child .kept .1 .0), omega (arith, (c .before .before .before .before .before .before .before .before .before .before .before .before .before .before .before .before .before .before .before .before .before .before .before .before .before .pre .1 .0), below t (c .before .before .before .before .before .before .before .before .before .before .before .before .before .before .before .before .before .before .before .before .before .before .before .before .before), c .before .before .before .before .before .before .absorb-child .kept .1 .1 .0))
+absorb-bins-put-requires t c κs =
+    let o = c .before .before .before .before .before .before .before .before .before .before .before .before .before .before .before .before .before .before in
+    (omega (arith, o .pre .1 .0, below t o), omega (arith, o .pre .1 .0, below t o))
 
 absorb-bins-put-requires-2 : (t : ℕ) → absorb-bins-lts.Need-put-requires-2 (
   gain-at-reads.Asked,
   gain-at-reads.Learnt,
-  absorb-child-below t,
-  absorb-child.Post,
   put-reads.Asked,
   put-reads.Learnt,
+  absorb-child-below t,
+  absorb-child.Post,
 ) (absorb-bins-at t) absorb-bins.Post
-absorb-bins-put-requires-2 t c κs = (omega (arith, (c .before .before .before .before .before .before .before .before .before .before .before .before .before .before .before .before .before .before .before .before .before .before .before .before .before .before .before .before .before .before .before .before .pre .1 .0), c .before .before .before .before .before .before .before .before .before .before .before .before .before .absorb-child .kept .1 .0, c .before .before .before .before .before .before .put .kept .0), omega (arith, (c .before .before .before .before .before .before .before .before .before .before .before .before .before .before .before .before .before .before .before .before .before .before .before .before .before .before .before .before .before .before .before .before .pre .1 .0), c .before .before .before .before .before .before .before .before .before .before .before .before .before .absorb-child .kept .1 .1 .0, c .before .before .before .before .before .before .put .kept .1 .0))
+absorb-bins-put-requires-2 t c κs =
+    let o = c .before .before .before .before .before .before .before .before .before .before .before .before .before .before .before .before .before .before .before .before .before .before .before .before .before in
+    let inner = c .before .before .before .before .before .before .put in
+    (omega (arith, o .pre .1 .0, inner .kept .0), omega (arith, o .pre .1 .0, inner .kept .1 .0))
+
+absorb-bins-add-absorb-child : (t : ℕ) → absorb-bins-lts.Need-add-absorb-child (
+  gain-at-reads.Asked,
+  gain-at-reads.Learnt,
+  put-reads.Asked,
+  put-reads.Learnt,
+  absorb-child-below t,
+  absorb-child.Post,
+) (absorb-bins-at t) absorb-bins.Post
+absorb-bins-add-absorb-child t c = omega (arith, c .before .before .before .before .before .before .before .before .before .before .before .before .before .before .before .before .before .before .before .before .before .before .before .before .before .before .before .before .before .before .before .before .pre .1 .1)
+
+absorb-bins-absorb-child-requires : (t : ℕ) → absorb-bins-lts.Need-absorb-child-requires (
+  gain-at-reads.Asked,
+  gain-at-reads.Learnt,
+  put-reads.Asked,
+  put-reads.Learnt,
+  absorb-child-below t,
+  absorb-child.Post,
+) (absorb-bins-at t) absorb-bins.Post
+unfolding ChildLaid
+absorb-bins-absorb-child-requires t c κs =
+    let o = c .before .before .before .before .before .before .before .before .before .before .before .before .before .before .before .before .before .before .before .before .before .before .before .before .before .before .before .before .before .before .before .before in
+    let a = o .args in
+    let inner = c .before .before .before .before .before .before .before .before .before .before .before .before .before .put in
+    let own = c .before .before .before .before .before .before .put2 in
+    let laid = bins-kept (a .level) (a .table .now) (length (a .reals .now)) (length (a .counts .now)) (length (own .last .0)) (length (own .last .1 .0)) (a .w) (own .kept .0 ∙ inner .kept .0) (own .kept .1 .0 ∙ inner .kept .1 .0) (o .pre .1 .0) in (
+      omega (arith, o .pre .0),
+      (
+        λ z. laid .children (getD (a .path .now) (a .depth) 0) (below t o) z,
+        omega (arith, o .pre .1 .1),
+        held-past (a .level) (a .table .now) (a .w) (memory (a .reals .now) (a .counts .now)) (o .pre .1 .0) (c .before .before .before .before .before .before .before .before .before .before .before .before .before .before .before .before .before .before .before .gain-at .result) (c .before .before .before .before .before .before .before .before .before .before .before .before .before .before .before .before .gain-at2 .result) (memory (inner .last .0) (inner .last .1 .0)) (memory (own .last .0) (own .last .1 .0)) (o .pre .1 .2) (inner .ensures) (own .ensures),
+      ),
+    )
 
 absorb-bins-same-length : (t : ℕ) → absorb-bins-lts.Need-same-length (
   gain-at-reads.Asked,
   gain-at-reads.Learnt,
-  absorb-child-below t,
-  absorb-child.Post,
   put-reads.Asked,
   put-reads.Learnt,
+  absorb-child-below t,
+  absorb-child.Post,
 ) (absorb-bins-at t) absorb-bins.Post
-absorb-bins-same-length t c = c .before .before .before .before .put2 .kept .0 ∙ c .before .before .before .before .before .before .before .before .before .before .before .put .kept .0 ∙ c .before .before .before .before .before .before .before .before .before .before .before .before .before .before .before .before .before .before .absorb-child .kept .1 .0
+absorb-bins-same-length t c = c .before .before .before .before .absorb-child .kept .1 .0 ∙ c .before .before .before .before .before .before .before .before .before .before .before .put2 .kept .0 ∙ c .before .before .before .before .before .before .before .before .before .before .before .before .before .before .before .before .before .before .put .kept .0
 
 absorb-bins-same-length-2 : (t : ℕ) → absorb-bins-lts.Need-same-length-2 (
   gain-at-reads.Asked,
   gain-at-reads.Learnt,
-  absorb-child-below t,
-  absorb-child.Post,
   put-reads.Asked,
   put-reads.Learnt,
+  absorb-child-below t,
+  absorb-child.Post,
 ) (absorb-bins-at t) absorb-bins.Post
-absorb-bins-same-length-2 t c = c .before .before .before .before .put2 .kept .1 .0 ∙ c .before .before .before .before .before .before .before .before .before .before .before .put .kept .1 .0 ∙ c .before .before .before .before .before .before .before .before .before .before .before .before .before .before .before .before .before .before .absorb-child .kept .1 .1 .0
+absorb-bins-same-length-2 t c = c .before .before .before .before .absorb-child .kept .1 .1 .0 ∙ c .before .before .before .before .before .before .before .before .before .before .before .put2 .kept .1 .0 ∙ c .before .before .before .before .before .before .before .before .before .before .before .before .before .before .before .before .before .before .put .kept .1 .0
 
 absorb-bins-returns : (t : ℕ) → absorb-bins-lts.Need-returns (
   gain-at-reads.Asked,
   gain-at-reads.Learnt,
-  absorb-child-below t,
-  absorb-child.Post,
   put-reads.Asked,
   put-reads.Learnt,
+  absorb-child-below t,
+  absorb-child.Post,
 ) (absorb-bins-at t) absorb-bins.Post
-absorb-bins-returns t c h = bins-absorbed (c .before .before .before .before .before .before .before .before .before .before .before .before .before .before .before .before .before .before .before .before .before .before .before .before .before .before .before .before .before .before .before .before .before .before .before .before .before .args .table .now) (held h) (c .before .before .before .before .before .before .before .before .before .before .before .before .before .before .before .before .before .before .before .before .before .before .before .before .before .before .before .before .before .before .before .before .before .before .before .before .before .args .evaluation) (c .before .before .before .before .before .before .before .before .before .before .before .before .before .before .before .before .before .before .before .before .before .before .before .before .before .before .before .before .before .before .before .before .before .before .before .before .before .args .number) (c .before .before .before .before .before .before .before .before .before .before .before .before .before .before .before .before .before .before .before .before .before .before .before .before .before .before .before .before .before .before .before .before .before .before .before .before .before .args .w) (c .before .before .before .before .before .before .before .before .before .before .before .before .before .before .before .before .before .before .before .before .before .before .before .before .before .before .before .before .before .before .before .before .before .before .before .before .before .args .depth) (absorbed (c .before .before .before .before .before .before .before .before .before .before .before .before .before .before .before .before .before .before .before .before .before .before .before .before .before .before .before .before .before .before .before .before .before .before .before .before .before .args .level) (c .before .before .before .before .before .before .before .before .before .before .before .before .before .before .before .before .before .before .before .before .before .before .before .before .before .before .before .before .before .before .before .before .before .before .before .before .before .args .table .now) (held h) (c .before .before .before .before .before .before .before .before .before .before .before .before .before .before .before .before .before .before .before .before .before .before .before .before .before .before .before .before .before .before .before .before .before .before .before .before .before .args .evaluation) (c .before .before .before .before .before .before .before .before .before .before .before .before .before .before .before .before .before .before .before .before .before .before .before .before .before .before .before .before .before .before .before .before .before .before .before .before .before .args .number)) (memory (c .before .before .before .before .before .before .before .before .before .before .before .before .before .before .before .before .before .before .before .before .before .before .before .before .before .before .before .before .before .before .before .before .before .before .before .before .before .args .reals .now) (c .before .before .before .before .before .before .before .before .before .before .before .before .before .before .before .before .before .before .before .before .before .before .before .before .before .before .before .before .before .before .before .before .before .before .before .before .before .args .counts .now)) (memory (c .before .before .before .before .before .before .before .before .before .before .before .before .before .before .before .before .before .before .absorb-child .last .1 .0) (c .before .before .before .before .before .before .before .before .before .before .before .before .before .before .before .before .before .before .absorb-child .last .1 .1 .0)) (memory (c .before .before .before .before .before .before .before .before .before .before .before .put .last .0) (c .before .before .before .before .before .before .before .before .before .before .before .put .last .1 .0)) (memory (c .before .before .before .before .put2 .last .0) (c .before .before .before .before .put2 .last .1 .0)) (c .before .before .before .before .before .before .before .before .before .before .before .before .before .before .before .before .before .before .before .before .before .before .before .before .gain-at .result) (c .before .before .before .before .before .before .before .before .before .before .before .before .before .before .before .before .before .before .before .before .before .gain-at2 .result) (c .before .before .before .before .before .before .before .before .before .before .before .before .before .before .before .before .before .before .before .before .before .before .before .before .gain-at .ensures) (c .before .before .before .before .before .before .before .before .before .before .before .before .before .before .before .before .before .before .before .before .before .gain-at2 .ensures) (c .before .before .before .before .before .before .before .before .before .before .before .before .before .before .before .before .before .before .absorb-child .ensures (held-below (gridAt (c .before .before .before .before .before .before .before .before .before .before .before .before .before .before .before .before .before .before .before .before .before .before .before .before .before .before .before .before .before .before .before .before .before .before .before .before .before .args .level) (c .before .before .before .before .before .before .before .before .before .before .before .before .before .before .before .before .before .before .before .before .before .before .before .before .before .before .before .before .before .before .before .before .before .before .before .before .before .args .table .now) (c .before .before .before .before .before .before .before .before .before .before .before .before .before .before .before .before .before .before .before .before .before .before .before .before .before .before .before .before .before .before .before .before .before .before .before .before .before .args .reals .now) (c .before .before .before .before .before .before .before .before .before .before .before .before .before .before .before .before .before .before .before .before .before .before .before .before .before .before .before .before .before .before .before .before .before .before .before .before .before .args .counts .now)) (c .before .before .before .before .before .before .before .before .before .before .before .before .before .before .before .before .before .before .before .before .before .before .before .before .before .before .before .before .before .before .before .before .before .before .before .before .before .args .table .now) (c .before .before .before .before .before .before .before .before .before .before .before .before .before .before .before .before .before .before .before .before .before .before .before .before .before .before .before .before .before .before .before .before .before .before .before .before .before .args .reals .now) (c .before .before .before .before .before .before .before .before .before .before .before .before .before .before .before .before .before .before .before .before .before .before .before .before .before .before .before .before .before .before .before .before .before .before .before .before .before .args .counts .now) (c .before .before .before .before .before .before .before .before .before .before .before .before .before .before .before .before .before .before .before .before .before .before .before .before .before .before .before .before .before .before .before .before .before .before .before .before .before .args .w) (getD (c .before .before .before .before .before .before .before .before .before .before .before .before .before .before .before .before .before .before .before .before .before .before .before .before .before .before .before .before .before .before .before .before .before .before .before .before .before .args .table .now) (c .before .before .before .before .before .before .before .before .before .before .before .before .before .before .before .before .before .before .before .before .before .before .before .before .before .before .before .before .before .before .before .before .before .before .before .before .before .args .w + 2) 0) (headAt (c .before .before .before .before .before .before .before .before .before .before .before .before .before .before .before .before .before .before .before .before .before .before .before .before .before .before .before .before .before .before .before .before .before .before .before .before .before .args .table .now) (c .before .before .before .before .before .before .before .before .before .before .before .before .before .before .before .before .before .before .before .before .before .before .before .before .before .before .before .before .before .before .before .before .before .before .before .before .before .args .reals .now) (c .before .before .before .before .before .before .before .before .before .before .before .before .before .before .before .before .before .before .before .before .before .before .before .before .before .before .before .before .before .before .before .before .before .before .before .before .before .args .counts .now) (c .before .before .before .before .before .before .before .before .before .before .before .before .before .before .before .before .before .before .before .before .before .before .before .before .before .before .before .before .before .before .before .before .before .before .before .before .before .args .w)) h)) (c .before .before .before .before .before .before .before .before .before .before .before .put .ensures) (c .before .before .before .before .put2 .ensures)
+absorb-bins-returns t c h =
+    let o = c .before .before .before .before .before .before .before .before .before .before .before .before .before .before .before .before .before .before .before .before .before .before .before .before .before .before .before .before .before .before .before .before .before .before .before .before .before in
+    let a = o .args in
+    let inner = c .before .before .before .before .before .before .before .before .before .before .before .before .before .before .before .before .before .before .put in
+    let own = c .before .before .before .before .before .before .before .before .before .before .before .put2 in
+    let deep = c .before .before .before .before .absorb-child in
+    bins-absorbed (a .table .now) (held h) (a .evaluation) (a .number) (a .w) (a .depth) (absorbed (a .level) (a .table .now) (held h) (a .evaluation) (a .number)) (memory (a .reals .now) (a .counts .now)) (memory (inner .last .0) (inner .last .1 .0)) (memory (own .last .0) (own .last .1 .0)) (memory (deep .last .1 .0) (deep .last .1 .1 .0)) (c .before .before .before .before .before .before .before .before .before .before .before .before .before .before .before .before .before .before .before .before .before .before .before .before .gain-at .result) (c .before .before .before .before .before .before .before .before .before .before .before .before .before .before .before .before .before .before .before .before .before .gain-at2 .result) (c .before .before .before .before .before .before .before .before .before .before .before .before .before .before .before .before .before .before .before .before .before .before .before .before .gain-at .ensures) (c .before .before .before .before .before .before .before .before .before .before .before .before .before .before .before .before .before .before .before .before .before .gain-at2 .ensures) (inner .ensures) (own .ensures)
+    (deep .ensures (held-past (a .level) (a .table .now) (a .w) (memory (a .reals .now) (a .counts .now)) (o .pre .1 .0) (c .before .before .before .before .before .before .before .before .before .before .before .before .before .before .before .before .before .before .before .before .before .before .before .before .gain-at .result) (c .before .before .before .before .before .before .before .before .before .before .before .before .before .before .before .before .before .before .before .before .before .gain-at2 .result) (memory (inner .last .0) (inner .last .1 .0)) (memory (own .last .0) (own .last .1 .0)) h (inner .ensures) (own .ensures)))
 
 absorb-child-returns : (t : ℕ) → absorb-child-lts.Need-returns (
   absorb-grid-below t,
@@ -589,10 +614,10 @@ pub +absorb-bins+absorb-child+absorb-grid-spec : {M : Type 1} → statement M
     close μ-absorb-bins μ-absorb-child μ-absorb-grid (λ t. absorb-bins-lts.spec (
       gain-at-reads.Asked,
       gain-at-reads.Learnt,
-      absorb-child-below t,
-      absorb-child.Post,
       put-reads.Asked,
       put-reads.Learnt,
+      absorb-child-below t,
+      absorb-child.Post,
     )
     (absorb-bins-at t)
     absorb-bins.Post
@@ -626,10 +651,10 @@ pub +absorb-bins+absorb-child+absorb-grid-spec : {M : Type 1} → statement M
     (absorb-bins-mul-inner-c t)
     (absorb-bins-add-inner-c-2 t)
     (absorb-bins-gain-at-requires-2 t)
-    (absorb-bins-add-absorb-child t)
-    (absorb-bins-absorb-child-requires t)
     (absorb-bins-put-requires t)
     (absorb-bins-put-requires-2 t)
+    (absorb-bins-add-absorb-child t)
+    (absorb-bins-absorb-child-requires t)
     (absorb-bins-same-length t)
     (absorb-bins-same-length-2 t)
     (absorb-bins-returns t))
