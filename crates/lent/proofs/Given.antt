@@ -1,6 +1,6 @@
 -- What a sample leaves is read from the entries that it has: of two whose lists in the model are the same, each leaves what the other does,
 -- whatever their arrays hold past them. Assumes nothing.
-use mathlib.Core.Path.{_≡_, refl, sym, ap, _∙_, subst}
+use mathlib.Core.Path.{_≡_, refl, sym, ap, ap₂, _∙_, subst}
 use mathlib.Core.Bool.{Bool, true, false, cond}
 use mathlib.Core.List.{List, [], _∷_}
 use Prim.Native.Nat.{ℕ, zero, suc, _+_, _-_, _<_}
@@ -68,17 +68,23 @@ module _ (table : List ℕ) (reals : List Float) (counts : List ℕ) (e : Float)
         told true b = refl
         told false b = deeper link d m (takes-grid (gridAt l table reals counts) link s d k (eqb-false link 0 b) t) h
 
+    bin-leaves : (v : Float) (w d i : ℕ) (m : Memory) → ((n : Memory) → absorbedChild (absorbed l table s e k) (getD table (w + 7 + i) 0) (d + 1) n ≡ absorbedChild (absorbed l table s′ e k) (getD table (w + 7 + i) 0) (d + 1) n)
+        → absorbedBin (absorbed l table s e k) table v e k w d i m ≡ absorbedBin (absorbed l table s′ e k) table v e k w d i m
+    unfolding absorbedBin
+    bin-leaves v w d i m below = below _
+
     bins-leave : (w d : ℕ) (m : Memory) → Takes (model.bins (headAt table reals counts w) (binsIn (gridAt l table reals counts) table reals counts w 0 (getD table (w + 2) 0))) s d k → Left d
         → absorbedBins (absorbed l table s e k) table s e k w d m ≡ absorbedBins (absorbed l table s′ e k) table s′ e k w d m
-    unfolding absorbedBins absorbedBin
+    unfolding absorbedBins
     bins-leave w d m t h =
         let F = gridAt l table reals counts in
         let n = getD table (w + 2) 0 in
         let o = formed F table reals counts w n (headAt table reals counts w) s d k t in
         let p = onward 0 (s .path) (s′ .path) d (s .levels) (s′ .levels) (o .deeper) (h .path) in
         let v = onward nan (s .weights) (s′ .weights) d (s .given) (s′ .given) (o .weight) (h .weights) in
-        let below = child-leaves (getD table (w + 7 + getD (s .path) d 0) 0) (d + 1) m (takes-below F table reals counts w n (headAt table reals counts w) s d k t) (record { path = p .rest; weights = v .rest; places = h .places }) in
-        rw (below, p .here, v .here)
+        bin-leaves (getD (s .weights) d nan) w d (getD (s .path) d 0) m
+        (λ a. child-leaves (getD table (w + 7 + getD (s .path) d 0) 0) (d + 1) a (takes-below F table reals counts w n (headAt table reals counts w) s d k t) (record { path = p .rest; weights = v .rest; places = h .places }))
+        ∙ ap₂ (λ (x : Float) (i : ℕ). absorbedBin (absorbed l table s′ e k) table x e k w d i m) (v .here) (p .here)
 
     node-leaves : Leaves (suc l)
     node-leaves w d m t h = told (eqb (getD table w 0) 1) refl
