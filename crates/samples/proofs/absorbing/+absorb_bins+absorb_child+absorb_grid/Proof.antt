@@ -2,7 +2,7 @@
 use mathlib.Core.Path.{_≡_, _∙_}
 use mathlib.Core.Bool.{true}
 use native.Mathlib.Omega.{arith}
-use Prim.Native.Nat.{_+_, _-_, _*_}
+use Prim.Native.Nat.{ℕ, _+_, _*_, _<_}
 use lib.ListN.{length, getD}
 use Rattle.accumulator.specs.Record.{wellFormed}
 use Rattle.lent.specs.Memory.{memory, recordAt}
@@ -16,7 +16,6 @@ use Rattle.lent.proofs.Accepts.{formed, head-sound, spot-sound}
 use Rattle.lent.proofs.Founds.{bins-kept}
 use Rattle.lent.proofs.Finds.{held-as, held-grid}
 use Rattle.lent.proofs.Absorbs.{bins-absorbed, held-past, nothing-absorbed, child-absorbed, absorbed-axes, absorbed-bins}
-use Prim.Native.Nat.{ℕ, _<_}
 use borrow.Fn.Kinds.{In}
 use borrow.Fn.PlainCycle.{Measures, is, falls, and}
 use Rattle.samples.proofs.absorbing.absorb_bins.Reads as absorb-bins
