@@ -1,4 +1,3 @@
 pub mod Closeness
 pub mod Settled
-pub mod Starts
 pub mod Unique

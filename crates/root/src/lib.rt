@@ -1,9 +1,8 @@
-// The root of a double, of one and of two at once: the double nearest the true root, for every input.
+// The root of a double: the double nearest the true root, for every input.
 mod positive;
 
 ghost use mathlib.Core.Path.{_≡_};
 ghost use Rattle.careful.specs.Root.{rootOf};
-ghost use Rattle.root.specs.Pair.{rootsOf};
 use positive::careful_root;
 use positive::guess;
 use positive::is_about;
@@ -19,7 +18,7 @@ pub fn sqrt(x: f64) -> f64
 {
     if is_normal(x) {
         let bits = f64::to_bits(x);
-        let g = guess(unit(bits));
+        let g = guess(bits);
         if is_about(g, unit(bits)) {
             let e = f64::to_bits(g);
             if is_right(bits, e) {
@@ -28,37 +27,4 @@ pub fn sqrt(x: f64) -> f64
         }
     }
     careful_root(x)
-}
-
-// Two roots.
-pub struct RootPair {
-    pub first: f64,
-    pub second: f64,
-}
-
-// The roots of x and y, each as `sqrt` says, in less time than one after the other: both are guessed before either is judged, and each
-// test is one condition for both, so that the compiler takes both by packed instructions.
-pub fn sqrts(x: f64, y: f64) -> RootPair
-    ensures { λ r. ⌜ r ≡ rootsOf x y ⌝ }
-{
-    if is_normal(x) & is_normal(y) {
-        let a = f64::to_bits(x);
-        let b = f64::to_bits(y);
-        let g = guess(unit(a));
-        let h = guess(unit(b));
-        if is_about(g, unit(a)) & is_about(h, unit(b)) {
-            let e = f64::to_bits(g);
-            let f = f64::to_bits(h);
-            if is_right(a, e) & is_right(b, f) {
-                return RootPair {
-                    first: joined(a, e),
-                    second: joined(b, f),
-                };
-            }
-        }
-    }
-    RootPair {
-        first: sqrt(x),
-        second: sqrt(y),
-    }
 }

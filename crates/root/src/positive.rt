@@ -1,9 +1,8 @@
-// The parts of the root: a guess in doubles, a quick test of it in whole numbers, and the judge of any guess.
+// The parts of the root: a guess in doubles from a start in whole numbers, a quick test of it in whole numbers, and the judge of any guess.
 ghost use mathlib.Core.Path.{_≡_};
 ghost use Prim.Native.Nat.{_+_, _-_, _*_, _/_, _%_, _^_, _≤_, _<_};
 ghost use mathlib.Core.Bool.{true, _&&_};
 ghost use lib.Ieee.{binary64, add, sub, mul, le, ofBits};
-ghost use Rattle.doubles.specs.Bound.{Within};
 ghost use Rattle.careful.specs.Digits.{NearRoot};
 ghost use Rattle.careful.specs.Root.{rootOf};
 ghost use Rattle.root.specs.Digits.{Right, eps, normalOf, unitOf};
@@ -15,30 +14,36 @@ pub fn is_normal(x: f64) -> bool
     (2.2250738585072014e-308 <= x) & (x <= 1.7976931348623157e308)
 }
 
-// About the root of x, for an x from 1/2 to below 2: a polynomial, its leading half h, whose square is a double, and the rest
-// from a fraction that equals the root of x less h up to the fifth power of x / h^2 - 1. Nothing is promised of it: it is
-// judged, and of ten thousand one or two are moved, by one. The polynomial is of degree 4, as two factors that need not wait
-// for each other: an update waits for two guesses one after the other.
-pub fn guess(x: f64) -> f64
-    requires { ⌜ Within x 2 ⌝ }
+// A normal double's digits as a number from 1/2 to below 2: x times a power of 4.
+pub fn unit(bits: u64) -> f64
+    ensures { λ r. ⌜ r ≡ unitOf bits ⌝ }
 {
-    let first = (x + 0.221088069527559) * (0.12888292546866997 - 0.02863648528183046 * x);
-    let second = x * (x - 2.2815437127222586) + 9.452371751940333;
-    let bits = f64::to_bits(first * second);
-    let h = f64::from_bits(bits - bits % 0x800_0000);
+    f64::from_bits(bits % 0x20_0000_0000_0000 + 0x3fe0_0000_0000_0000)
+}
+
+// Where the guess of a root starts, by the bits of the number: a cubic polynomial of the 26 leading digits behind the first, as two
+// factors, in whole numbers, which the processor works out beside the doubles. It is the root of the number's unit to one part in
+// seven thousand, and has 26 digits at most, so that its square is a double.
+fn start(bits: u64) -> f64 {
+    let even = bits / 0x10_0000_0000_0000 % 2;
+    let f = bits % 0x10_0000_0000_0000 / 0x400_0000;
+    let scale = if even == 1 { 107105432 } else { 151469954 };
+    let first = (f + 95641766) * scale / 0x1_0000_0000;
+    let second = 1888385671 - f * (386105540 - f) / 0x400_0000;
+    let e = (1021 + even) * 0x10_0000_0000_0000 + first * second;
+    f64::from_bits(e - e % 0x800_0000)
+}
+
+// About the root of a number's unit, by the number's bits: a start h, and the rest from a fraction that equals the root of x less h
+// up to the fifth power of x / h^2 - 1. Nothing is promised of it: it is judged, and of a hundred thousand some four are moved, by one.
+pub fn guess(bits: u64) -> f64 {
+    let x = unit(bits);
+    let h = start(bits);
     let hh = h * h;
     let sum = x + hh;
     let above = 0.8 * h * (x - hh) * sum;
     let below = sum * sum - 0.8 * (x * x);
     h + above / below
-}
-
-// Fifty-three digits as a number from 1 to below 2, or where odd is 1 half of that.
-fn scaled(digits: u64, odd: u64) -> f64
-    requires { ⌜ (digits < 2 ^ 53) × (odd ≤ 1) ⌝ }
-    ensures { λ r. ⌜ Within r 2 ⌝ }
-{
-    f64::from_bits((1022 - odd) * 0x10_0000_0000_0000 + digits)
 }
 
 // The lower half of q * q in binary digits.
@@ -68,13 +73,6 @@ fn is_sure(q: u64, m: u64, s: u64) -> bool
     std::num::wrapping_add_u64(rest, q - 1) < 2 * q
 }
 
-// A normal double's digits as a number from 1/2 to below 2: x times a power of 4.
-pub fn unit(bits: u64) -> f64
-    ensures { λ r. ⌜ r ≡ unitOf bits ⌝ }
-{
-    f64::from_bits(bits % 0x20_0000_0000_0000 + 0x3fe0_0000_0000_0000)
-}
-
 // The root of x, by the judge that any guess suffices for.
 pub fn careful_root(x: f64) -> f64
     ensures { λ r. ⌜ r ≡ rootOf x ⌝ }
@@ -83,7 +81,10 @@ pub fn careful_root(x: f64) -> f64
         return careful::root_from(x, x);
     }
     let p = doubles::split(f64::to_bits(x));
-    careful::root_from(x, guess(scaled(p.digits, p.shift % 2)))
+    careful::root_from(
+        x,
+        guess((1022 - p.shift % 2) * 0x10_0000_0000_0000 + p.digits),
+    )
 }
 
 // Whether e, the bits of a guess whose square lies by the unit of x, are those of its root; `bits` are x's.

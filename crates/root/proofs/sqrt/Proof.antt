@@ -9,7 +9,6 @@ use Rattle.root.specs.Digits.{Right}
 use Rattle.doubles.proofs.Truth.{was}
 use Rattle.doubles.proofs.Bits.{no-nan}
 use Rattle.root.proofs.Settled.{normal, settles, joins, compares}
-use Rattle.root.proofs.Starts.{starts}
 use Rattle.root.proofs.sqrt.Statement.{statement}
 use Rattle.root.proofs.sqrt.Tie as tie
 
@@ -21,7 +20,7 @@ high : (c : tie.Then1) → T (positive (c .before .before .args .x)) × (2 ^ 52 
 high c = let s = c .before .before in normal (s .args .x) (held s) (sym (c .before .is-normal .ensures) ∙ c .if1 .taken)
 
 -- the guess's bits are those of the root
-right : (c : tie.Then3) → Right (toBits binary64 (c .before .before .before .before .before .before .before .before .before .args .x)) (toBits binary64 (c .before .before .before .before .before .guess .result))
+right : (c : tie.Then3) → Right (toBits binary64 (c .before .before .before .before .before .before .before .before .args .x)) (toBits binary64 (c .before .before .before .before .before .guess .result))
 right c = c .before .is-right .ensures (c .if3 .taken)
 
 is-normal-requires : tie.Need-is-normal-requires
@@ -30,14 +29,11 @@ is-normal-requires c κs = search needs
 float-to-bits-bits : tie.Need-float-to-bits-bits
 float-to-bits-bits c = no-nan (c .before .before .args .x) (high c .0)
 
+guess-requires : tie.Need-guess-requires
+guess-requires c κs = search needs
+
 unit-requires : tie.Need-unit-requires
 unit-requires c κs = search needs
-
-guess-requires : tie.Need-guess-requires
-guess-requires c κs = starts (c .unit .result) (toBits binary64 (c .before .before .before .args .x)) (c .unit .ensures)
-
-unit-requires-2 : tie.Need-unit-requires-2
-unit-requires-2 c κs = search needs
 
 is-about-requires : tie.Need-is-about-requires
 is-about-requires c κs = search needs
@@ -45,14 +41,14 @@ is-about-requires c κs = search needs
 float-to-bits-e : tie.Need-float-to-bits-e
 float-to-bits-e c =
     let a = c .before in
-    compares (a .before .before .guess .result) (a .before .unit2 .result) (a .is-about .result) (a .is-about .ensures) (c .if2 .taken)
+    compares (a .before .before .guess .result) (a .before .unit .result) (a .is-about .result) (a .is-about .ensures) (c .if2 .taken)
 
 is-right-requires : tie.Need-is-right-requires
 is-right-requires c κs = search needs
 
 joined-requires : tie.Need-joined-requires
 joined-requires c κs =
-    let t = c .before .before .before .before .before .before .before in
+    let t = c .before .before .before .before .before .before in
     let s = t .before .before in
     joins (s .args .x) (toBits binary64 (s .args .x)) (toBits binary64 (c .before .before .before .before .before .guess .result)) (held s) (high t .0) refl (right c)
 
@@ -62,10 +58,10 @@ returns c =
     let a = d .before in
     let u = a .before in
     let g = u .before in
-    let t = g .before .before in
+    let t = g .before in
     let s = t .before .before in
     c .joined .ensures
-    ∙ settles (s .args .x) (g .guess .result) (u .unit2 .result) (toBits binary64 (s .args .x)) (a .is-about .result) (held s) (was (g .guess .ok)) (high t .0) refl (high t .1) (u .unit2 .ensures) (a .is-about .ensures) (d .if2 .taken) (right (c .before))
+    ∙ settles (s .args .x) (g .guess .result) (u .unit .result) (toBits binary64 (s .args .x)) (a .is-about .result) (held s) (was (g .guess .ok)) (high t .0) refl (high t .1) (u .unit .ensures) (a .is-about .ensures) (d .if2 .taken) (right (c .before))
 
 careful-root-requires : tie.Need-careful-root-requires
 careful-root-requires c κs = search needs
@@ -79,9 +75,8 @@ sqrt-spec =
     (tie.spec
     is-normal-requires
     float-to-bits-bits
-    unit-requires
     guess-requires
-    unit-requires-2
+    unit-requires
     is-about-requires
     float-to-bits-e
     is-right-requires

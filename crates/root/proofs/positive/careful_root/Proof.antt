@@ -30,15 +30,22 @@ float-to-bits-split c = no-nan (c .before .before .args .x) (above c)
 split-requires : tie.Need-split-requires
 split-requires c κs = search needs
 
-scaled-requires : tie.Need-scaled-requires
-scaled-requires c κs =
-    let a = c .before in
+sub-guess : tie.Need-sub-guess
+sub-guess c = search needs
+
+mul-guess : tie.Need-mul-guess
+mul-guess c = search needs
+
+add-guess : tie.Need-add-guess
+add-guess c =
+    let a = c .before .before in
     let t = a .before in
     let s = t .before .before in
-    (splits (s .args .x) (a .split .result) (held s) (above t) (a .split .ensures) .short, omega arith)
+    let h = splits (s .args .x) (a .split .result) (held s) (above t) (a .split .ensures) .short in
+    omega arith
 
 guess-requires : tie.Need-guess-requires
-guess-requires c κs = c .scaled .ensures
+guess-requires c κs = search needs
 
 root-from-requires-2 : tie.Need-root-from-requires-2
 root-from-requires-2 c κs = search needs
@@ -55,7 +62,9 @@ careful-root-spec =
     returns
     float-to-bits-split
     split-requires
-    scaled-requires
+    sub-guess
+    mul-guess
+    add-guess
     guess-requires
     root-from-requires-2
     returns-2)
