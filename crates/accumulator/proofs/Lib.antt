@@ -2,6 +2,6 @@
 pub mod Counts
 pub mod Accepted
 pub mod Processed
-pub mod Iterated
+pub mod Ended
 pub mod Laws
 pub mod Unique

@@ -1,24 +1,30 @@
 -- An iteration's processing: what the code's calls answer, put together, is the definition.
 use mathlib.Core.Path.{_≡_, refl}
 use mathlib.Core.Bool.{Bool, true, false, cond}
-use Prim.Native.Nat.{_+_}
 use lib.Dec.{eqb}
-use lib.Ieee.{Float, binary64, add}
-use Rattle.doubles.specs.Count.{countOf}
+use lib.Ieee.{Float, binary64, add, div}
+use Rattle.doubles.specs.Numbers.{zero64}
+use Rattle.doubles.specs.Inverse.{invOf}
 use Rattle.careful.specs.Root.{rootOf}
 use Rattle.accumulator.specs.declared.StatisticsAccumulator.{StatisticsAccumulator}
 use Rattle.accumulator.specs.declared.steps.Iterated.{Iterated}
 use Rattle.accumulator.specs.Record.{finiteSums, boundedCounts, wellFormed}
-use Rattle.accumulator.specs.Update.{figuresOf, gatheredOf, courseOf, settledOf, iteratedOf, processedOf}
+use Rattle.accumulator.specs.Update.{varianceFrom, varianceOf, weightOf, figuresOf, figuresFor, gatheredOf, courseOf, settledOf, iteratedOf, processedOf}
 use Rattle.accumulator.specs.Calls.{estimatesOf}
 
--- the root of one of two is one of their roots
-pub root-of-choice : (b : Bool) (x y : Float) → rootOf (cond b x y) ≡ cond b (rootOf x) (rootOf y)
-root-of-choice true x y = refl
-root-of-choice false x y = refl
+-- an iteration's figures: the error asks for the root of all samples' mean square only where that was taken
+pub figures-are : (b : Bool) (sum sumSq n total totalSq all weights root first variance weight sigma err : Float)
+    → root ≡ cond b zero64 (rootOf (div binary64 totalSq all)) → first ≡ rootOf (div binary64 sumSq n) → variance ≡ varianceFrom (div binary64 sum n) first n
+    → weight ≡ weightOf variance → sigma ≡ invOf (add binary64 weights weight) → err ≡ cond b (rootOf sigma) (rootOf (varianceFrom (div binary64 total all) root all))
+    → record { mean = div binary64 sum n; refusal = 0; weight = weight; avg = div binary64 total all; err = err; sigma = sigma } ≡ figuresOf b sum sumSq n total totalSq all weights
+unfolding figuresOf varianceOf
+figures-are true sum sumSq n total totalSq all weights root first variance weight sigma err is-root is-first is-variance is-weight is-sigma is-err =
+    rw (is-err, is-sigma, is-weight, is-variance, is-first)
+figures-are false sum sumSq n total totalSq all weights root first variance weight sigma err is-root is-first is-variance is-weight is-sigma is-err =
+    rw (is-err, is-sigma, is-weight, is-variance, is-first, is-root)
 
 -- the record: gathered, and then an iteration's course and estimates
-module _ (weighted : Bool) (a g : StatisticsAccumulator) (e : Iterated) (n all : Float) where
+module _ (weighted : Bool) (a g : StatisticsAccumulator) (e : Iterated) where
   abbrev after : StatisticsAccumulator
   after =
       record {
@@ -45,18 +51,15 @@ module _ (weighted : Bool) (a g : StatisticsAccumulator) (e : Iterated) (n all :
         «max_eval_negative» = g .«max_eval_negative»;
       }
 
-  pub steps-are : g ≡ gatheredOf a → n ≡ countOf (a .«new_samples») → all ≡ countOf (a .«processed_samples» + a .«new_samples»)
-      → e ≡ iteratedOf weighted (eqb (a .«cur_iter») 0) (figuresOf weighted (a .sum) (a .«sum_sq») n (g .«total_sum») (g .«total_sum_sq») all (a .«weight_sum»)) (courseOf a)
-      → after ≡ processedOf weighted a
-  unfolding processedOf gatheredOf courseOf iteratedOf settledOf figuresOf
-  steps-are is-g is-n is-all is-e = rw (is-e, is-all, is-n, is-g)
+  pub steps-are : g ≡ gatheredOf a → e ≡ iteratedOf weighted (eqb (a .«cur_iter») 0) (figuresFor weighted a) (courseOf a) → after ≡ processedOf weighted a
+  unfolding processedOf gatheredOf courseOf iteratedOf settledOf figuresFor figuresOf
+  steps-are is-g is-e = rw (is-e, is-g)
 
 -- the estimates alone, with the plain average
-pub estimates-are : (a : StatisticsAccumulator) (e : Iterated) (n all : Float) → n ≡ countOf (a .«new_samples») → all ≡ countOf (a .«processed_samples» + a .«new_samples»)
-    → e ≡ iteratedOf false (eqb (a .«cur_iter») 0) (figuresOf false (a .sum) (a .«sum_sq») n (add binary64 (a .«total_sum») (a .sum)) (add binary64 (a .«total_sum_sq») (a .«sum_sq»)) all (a .«weight_sum»)) (courseOf a)
+pub estimates-are : (a : StatisticsAccumulator) (e : Iterated) → e ≡ iteratedOf false (eqb (a .«cur_iter») 0) (figuresFor false a) (courseOf a)
     → e .estimate ≡ estimatesOf (processedOf false a)
-unfolding estimatesOf processedOf courseOf iteratedOf settledOf figuresOf
-estimates-are a e n all is-n is-all is-e = rw (is-e, is-all, is-n)
+unfolding estimatesOf processedOf courseOf iteratedOf settledOf figuresFor figuresOf
+estimates-are a e is-e = rw is-e
 
 -- no estimate is judged
 pub judged-before : (weighted : Bool) (a : StatisticsAccumulator) → wellFormed (gatheredOf a) ≡ wellFormed (processedOf weighted a)

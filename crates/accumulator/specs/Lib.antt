@@ -3,3 +3,4 @@ pub mod Record
 pub mod Steps
 pub mod Update
 pub mod Calls
+pub mod Ended

@@ -1,5 +1,5 @@
 -- `update_iter`, in the Rust's order of operations.
-use Prim.Native.Nat.{_+_}
+use Prim.Native.Nat.{ℕ, _+_}
 use mathlib.Core.Bool.{Bool, cond}
 use lib.Dec.{leb, eqb}
 use lib.Ieee.{Float, binary64, ofBits, add, sub, mul, div, eq}
@@ -32,7 +32,24 @@ figuresOf weighted sum sumSq n total totalSq all weights =
     let avg = div binary64 total all in
     let weight = weightOf (varianceOf mean (div binary64 sumSq n) n) in
     let sigma = invOf (add binary64 weights weight) in
-    record { mean = mean; weight = weight; avg = avg; err = cond weighted (rootOf sigma) (rootOf (varianceOf avg (div binary64 totalSq all) all)); sigma = sigma }
+    record {
+      mean = mean;
+      refusal = 0;
+      weight = weight;
+      avg = avg;
+      err = cond weighted (rootOf sigma) (rootOf (varianceOf avg (div binary64 totalSq all) all));
+      sigma = sigma;
+    }
+
+-- those of a record's iteration
+unfoldable pub figuresFor : Bool → StatisticsAccumulator → Figures
+figuresFor weighted a =
+    figuresOf weighted (a .sum) (a .«sum_sq») (countOf (a .«new_samples»)) (add binary64 (a .«total_sum») (a .sum)) (add binary64 (a .«total_sum_sq») (a .«sum_sq»))
+    (countOf (a .«processed_samples» + a .«new_samples»)) (a .«weight_sum»)
+
+-- none, but the number of a refusal, 0 for none
+unfoldable pub withoutOf : ℕ → Figures
+withoutOf n = record { mean = zero64; refusal = n; weight = zero64; avg = zero64; err = zero64; sigma = zero64 }
 
 -- the waiting samples among the processed ones, one iteration on; the estimates stay
 unfoldable pub gatheredOf : StatisticsAccumulator → StatisticsAccumulator

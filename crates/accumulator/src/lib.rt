@@ -6,7 +6,7 @@ mod judge;
 mod steps;
 
 ghost use mathlib.Core.Path.{_≡_};
-ghost use mathlib.Core.Bool.{false, cond, _&&_};
+ghost use mathlib.Core.Bool.{false, _&&_};
 ghost use Rattle.doubles.specs.Paper.{refuses};
 ghost use Rattle.accumulator.specs.Record.{fresh, wellFormed};
 ghost use Rattle.accumulator.specs.Steps.{addedOf};
@@ -182,17 +182,26 @@ impl StatisticsAccumulator {
     }
 
     // The record with its waiting samples processed, where there are at least two, and whether they were. Refused: 12, 8.
-    // Sums that are finite afterwards were so before: an update that is accepted is judged once, on the record after it.
     pub fn update_iter(self, weighted_average: bool) -> Updated
         ensures { λ r. ⌜ paperUpdated r ≡ updateOf «weighted_average» self ⌝ }
     {
-        if !has_bounded_counts(self) {
-            return Updated::Refused(12);
+        let f = steps::figures_of(
+            weighted_average,
+            self.sum,
+            self.new_samples,
+            self.sum_sq,
+            self.new_zero_evaluations,
+            self.total_sum,
+            self.processed_samples,
+            self.total_sum_sq,
+            self.num_zero_evaluations,
+            self.weight_sum,
+            self.cur_iter,
+        );
+        if f.refusal != 0 {
+            return Updated::Refused(f.refusal);
         }
-        let after = steps::updated(weighted_average, self);
-        if !is_well_formed(after) {
-            return Updated::Refused(update_refusal(self));
-        }
+        let after = steps::updated(weighted_average, self, f);
         Updated::Record(2 <= self.new_samples, after)
     }
 
@@ -200,13 +209,23 @@ impl StatisticsAccumulator {
     pub fn get_live_estimate(self) -> Estimated
         ensures { λ r. ⌜ paperEstimated r ≡ liveEstimateOf self ⌝ }
     {
-        if !is_well_formed(self) {
-            return Estimated::Refused(12);
+        let f = steps::figures_of(
+            false,
+            self.sum,
+            self.new_samples,
+            self.sum_sq,
+            self.new_zero_evaluations,
+            self.total_sum,
+            self.processed_samples,
+            self.total_sum_sq,
+            self.num_zero_evaluations,
+            self.weight_sum,
+            self.cur_iter,
+        );
+        if f.refusal != 0 {
+            return Estimated::Refused(f.refusal);
         }
-        if !is_well_formed(steps::moved(self)) {
-            return Estimated::Refused(8);
-        }
-        Estimated::Estimate(steps::live(self))
+        Estimated::Estimate(steps::live(self, f))
     }
 
     // Iterations, samples, average, error, chi-squared, and flat, exactly where the error is zero. Refused: 12.
@@ -257,16 +276,6 @@ fn sample_refusal(a: StatisticsAccumulator, eval: f64, number: u64) -> u64
     }
     if !plain::finite(eval) {
         return 7;
-    }
-    8
-}
-
-// Why an update is refused whose record afterwards is not well formed.
-fn update_refusal(a: StatisticsAccumulator) -> u64
-    ensures { λ r. ⌜ r ≡ cond (wellFormed a) 8 12 ⌝ }
-{
-    if !is_well_formed(a) {
-        return 12;
     }
     8
 }

@@ -1,12 +1,16 @@
-// The Rust's steps on a record whose counts are within their bound. Nothing is judged here: the calls judge.
+// The Rust's steps on a record whose counts are within their bound. Only the end of an iteration is judged here; else the calls judge.
 ghost use mathlib.Core.Path.{_≡_};
 ghost use mathlib.Core.Bool.{true, false, cond};
 ghost use Rattle.accumulator.specs.Record.{boundedCounts, wellFormed};
 ghost use Rattle.accumulator.specs.Steps.{zeroCount, replaced, addedOf, mergedOf, clearedOf, copiedOf};
-ghost use Rattle.accumulator.specs.Update.{varianceFrom, weightOf, figuresOf, gatheredOf, courseOf, settledOf, iteratedOf, processedOf, updatedOf};
+ghost use Rattle.accumulator.specs.Update.{varianceFrom, weightOf, figuresOf, figuresFor, withoutOf, gatheredOf, courseOf, settledOf, iteratedOf, processedOf, enough, updatedOf};
 ghost use Rattle.accumulator.specs.Calls.{estimatesOf};
+ghost use Rattle.accumulator.specs.Ended.{Plain, talliedOf, refusalOf, endedOf};
+ghost use Rattle.doubles.specs.Numbers.{zero64};
+ghost use Rattle.careful.specs.Root.{rootOf};
 use crate::Estimate;
 use crate::StatisticsAccumulator;
+use crate::judge::is_well_formed;
 
 // One of two doubles.
 fn either(first: bool, a: f64, b: f64) -> f64
@@ -110,15 +114,15 @@ pub fn copied(a: StatisticsAccumulator) -> StatisticsAccumulator
     r
 }
 
-// What an iteration comes to: its samples' mean and weight; the plain mean of all samples; the error, and the weighted mean's variance.
-// The two quotients avg and sigma stand apart: side by side the compiler would divide for both at once, and the first would wait for
-// the weight.
-struct Figures {
-    mean: f64,
-    weight: f64,
-    avg: f64,
-    err: f64,
-    sigma: f64,
+// What an iteration comes to: the number of the refusal of its end, 0 for none; its samples' mean and weight; the plain mean of all
+// samples; the error, and the weighted mean's variance. Without at least two samples there is nothing but the number.
+pub struct Figures {
+    pub mean: f64,
+    pub refusal: u64,
+    pub weight: f64,
+    pub avg: f64,
+    pub err: f64,
+    pub sigma: f64,
 }
 
 // The variance of a mean, from the root of the mean square, with no clamp: rounding may take it below zero.
@@ -138,10 +142,43 @@ fn weight(variance: f64) -> f64
     plain::inv(variance)
 }
 
-// The figures of an iteration's n samples and of all samples, after iterations of this weight in all. The first two roots are taken
-// together. An update and a live estimate call this function, so that it stays a call; it hands on numbers alone, and what a record
-// keeps need not pass through memory.
-fn figures_of(
+// No figures, but the number of a refusal, 0 for none.
+fn without(refusal: u64) -> Figures
+    ensures { λ r. ⌜ r ≡ withoutOf refusal ⌝ }
+{
+    Figures {
+        mean: 0.0,
+        refusal,
+        weight: 0.0,
+        avg: 0.0,
+        err: 0.0,
+        sigma: 0.0,
+    }
+}
+
+// The root of all samples' mean square; a weighted mean's error does without it.
+fn root_of_all(weighted: bool, squares: f64) -> f64
+    ensures { λ r. ⌜ r ≡ cond weighted zero64 (rootOf squares) ⌝ }
+{
+    if weighted {
+        return 0.0;
+    }
+    root::sqrt(squares)
+}
+
+// The error of a mean: of the weighted one from its variance, of the plain one from all samples. Each waits only for what it needs.
+fn error(weighted: bool, sigma: f64, avg: f64, root: f64, all: f64) -> f64
+    ensures { λ r. ⌜ r ≡ cond weighted (rootOf sigma) (rootOf (varianceFrom avg root all)) ⌝ }
+{
+    if weighted {
+        return root::sqrt(sigma);
+    }
+    root::sqrt(variance(avg, root, all))
+}
+
+// The figures of an iteration's n samples and of all samples, after iterations of this weight in all. The root that the error waits
+// for comes first.
+fn figured(
     weighted: bool,
     sum: f64,
     sum_sq: f64,
@@ -153,15 +190,15 @@ fn figures_of(
 ) -> Figures
     ensures { λ r. ⌜ r ≡ figuresOf weighted sum «sum_sq» n total «total_sq» all «weight_sum» ⌝ }
 {
+    let root = root_of_all(weighted, total_sq / all);
     let mean = sum / n;
-    let avg = total / all;
-    let roots = root::sqrts(sum_sq / n, total_sq / all);
-    let weight = weight(variance(mean, roots.first, n));
+    let weight = weight(variance(mean, root::sqrt(sum_sq / n), n));
     let sigma = plain::inv(weight_sum + weight);
-    let spread = variance(avg, roots.second, all);
-    let err = root::sqrt(either(weighted, sigma, spread));
+    let avg = total / all;
+    let err = error(weighted, sigma, avg, root, all);
     Figures {
         mean,
+        refusal: 0,
         weight,
         avg,
         err,
@@ -181,6 +218,133 @@ pub fn gathered(a: StatisticsAccumulator) -> StatisticsAccumulator
     r.total_sum = a.total_sum + a.sum;
     r.total_sum_sq = a.total_sum_sq + a.sum_sq;
     r
+}
+
+// The record after an iteration but for its estimates, which no judge looks at.
+fn moved(a: StatisticsAccumulator) -> StatisticsAccumulator
+    requires { ⌜ boundedCounts a ≡ true ⌝ }
+    ensures { λ r. ⌜ wellFormed r ≡ wellFormed (updatedOf false a) ⌝ }
+{
+    if a.new_samples < 2 {
+        let mut r = a;
+        r.cur_iter = a.cur_iter + 1;
+        return r;
+    }
+    gathered(a)
+}
+
+// Why the record's iteration may not end, 0 where it may.
+fn refusal_of(a: StatisticsAccumulator) -> u64
+    ensures { λ r. ⌜ r ≡ refusalOf a ⌝ }
+{
+    if !is_well_formed(a) {
+        return 12;
+    }
+    if !is_well_formed(moved(a)) {
+        return 8;
+    }
+    0
+}
+
+// Whether an iteration may end for plain reasons: no count is near its bound, and the sums are finite afterwards, so that they were so
+// before.
+fn is_plain(
+    n: u64,
+    zeros: u64,
+    processed: u64,
+    num_zeros: u64,
+    iterations: u64,
+    total: f64,
+    total_sq: f64,
+) -> bool
+    ensures { λ r. ⌜ (r ≡ true → Plain n zeros processed «num_zeros» iterations total «total_sq») ⌝ }
+{
+    (n < 4503599627370496)
+        & (zeros < 4503599627370496)
+        & (processed < 4503599627370496)
+        & (num_zeros < 4503599627370496)
+        & (iterations < 4503599627370496)
+        & ((total - total) + (total_sq - total_sq) <= 0.0)
+}
+
+// The record's sums and counts alone.
+fn tallied(
+    sum: f64,
+    n: u64,
+    sum_sq: f64,
+    zeros: u64,
+    total: f64,
+    processed: u64,
+    total_sq: f64,
+    num_zeros: u64,
+    weight_sum: f64,
+    iterations: u64,
+) -> StatisticsAccumulator
+    ensures { λ r. ⌜ r ≡ talliedOf sum n «sum_sq» zeros total processed «total_sq» «num_zeros» «weight_sum» iterations ⌝ }
+{
+    let mut r = StatisticsAccumulator::new();
+    r.sum = sum;
+    r.new_samples = n;
+    r.sum_sq = sum_sq;
+    r.new_zero_evaluations = zeros;
+    r.total_sum = total;
+    r.processed_samples = processed;
+    r.total_sum_sq = total_sq;
+    r.num_zero_evaluations = num_zeros;
+    r.weight_sum = weight_sum;
+    r.cur_iter = iterations;
+    r
+}
+
+// Why an iteration with these sums and counts may not end, and what it comes to. An update and a live estimate call this function, so
+// that it stays a call. It is handed numbers and hands numbers on: the calls around it stay small, and what a record keeps need not
+// pass through memory.
+pub fn figures_of(
+    weighted: bool,
+    sum: f64,
+    n: u64,
+    sum_sq: f64,
+    zeros: u64,
+    total: f64,
+    processed: u64,
+    total_sq: f64,
+    num_zeros: u64,
+    weight_sum: f64,
+    iterations: u64,
+) -> Figures
+    ensures { λ r. ⌜ r ≡ endedOf weighted (talliedOf sum n «sum_sq» zeros total processed «total_sq» «num_zeros» «weight_sum» iterations) ⌝ }
+{
+    let t = total + sum;
+    let q = total_sq + sum_sq;
+    let mut refusal: u64 = 0;
+    if !is_plain(n, zeros, processed, num_zeros, iterations, t, q) {
+        refusal = refusal_of(tallied(
+            sum,
+            n,
+            sum_sq,
+            zeros,
+            total,
+            processed,
+            total_sq,
+            num_zeros,
+            weight_sum,
+            iterations,
+        ));
+    }
+    if (refusal != 0) | (n < 2) {
+        return without(refusal);
+    }
+    let waiting = n as f64;
+    figured(
+        weighted,
+        sum,
+        sum_sq,
+        waiting,
+        t,
+        q,
+        (processed as f64) + waiting,
+        weight_sum,
+    )
 }
 
 // What the iterations so far come to: their weighted sums, and the mean of the first.
@@ -241,24 +405,12 @@ fn iterate(weighted: bool, first: bool, f: Figures, c: Course) -> Iterated
     }
 }
 
-// The record with its waiting samples processed, and the estimates after them.
-fn processed(weighted: bool, a: StatisticsAccumulator) -> StatisticsAccumulator
-    requires { ⌜ boundedCounts a ≡ true ⌝ }
+// The record with its waiting samples processed, and the estimates after them, from the iteration's figures.
+fn processed(weighted: bool, a: StatisticsAccumulator, f: Figures) -> StatisticsAccumulator
+    requires { ⌜ (boundedCounts a ≡ true) × (f ≡ figuresFor weighted a) ⌝ }
     ensures { λ r. ⌜ r ≡ processedOf weighted a ⌝ }
 {
     let mut r = gathered(a);
-    let n = a.new_samples as f64;
-    let all = (a.processed_samples as f64) + n;
-    let f = figures_of(
-        weighted,
-        a.sum,
-        a.sum_sq,
-        n,
-        r.total_sum,
-        r.total_sum_sq,
-        all,
-        a.weight_sum,
-    );
     let e = iterate(weighted, a.cur_iter == 0, f, course_of(a));
     r.weight_sum = e.course.weight_sum;
     r.avg_sum = e.course.avg_sum;
@@ -271,9 +423,9 @@ fn processed(weighted: bool, a: StatisticsAccumulator) -> StatisticsAccumulator
     r
 }
 
-// The record after an iteration; fewer than two waiting samples go on waiting.
-pub fn updated(weighted: bool, a: StatisticsAccumulator) -> StatisticsAccumulator
-    requires { ⌜ boundedCounts a ≡ true ⌝ }
+// The record after an iteration with these figures; fewer than two waiting samples go on waiting.
+pub fn updated(weighted: bool, a: StatisticsAccumulator, f: Figures) -> StatisticsAccumulator
+    requires { ⌜ (boundedCounts a ≡ true) × (enough a ≡ true → f ≡ figuresFor weighted a) ⌝ }
     ensures { λ r. ⌜ r ≡ updatedOf weighted a ⌝ }
 {
     if a.new_samples < 2 {
@@ -281,25 +433,12 @@ pub fn updated(weighted: bool, a: StatisticsAccumulator) -> StatisticsAccumulato
         r.cur_iter = a.cur_iter + 1;
         return r;
     }
-    processed(weighted, a)
+    processed(weighted, a, f)
 }
 
-// The record after an iteration but for its estimates, which no judge looks at.
-pub fn moved(a: StatisticsAccumulator) -> StatisticsAccumulator
-    requires { ⌜ boundedCounts a ≡ true ⌝ }
-    ensures { λ r. ⌜ wellFormed r ≡ wellFormed (updatedOf false a) ⌝ }
-{
-    if a.new_samples < 2 {
-        let mut r = a;
-        r.cur_iter = a.cur_iter + 1;
-        return r;
-    }
-    gathered(a)
-}
-
-// The estimates after an iteration with the plain average, without the record that it would leave.
-pub fn live(a: StatisticsAccumulator) -> Estimate
-    requires { ⌜ boundedCounts a ≡ true ⌝ }
+// The estimates after an iteration with the plain average and these figures, without the record that it would leave.
+pub fn live(a: StatisticsAccumulator, f: Figures) -> Estimate
+    requires { ⌜ (enough a ≡ true → f ≡ figuresFor false a) ⌝ }
     ensures { λ r. ⌜ r ≡ estimatesOf (updatedOf false a) ⌝ }
 {
     if a.new_samples < 2 {
@@ -309,20 +448,6 @@ pub fn live(a: StatisticsAccumulator) -> Estimate
             chi_sq: a.chi_sq,
         };
     }
-    let n = a.new_samples as f64;
-    let all = (a.processed_samples as f64) + n;
-    let total = a.total_sum + a.sum;
-    let total_sq = a.total_sum_sq + a.sum_sq;
-    let f = figures_of(
-        false,
-        a.sum,
-        a.sum_sq,
-        n,
-        total,
-        total_sq,
-        all,
-        a.weight_sum,
-    );
     let e = iterate(false, a.cur_iter == 0, f, course_of(a));
     e.estimate
 }

@@ -1,45 +1,40 @@
--- The record that is judged is well formed exactly where the one after the update is.
-use mathlib.Core.Path.{_∙_}
-use Rattle.doubles.proofs.Truth.{failed, passed}
+-- What the iteration comes to names the refusal, or is what the estimates are made of.
+use mathlib.Core.Path.{_≡_, sym, _∙_, ap}
+use mathlib.Core.Bool.{false}
+use Rattle.accumulator.specs.declared.steps.Figures.{Figures}
 use Rattle.accumulator.specs.Calls.{paperEstimated, liveEstimateOf}
-use Rattle.accumulator.proofs.Counts.{counts-of}
+use Rattle.accumulator.specs.Ended.{refusalOf, endedOf}
+use Rattle.accumulator.proofs.Ended.{ended-tally, refusal-of-ended, figures-there, allowed, refused}
 use Rattle.accumulator.proofs.StatisticsAccumulator.get_live_estimate.Statement.{statement}
 use Rattle.accumulator.proofs.StatisticsAccumulator.get_live_estimate.Tie as tie
 
-is-well-formed-requires : tie.Need-is-well-formed-requires
-is-well-formed-requires c κs = tt
+ended : (c : tie.After-figures-of) → c .figures-of .result ≡ endedOf false (c .before .args .self)
+ended c = c .figures-of .ensures ∙ ended-tally _ _
+
+number : (c : tie.After-figures-of) → c .figures-of .result .refusal ≡ refusalOf (c .before .args .self)
+number c = ap (λ (f : Figures). f .refusal) (ended c) ∙ refusal-of-ended _ _
+
+figures-of-requires : tie.Need-figures-of-requires
+figures-of-requires c κs = tt
 
 returns : tie.Need-returns
 unfolding paperEstimated liveEstimateOf
-returns c = rw (failed (c .before .is-well-formed .ensures) (c .if1 .taken))
+returns c =
+    let n = number (c .before .before) in
+    rw n (sym (refused _ _ _ (λ z. c .if1 .taken (n ∙ z))))
 
-moved-requires : tie.Need-moved-requires
-moved-requires c κs = counts-of _ (passed (c .before .is-well-formed .ensures) (c .if1 .left))
-
-is-well-formed-requires-2 : tie.Need-is-well-formed-requires-2
-is-well-formed-requires-2 c κs = tt
+live-requires : tie.Need-live-requires
+live-requires c κs =
+    let f = c .before .before in
+    λ e. ended f ∙ figures-there _ _ (sym (number f) ∙ c .if1 .left) e
 
 returns-2 : tie.Need-returns-2
 unfolding paperEstimated liveEstimateOf
 returns-2 c =
-    rw (passed (c .before .before .before .before .is-well-formed .ensures) (c .before .before .before .if1 .left), failed (c .before .is-well-formed2 .ensures ∙ c .before .before .moved .ensures) (c .if2 .taken))
-
-live-requires : tie.Need-live-requires
-live-requires c κs = counts-of _ (passed (c .before .before .before .before .is-well-formed .ensures) (c .before .before .before .if1 .left))
-
-returns-3 : tie.Need-returns-3
-unfolding paperEstimated liveEstimateOf
-returns-3 c =
-    rw (passed (c .before .before .before .before .before .is-well-formed .ensures) (c .before .before .before .before .if1 .left), passed (c .before .before .is-well-formed2 .ensures ∙ c .before .before .before .moved .ensures) (c .before .if2 .left), c .live .ensures)
+    let e = c .before in
+    let z = sym (number (e .before .before)) ∙ e .if1 .left in
+    rw (c .live .ensures) (sym (allowed _ _ _ z))
 
 pub get-live-estimate-spec : {M : Type 1} → statement M
 get-live-estimate-spec =
-    tie.close
-    (tie.spec
-    is-well-formed-requires
-    returns
-    moved-requires
-    is-well-formed-requires-2
-    returns-2
-    live-requires
-    returns-3)
+    tie.close (tie.spec figures-of-requires returns live-requires returns-2)

@@ -1,50 +1,42 @@
--- What is accepted was judged on the record after it, and what is refused has its reason looked up.
-use mathlib.Core.Path.{sym}
-use Rattle.doubles.proofs.Truth.{failed, passed}
+-- What the iteration comes to names the refusal, or is what the record after it is made of.
+use mathlib.Core.Path.{_≡_, sym, _∙_, ap}
+use Rattle.accumulator.specs.declared.steps.Figures.{Figures}
 use Rattle.accumulator.specs.Update.{enough}
 use Rattle.accumulator.specs.Calls.{paperUpdated, updateOf}
-use Rattle.accumulator.proofs.Accepted.{miscounted}
-use Rattle.accumulator.proofs.Iterated.{accepted, refused}
+use Rattle.accumulator.specs.Ended.{refusalOf, endedOf}
+use Rattle.accumulator.proofs.Counts.{counts-of}
+use Rattle.accumulator.proofs.Ended.{ended-tally, refusal-of-ended, figures-there, may-end, allowed, refused}
 use Rattle.accumulator.proofs.StatisticsAccumulator.update_iter.Statement.{statement}
 use Rattle.accumulator.proofs.StatisticsAccumulator.update_iter.Tie as tie
 
-has-bounded-counts-requires : tie.Need-has-bounded-counts-requires
-has-bounded-counts-requires c κs = tt
+ended : (c : tie.After-figures-of) → c .figures-of .result ≡ endedOf (c .before .args .weighted-average) (c .before .args .self)
+ended c = c .figures-of .ensures ∙ ended-tally _ _
+
+number : (c : tie.After-figures-of) → c .figures-of .result .refusal ≡ refusalOf (c .before .args .self)
+number c = ap (λ (f : Figures). f .refusal) (ended c) ∙ refusal-of-ended _ _
+
+figures-of-requires : tie.Need-figures-of-requires
+figures-of-requires c κs = tt
 
 returns : tie.Need-returns
 unfolding paperUpdated updateOf
-returns c = rw (miscounted _ (failed (c .before .has-bounded-counts .ensures) (c .if1 .taken)))
+returns c =
+    let n = number (c .before .before) in
+    rw n (sym (refused _ _ _ (λ z. c .if1 .taken (n ∙ z))))
 
 updated-requires : tie.Need-updated-requires
-updated-requires c κs = passed (c .before .has-bounded-counts .ensures) (c .if1 .left)
-
-is-well-formed-requires : tie.Need-is-well-formed-requires
-is-well-formed-requires c κs = tt
-
-update-refusal-requires : tie.Need-update-refusal-requires
-update-refusal-requires c κs = tt
+updated-requires c κs =
+    let f = c .before .before in
+    let z = sym (number f) ∙ c .if1 .left in
+    (counts-of _ (may-end (f .before .args .weighted-average) _ z .0), λ e. ended f ∙ figures-there _ _ z e)
 
 returns-2 : tie.Need-returns-2
-unfolding paperUpdated
+unfolding paperUpdated updateOf enough
 returns-2 c =
-    let judged = rw (c .before .before .before .updated .ensures) at (failed (c .before .before .is-well-formed .ensures) (c .before .if2 .taken)) in
-    rw (c .update-refusal .ensures) (refused _ _ judged)
-
-returns-3 : tie.Need-returns-3
-unfolding paperUpdated enough
-returns-3 c =
-    let after = c .before .before .before .updated .ensures in
-    let judged = rw after at (passed (c .before .before .is-well-formed .ensures) (c .before .if2 .left)) in
-    rw after (sym (accepted _ _ (passed (c .before .before .before .before .before .has-bounded-counts .ensures) (c .before .before .before .before .if1 .left)) judged))
+    let e = c .before .before in
+    let z = sym (number (e .before .before)) ∙ e .if1 .left in
+    rw (c .before .updated .ensures) (sym (allowed _ _ _ z))
 
 pub update-iter-spec : {M : Type 1} → statement M
 update-iter-spec =
-    tie.close
-    (tie.spec
-    has-bounded-counts-requires
-    returns
-    updated-requires
-    is-well-formed-requires
-    update-refusal-requires
-    returns-2
-    returns-3)
+    tie.close (tie.spec figures-of-requires returns updated-requires returns-2)

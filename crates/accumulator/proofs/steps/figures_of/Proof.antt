@@ -1,54 +1,88 @@
--- The calls, put together, are the definition: the root of the variance that was chosen is the chosen root.
-use Rattle.root.specs.Pair.{rootsOf}
-use Rattle.accumulator.specs.Update.{varianceOf, figuresOf}
-use Rattle.accumulator.proofs.Processed.{root-of-choice}
+-- The number is the refusal's on either way to it, and the figures are asked for only where there are some.
+use mathlib.Core.Path.{_≡_, sym, _∙_, ap}
+use mathlib.Core.Logic.{inl, inr}
+use mathlib.Core.Bool.{true, false}
+use borrow.Author.Tests.{not-false, eqb-true}
+use lib.Dec.{eqb}
+use Rattle.doubles.specs.Count.{countOf}
+use Rattle.accumulator.specs.declared.StatisticsAccumulator.{StatisticsAccumulator}
+use Rattle.accumulator.specs.Record.{boundedCounts}
+use Rattle.accumulator.specs.Update.{enough, figuresFor}
+use Rattle.accumulator.specs.Ended.{talliedOf, refusalOf}
+use Rattle.accumulator.proofs.Counts.{within, exact, all-count, counts-of}
+use Rattle.accumulator.proofs.Ended.{plainly, may-end, figures-there, figures-missing, missing, present}
 use Rattle.accumulator.proofs.steps.figures_of.Statement.{statement}
 use Rattle.accumulator.proofs.steps.figures_of.Tie as tie
 
-sqrts-requires : tie.Need-sqrts-requires
-sqrts-requires c κs = tt
+-- the sums and counts that are judged
+abbrev here : tie.Start → StatisticsAccumulator
+here s =
+    talliedOf (s .args .sum) (s .args .n) (s .args .sum-sq) (s .args .zeros) (s .args .total) (s .args .processed) (s .args .total-sq) (s .args .num-zeros) (s .args .weight-sum) (s .args .iterations)
 
-variance-requires : tie.Need-variance-requires
-variance-requires c κs = tt
+number : (c : tie.Joined1) → c .if1 .refusal ≡ refusalOf (here (c .before .before))
+number c = elim (c .if1 .came) [
+  | inl w ↦ w .3 ∙ w .2 .ensures ∙ ap refusalOf (w .1 .ensures)
+  | inr w ↦ w .1 ∙ sym (plainly _ _ _ _ _ _ _ _ _ _ (c .before .is-plain .ensures (not-false _ (w .0 .left))))
+]
 
-weight-requires : tie.Need-weight-requires
-weight-requires c κs = tt
+-- the iteration may end, and has two samples or more
+present-here : (c : tie.Else2) → (refusalOf (here (c .before .before .before)) ≡ 0) × (enough (here (c .before .before .before)) ≡ true)
+unfolding enough talliedOf
+present-here c =
+    let p = present (eqb (c .before .if1 .refusal) 0) (c .before .before .before .args .n) (c .if2 .left) in
+    (sym (number (c .before)) ∙ eqb-true (c .before .if1 .refusal) 0 (p .0), p .1)
 
-inv-requires : tie.Need-inv-requires
-inv-requires c κs = tt
+counts : (c : tie.Else2) → boundedCounts (here (c .before .before .before)) ≡ true
+counts c = counts-of _ (may-end false _ (present-here c .0) .0)
 
-variance-requires-2 : tie.Need-variance-requires-2
-variance-requires-2 c κs = tt
+is-plain-requires : tie.Need-is-plain-requires
+is-plain-requires c κs = tt
 
-either-requires : tie.Need-either-requires
-either-requires c κs = tt
+tallied-requires : tie.Need-tallied-requires
+tallied-requires c κs = tt
 
-sqrt-requires : tie.Need-sqrt-requires
-sqrt-requires c κs = tt
+refusal-of-requires : tie.Need-refusal-of-requires
+refusal-of-requires c κs = tt
+
+without-requires : tie.Need-without-requires
+without-requires c κs = tt
 
 returns : tie.Need-returns
-unfolding figuresOf varianceOf rootsOf
+unfolding enough talliedOf
 returns c =
-    rw (
-      c .sqrt .ensures,
-      c .before .either .ensures,
-      root-of-choice _ _ _,
-      c .before .before .variance2 .ensures,
-      c .before .before .before .inv .ensures,
-      c .before .before .before .before .weight .ensures,
-      c .before .before .before .before .before .variance .ensures,
-      c .before .before .before .before .before .before .sqrts .ensures,
-    )
+    let n = number (c .before .before) in
+    let h = rw n at (missing (eqb (c .before .before .if1 .refusal) 0) (c .before .before .before .before .args .n) (c .before .if2 .taken)) in
+    rw (c .without .ensures, n) (sym (figures-missing _ (here (c .before .before .before .before)) h))
+
+int-to-float-waiting : tie.Need-int-to-float-waiting
+unfolding talliedOf
+int-to-float-waiting c = exact _ (within _ (counts (c .before)) .waiting)
+
+int-to-float-figured : tie.Need-int-to-float-figured
+unfolding talliedOf
+int-to-float-figured c = exact _ (within _ (counts (c .before .before)) .processed)
+
+figured-requires : tie.Need-figured-requires
+figured-requires c κs = tt
+
+returns-2 : tie.Need-returns-2
+unfolding countOf figuresFor talliedOf
+returns-2 c =
+    let e = c .before .before .before in
+    let a = here (e .before .before .before) in
+    let there = present-here e in
+    c .figured .ensures ∙ rw (all-count a (counts e)) (sym (figures-there _ a (there .0) (there .1)))
 
 pub figures-of-spec : {M : Type 1} → statement M
 figures-of-spec =
     tie.close
     (tie.spec
-    sqrts-requires
-    variance-requires
-    weight-requires
-    inv-requires
-    variance-requires-2
-    either-requires
-    sqrt-requires
-    returns)
+    is-plain-requires
+    tallied-requires
+    refusal-of-requires
+    without-requires
+    returns
+    int-to-float-waiting
+    int-to-float-figured
+    figured-requires
+    returns-2)

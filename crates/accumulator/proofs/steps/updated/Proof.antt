@@ -4,19 +4,19 @@ use Rattle.accumulator.proofs.Counts.{within}
 use borrow.Author.Tests.{lt-leb, le-leb}
 use Rattle.accumulator.specs.Record.{raised}
 use Rattle.accumulator.specs.Update.{enough, updatedOf}
-use borrow.Author.Needs.{needs}
 use Rattle.accumulator.proofs.steps.updated.Statement.{statement}
 use Rattle.accumulator.proofs.steps.updated.Tie as tie
 
 add-r : tie.Need-add-r
-add-r c = let w = within _ (c .before .before .before .pre) in omega arith
+add-r c = let w = within _ (c .before .before .before .pre .0) in omega arith
 
 returns : tie.Need-returns
 unfolding updatedOf enough raised
 returns c = rw (lt-leb _ _ (c .before .if1 .taken))
 
 processed-requires : tie.Need-processed-requires
-processed-requires c κs = search needs
+unfolding enough
+processed-requires c κs = (c .before .before .pre .0, c .before .before .pre .1 (le-leb _ _ (c .if1 .left)))
 
 returns-2 : tie.Need-returns-2
 unfolding updatedOf enough
