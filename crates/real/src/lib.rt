@@ -1,5 +1,5 @@
 // Doubles: the kernels. Each answers every input, and its promise, one equation with a definition, says which
-// double it answers. The plain ones are the crate `plain`'s, the root the crate `root`'s.
+// double it answers. The plain ones are the crate `plain`'s, the roots the crate `root`'s.
 mod exp;
 mod log;
 
@@ -11,7 +11,9 @@ pub use plain::finite;
 pub use plain::inv;
 pub use plain::norm;
 pub use plain::whole;
+pub use root::RootPair;
 pub use root::sqrt;
+pub use root::sqrts;
 
 // The logarithm of x, every step one rounded operation; NaN for anything not finite and above 0.
 pub fn ln(x: f64) -> f64

@@ -1,3 +1,4 @@
 pub mod Closeness
 pub mod Settled
+pub mod Starts
 pub mod Unique

@@ -1,8 +1,10 @@
-// The parts of the root: a guess in doubles from a start in whole numbers, a quick test of it in whole numbers, and the judge of any guess.
+// The parts of the root: a guess in doubles, from a start in whole numbers for one root and in doubles for two, a quick test of it in
+// whole numbers, and the judge of any guess.
 ghost use mathlib.Core.Path.{_≡_};
 ghost use Prim.Native.Nat.{_+_, _-_, _*_, _/_, _%_, _^_, _≤_, _<_};
 ghost use mathlib.Core.Bool.{true, _&&_};
 ghost use lib.Ieee.{binary64, add, sub, mul, le, ofBits};
+ghost use Rattle.doubles.specs.Bound.{Within};
 ghost use Rattle.careful.specs.Digits.{NearRoot};
 ghost use Rattle.careful.specs.Root.{rootOf};
 ghost use Rattle.root.specs.Digits.{Right, eps, normalOf, unitOf};
@@ -21,7 +23,7 @@ pub fn unit(bits: u64) -> f64
     f64::from_bits(bits % 0x20_0000_0000_0000 + 0x3fe0_0000_0000_0000)
 }
 
-// Where the guess of a root starts, by the bits of the number: a cubic polynomial of the 26 leading digits behind the first, as two
+// Where the guess of one root starts, by the bits of the number: a cubic polynomial of the 26 leading digits behind the first, as two
 // factors, in whole numbers, which the processor works out beside the doubles. It is the root of the number's unit to one part in
 // seven thousand, and has 26 digits at most, so that its square is a double.
 fn start(bits: u64) -> f64 {
@@ -34,16 +36,30 @@ fn start(bits: u64) -> f64 {
     f64::from_bits(e - e % 0x800_0000)
 }
 
-// About the root of a number's unit, by the number's bits: a start h, and the rest from a fraction that equals the root of x less h
-// up to the fifth power of x / h^2 - 1. Nothing is promised of it: it is judged, and of a hundred thousand some four are moved, by one.
-pub fn guess(bits: u64) -> f64 {
-    let x = unit(bits);
-    let h = start(bits);
+// Where the guesses of two roots start, for an x from 1/2 to below 2: the leading half of a polynomial in doubles, since of doubles the
+// compiler takes two at a time. It is of degree 4, as two factors that need not wait for each other.
+pub fn near(x: f64) -> f64
+    requires { ⌜ Within x 2 ⌝ }
+{
+    let first = (x + 0.221088069527559) * (0.12888292546866997 - 0.02863648528183046 * x);
+    let second = x * (x - 2.2815437127222586) + 9.452371751940333;
+    let bits = f64::to_bits(first * second);
+    f64::from_bits(bits - bits % 0x800_0000)
+}
+
+// About the root of x, from a start h: the rest is a fraction that equals the root of x less h up to the fifth power of x / h^2 - 1.
+// Nothing is promised of it: it is judged, and of a hundred thousand some four from `start` and seventeen from `near` are moved, by one.
+pub fn refined(x: f64, h: f64) -> f64 {
     let hh = h * h;
     let sum = x + hh;
     let above = 0.8 * h * (x - hh) * sum;
     let below = sum * sum - 0.8 * (x * x);
     h + above / below
+}
+
+// About the root of a number's unit, by the number's bits.
+pub fn guess(bits: u64) -> f64 {
+    refined(unit(bits), start(bits))
 }
 
 // The lower half of q * q in binary digits.
