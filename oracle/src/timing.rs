@@ -1,8 +1,12 @@
-//! The loops of whole grids that are timed beside the library's.
+//! The loops of an accumulator's updates and of whole grids that are timed beside the library's.
 
+use std::hint::black_box;
 use std::time::Instant;
 
-use crate::numerical_integration::{ContinuousGrid, DiscreteGrid, Grid, MonteCarloRng, Sample};
+use crate::numerical_integration::{
+    ContinuousGrid, DiscreteGrid, Grid, MonteCarloRng, Sample, StatisticsAccumulator,
+};
+use crate::words::bits;
 
 /// How many samples a batch has.
 const BATCH: u64 = 100_000;
@@ -33,9 +37,14 @@ pub fn tree() -> Grid<f64> {
     Grid::Discrete(DiscreteGrid::new(bins, 10.0, false).unwrap())
 }
 
-/// The whole numbers from -512 to 511 in turn.
+/// The evaluation that varies with i: the whole numbers from -512 to 511 in turn.
+fn evaluation(i: u64) -> f64 {
+    (i % 1024) as f64 - 512.0
+}
+
+/// A batch of them.
 fn evaluations() -> Vec<f64> {
-    (0..BATCH).map(|i| (i % 1024) as f64 - 512.0).collect()
+    (0..BATCH).map(evaluation).collect()
 }
 
 /// Draws and trains N samples in whole batches, and prints a word of the live estimate and the stream.
@@ -81,4 +90,33 @@ pub fn draw(name: &str, mut grid: Grid<f64>) {
     }
     let nanoseconds = start.elapsed().as_nanos() as f64 / count as f64;
     println!("{nanoseconds:.3} ns a draw, xor {xor:016x}");
+}
+
+/// Ends N iterations of an accumulator, where two or three samples with the sums of a list wait, and prints the xor of its words and of
+/// the last 64 estimates. What the record holds is hidden from the compiler, which could else work some of it into the update; the mean's
+/// kind is not.
+#[inline(always)]
+pub fn update(name: &str, weighted: bool) {
+    let count = count(name);
+    let mut sums = [[0.0; 2]; 1024];
+    for i in 0..1024 {
+        let (a, b) = (evaluation(i), evaluation(i ^ 341));
+        sums[i as usize] = [a + b, a * a + b * b];
+    }
+    let mut accumulator = StatisticsAccumulator::<f64>::new();
+    let mut kept = [[0.0; 3]; 64];
+    let start = Instant::now();
+    for i in 0..count {
+        accumulator.set_waiting(sums[i as usize % 1024], 2 + i as usize % 2);
+        black_box(&mut accumulator).update_iter(weighted);
+        kept[i as usize % 64] = [accumulator.avg, accumulator.err, accumulator.chi_sq];
+    }
+    let words = black_box(accumulator).record().words();
+    let nanoseconds = start.elapsed().as_nanos() as f64 / count as f64;
+    let xor = words.iter().fold(0, |xor, word| xor ^ word);
+    let xor = black_box(kept)
+        .iter()
+        .flatten()
+        .fold(xor, |xor, &x| xor ^ bits(x));
+    println!("{nanoseconds:.3} ns an iteration, xor {xor:016x}");
 }

@@ -2,26 +2,11 @@
 use mathlib.Core.Path.{_≡_, refl}
 use mathlib.Core.Bool.{Bool, true, false, cond}
 use lib.Dec.{eqb}
-use lib.Ieee.{Float, binary64, add, div}
-use Rattle.doubles.specs.Numbers.{zero64}
-use Rattle.doubles.specs.Inverse.{invOf}
-use Rattle.careful.specs.Root.{rootOf}
 use Rattle.accumulator.specs.declared.StatisticsAccumulator.{StatisticsAccumulator}
 use Rattle.accumulator.specs.declared.steps.Iterated.{Iterated}
 use Rattle.accumulator.specs.Record.{finiteSums, boundedCounts, wellFormed}
-use Rattle.accumulator.specs.Update.{varianceFrom, varianceOf, weightOf, figuresOf, figuresFor, gatheredOf, courseOf, settledOf, iteratedOf, processedOf}
+use Rattle.accumulator.specs.Update.{figuresOf, figuresFor, gatheredOf, courseOf, settledOf, iteratedOf, processedOf}
 use Rattle.accumulator.specs.Calls.{estimatesOf}
-
--- an iteration's figures: the error asks for the root of all samples' mean square only where that was taken
-pub figures-are : (b : Bool) (sum sumSq n total totalSq all weights root first variance weight sigma err : Float)
-    → root ≡ cond b zero64 (rootOf (div binary64 totalSq all)) → first ≡ rootOf (div binary64 sumSq n) → variance ≡ varianceFrom (div binary64 sum n) first n
-    → weight ≡ weightOf variance → sigma ≡ invOf (add binary64 weights weight) → err ≡ cond b (rootOf sigma) (rootOf (varianceFrom (div binary64 total all) root all))
-    → record { mean = div binary64 sum n; refusal = 0; weight = weight; avg = div binary64 total all; err = err; sigma = sigma } ≡ figuresOf b sum sumSq n total totalSq all weights
-unfolding figuresOf varianceOf
-figures-are true sum sumSq n total totalSq all weights root first variance weight sigma err is-root is-first is-variance is-weight is-sigma is-err =
-    rw (is-err, is-sigma, is-weight, is-variance, is-first)
-figures-are false sum sumSq n total totalSq all weights root first variance weight sigma err is-root is-first is-variance is-weight is-sigma is-err =
-    rw (is-err, is-sigma, is-weight, is-variance, is-first, is-root)
 
 -- the record: gathered, and then an iteration's course and estimates
 module _ (weighted : Bool) (a g : StatisticsAccumulator) (e : Iterated) where

@@ -6,8 +6,7 @@ ghost use Rattle.accumulator.specs.Steps.{zeroCount, replaced, addedOf, 
 ghost use Rattle.accumulator.specs.Update.{varianceFrom, weightOf, figuresOf, figuresFor, withoutOf, gatheredOf, courseOf, settledOf, iteratedOf, processedOf, enough, updatedOf};
 ghost use Rattle.accumulator.specs.Calls.{estimatesOf};
 ghost use Rattle.accumulator.specs.Ended.{Plain, talliedOf, refusalOf, endedOf};
-ghost use Rattle.doubles.specs.Numbers.{zero64};
-ghost use Rattle.careful.specs.Root.{rootOf};
+ghost use lib.Ieee.{Float};
 use crate::Estimate;
 use crate::StatisticsAccumulator;
 use crate::judge::is_well_formed;
@@ -156,30 +155,28 @@ fn without(refusal: u64) -> Figures
     }
 }
 
-// The root of all samples' mean square; a weighted mean's error does without it.
-fn root_of_all(weighted: bool, squares: f64) -> f64
-    ensures { λ r. ⌜ r ≡ cond weighted zero64 (rootOf squares) ⌝ }
+// The figures of an iteration's n samples, after iterations of this weight in all, for a weighted mean, whose error is the root of its
+// variance. It and the plain mean's are two functions, so that neither waits for what the other needs.
+fn figured_weighted(sum: f64, sum_sq: f64, n: f64, total: f64, all: f64, weight_sum: f64) -> Figures
+    ensures { λ r. ⌜ ((squares : Float) → r ≡ figuresOf true sum «sum_sq» n total squares all «weight_sum») ⌝ }
 {
-    if weighted {
-        return 0.0;
+    let mean = sum / n;
+    let weight = weight(variance(mean, root::sqrt(sum_sq / n), n));
+    let sigma = plain::inv(weight_sum + weight);
+    let avg = total / all;
+    let err = root::sqrt(sigma);
+    Figures {
+        mean,
+        refusal: 0,
+        weight,
+        avg,
+        err,
+        sigma,
     }
-    root::sqrt(squares)
 }
 
-// The error of a mean: of the weighted one from its variance, of the plain one from all samples. Each waits only for what it needs.
-fn error(weighted: bool, sigma: f64, avg: f64, root: f64, all: f64) -> f64
-    ensures { λ r. ⌜ r ≡ cond weighted (rootOf sigma) (rootOf (varianceFrom avg root all)) ⌝ }
-{
-    if weighted {
-        return root::sqrt(sigma);
-    }
-    root::sqrt(variance(avg, root, all))
-}
-
-// The figures of an iteration's n samples and of all samples, after iterations of this weight in all. The root that the error waits
-// for comes first.
-fn figured(
-    weighted: bool,
+// The same for the plain mean, whose error is that of all samples. The first two roots are taken together.
+fn figured_plain(
     sum: f64,
     sum_sq: f64,
     n: f64,
@@ -188,14 +185,14 @@ fn figured(
     all: f64,
     weight_sum: f64,
 ) -> Figures
-    ensures { λ r. ⌜ r ≡ figuresOf weighted sum «sum_sq» n total «total_sq» all «weight_sum» ⌝ }
+    ensures { λ r. ⌜ r ≡ figuresOf false sum «sum_sq» n total «total_sq» all «weight_sum» ⌝ }
 {
-    let root = root_of_all(weighted, total_sq / all);
+    let roots = root::sqrts(sum_sq / n, total_sq / all);
     let mean = sum / n;
-    let weight = weight(variance(mean, root::sqrt(sum_sq / n), n));
-    let sigma = plain::inv(weight_sum + weight);
     let avg = total / all;
-    let err = error(weighted, sigma, avg, root, all);
+    let weight = weight(variance(mean, roots.first, n));
+    let sigma = plain::inv(weight_sum + weight);
+    let err = root::sqrt(variance(avg, roots.second, all));
     Figures {
         mean,
         refusal: 0,
@@ -335,16 +332,11 @@ pub fn figures_of(
         return without(refusal);
     }
     let waiting = n as f64;
-    figured(
-        weighted,
-        sum,
-        sum_sq,
-        waiting,
-        t,
-        q,
-        (processed as f64) + waiting,
-        weight_sum,
-    )
+    let all = (processed as f64) + waiting;
+    if weighted {
+        return figured_weighted(sum, sum_sq, waiting, t, all, weight_sum);
+    }
+    figured_plain(sum, sum_sq, waiting, t, q, all, weight_sum)
 }
 
 // What the iterations so far come to: their weighted sums, and the mean of the first.

@@ -39,7 +39,8 @@ fn run(kind: u8, count: u64) -> u64 {
         b'r' => kernels::rooted(count),
         b's' => stream_words(count),
         b't' => grids::run(true, true, count),
-        b'u' => records::updated(count),
+        b'u' => records::updated(false, count),
+        b'w' => records::updated(true, count),
         _ => 0,
     }
 }

@@ -78,7 +78,7 @@ fn estimates_word(kept: &[f64; 192]) -> u64 {
 
 // Ends of iterations on a fresh record, where two or three samples with such sums wait: the record's word and that of the last 64
 // estimates, or a refusal's number. Each iteration's estimates are kept, as a caller would: else the compiler leaves some of them out.
-pub fn updated(count: u64) -> u64 {
+pub fn updated(weighted: bool, count: u64) -> u64 {
     let mut room = [0.0f64; 2048];
     let mut kept = [0.0f64; 192];
     sum_pairs(&mut room);
@@ -89,7 +89,7 @@ pub fn updated(count: u64) -> u64 {
         record.sum = room[2 * at];
         record.sum_sq = room[2 * at + 1];
         record.new_samples = 2 + i % 2;
-        match record.update_iter(false) {
+        match record.update_iter(weighted) {
             Updated::Refused(number) => return number,
             Updated::Record(_, after) => record = after,
         }

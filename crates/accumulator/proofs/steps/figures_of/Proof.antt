@@ -1,14 +1,15 @@
 -- The number is the refusal's on either way to it, and the figures are asked for only where there are some.
 use mathlib.Core.Path.{_≡_, sym, _∙_, ap}
 use mathlib.Core.Logic.{inl, inr}
-use mathlib.Core.Bool.{true, false}
+use mathlib.Core.Bool.{Bool, true, false}
 use borrow.Author.Tests.{not-false, eqb-true}
 use lib.Dec.{eqb}
+use lib.Ieee.{binary64, add}
 use Rattle.doubles.specs.Count.{countOf}
 use Rattle.accumulator.specs.declared.StatisticsAccumulator.{StatisticsAccumulator}
 use Rattle.accumulator.specs.Record.{boundedCounts}
-use Rattle.accumulator.specs.Update.{enough, figuresFor}
-use Rattle.accumulator.specs.Ended.{talliedOf, refusalOf}
+use Rattle.accumulator.specs.Update.{enough, figuresOf, figuresFor}
+use Rattle.accumulator.specs.Ended.{talliedOf, refusalOf, endedOf}
 use Rattle.accumulator.proofs.Counts.{within, exact, all-count, counts-of}
 use Rattle.accumulator.proofs.Ended.{plainly, may-end, figures-there, figures-missing, missing, present}
 use Rattle.accumulator.proofs.steps.figures_of.Statement.{statement}
@@ -58,20 +59,37 @@ int-to-float-waiting : tie.Need-int-to-float-waiting
 unfolding talliedOf
 int-to-float-waiting c = exact _ (within _ (counts (c .before)) .waiting)
 
-int-to-float-figured : tie.Need-int-to-float-figured
+int-to-float-all : tie.Need-int-to-float-all
 unfolding talliedOf
-int-to-float-figured c = exact _ (within _ (counts (c .before .before)) .processed)
+int-to-float-all c = exact _ (within _ (counts (c .before .before)) .processed)
 
-figured-requires : tie.Need-figured-requires
-figured-requires c κs = tt
+-- the figures that are worked out are the record's own
+there : (w : Bool) (c : tie.Else2)
+    → let s = c .before .before .before .args in
+    figuresOf w (s .sum) (s .sum-sq) (countOf (s .n)) (add binary64 (s .total) (s .sum)) (add binary64 (s .total-sq) (s .sum-sq)) (add binary64 (countOf (s .processed)) (countOf (s .n))) (s .weight-sum)
+    ≡ endedOf w (here (c .before .before .before))
+unfolding figuresFor talliedOf
+there w c =
+    let a = here (c .before .before .before) in
+    let p = present-here c in
+    rw (all-count a (counts c)) (sym (figures-there w a (p .0) (p .1)))
+
+figured-weighted-requires : tie.Need-figured-weighted-requires
+figured-weighted-requires c κs = tt
 
 returns-2 : tie.Need-returns-2
-unfolding countOf figuresFor talliedOf
+unfolding countOf
 returns-2 c =
-    let e = c .before .before .before in
-    let a = here (e .before .before .before) in
-    let there = present-here e in
-    c .figured .ensures ∙ rw (all-count a (counts e)) (sym (figures-there _ a (there .0) (there .1)))
+    let e = c .before .before .before .before in
+    let s = e .before .before .before .args in
+    rw (c .before .if3 .taken) (c .figured-weighted .ensures (add binary64 (s .total-sq) (s .sum-sq)) ∙ there true e)
+
+figured-plain-requires : tie.Need-figured-plain-requires
+figured-plain-requires c κs = tt
+
+returns-3 : tie.Need-returns-3
+unfolding countOf
+returns-3 c = rw (c .before .if3 .left) (c .figured-plain .ensures ∙ there false (c .before .before .before .before))
 
 pub figures-of-spec : {M : Type 1} → statement M
 figures-of-spec =
@@ -83,6 +101,8 @@ figures-of-spec =
     without-requires
     returns
     int-to-float-waiting
-    int-to-float-figured
-    figured-requires
-    returns-2)
+    int-to-float-all
+    figured-weighted-requires
+    returns-2
+    figured-plain-requires
+    returns-3)

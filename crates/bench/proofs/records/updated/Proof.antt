@@ -5,10 +5,10 @@ use Rattle.bench.proofs.records.updated.Statement.{statement}
 use Rattle.bench.proofs.records.updated.Tie as tie
 
 abbrev Inv-loop : tie.InvT-loop
-Inv-loop count room kept₀ record₀ i₀ kept «record» i = i ≤ count
+Inv-loop weighted count room kept₀ record₀ i₀ kept «record» i = i ≤ count
 
 abbrev μ-loop : tie.MeasureT-loop
-μ-loop count room kept₀ record₀ i₀ kept «record» i = count - i
+μ-loop weighted count room kept₀ record₀ i₀ kept «record» i = count - i
 
 sum-pairs-requires : tie.Need-sum-pairs-requires Inv-loop μ-loop
 sum-pairs-requires c κs = search needs
