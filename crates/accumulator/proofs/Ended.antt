@@ -17,6 +17,7 @@ use Rattle.accumulator.specs.declared.StatisticsAccumulator.{StatisticsA
 use Rattle.accumulator.specs.Record.{bounded, finiteSums, boundedCounts, wellFormed, raised}
 use Rattle.accumulator.specs.Update.{figuresOf, figuresFor, withoutOf, processedOf, enough, updatedOf}
 use Rattle.accumulator.specs.Calls.{sound, kept}
+use Rattle.accumulator.proofs.Processed.{judged-before}
 use Rattle.accumulator.specs.Ended.{Plain, talliedOf, refusalOf, endedOf}
 
 -- ---- finite sums by one comparison
@@ -33,14 +34,10 @@ two-finite a b = rw (less-itself a, less-itself b) (two-zero (finiteOf a) (finit
 
 -- ---- the judge looks at no estimate
 
-processed-judged : (w : Bool) (a : StatisticsAccumulator) → wellFormed (processedOf w a) ≡ wellFormed (processedOf false a)
-unfolding wellFormed finiteSums boundedCounts processedOf
-processed-judged w a = refl
-
 updated-judged : (w : Bool) (a : StatisticsAccumulator) → wellFormed (updatedOf w a) ≡ wellFormed (updatedOf false a)
 unfolding updatedOf
 updated-judged w a = elim (either (enough a)) [
-  | inl e ↦ rw e (processed-judged w a)
+  | inl e ↦ rw e (sym (judged-before w a) ∙ judged-before false a)
   | inr e ↦ rw e
 ]
 

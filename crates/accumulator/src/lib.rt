@@ -182,22 +182,40 @@ impl StatisticsAccumulator {
     }
 
     // The record with its waiting samples processed, where there are at least two, and whether they were. Refused: 12, 8.
+    // The two calls are the same, and the compiler makes one of them; but for the second it would take `figures_of` in where nothing else
+    // calls it, and leave this function a call (docs/BENCHMARK.md).
     pub fn update_iter(self, weighted_average: bool) -> Updated
         ensures { λ r. ⌜ paperUpdated r ≡ updateOf «weighted_average» self ⌝ }
     {
-        let f = steps::figures_of(
-            weighted_average,
-            self.sum,
-            self.new_samples,
-            self.sum_sq,
-            self.new_zero_evaluations,
-            self.total_sum,
-            self.processed_samples,
-            self.total_sum_sq,
-            self.num_zero_evaluations,
-            self.weight_sum,
-            self.cur_iter,
-        );
+        let f = if self.new_samples < 2 {
+            steps::figures_of(
+                weighted_average,
+                self.sum,
+                self.new_samples,
+                self.sum_sq,
+                self.new_zero_evaluations,
+                self.total_sum,
+                self.processed_samples,
+                self.total_sum_sq,
+                self.num_zero_evaluations,
+                self.weight_sum,
+                self.cur_iter,
+            )
+        } else {
+            steps::figures_of(
+                weighted_average,
+                self.sum,
+                self.new_samples,
+                self.sum_sq,
+                self.new_zero_evaluations,
+                self.total_sum,
+                self.processed_samples,
+                self.total_sum_sq,
+                self.num_zero_evaluations,
+                self.weight_sum,
+                self.cur_iter,
+            )
+        };
         if f.refusal != 0 {
             return Updated::Refused(f.refusal);
         }
