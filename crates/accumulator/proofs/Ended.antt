@@ -14,6 +14,7 @@ use Rattle.doubles.specs.Paper.{Paper, refuses}
 use Rattle.doubles.proofs.Truth.{either}
 use Rattle.doubles.proofs.Finites.{add-finite, less-itself}
 use Rattle.accumulator.specs.declared.StatisticsAccumulator.{StatisticsAccumulator}
+use Rattle.accumulator.specs.declared.steps.Figures.{Figures}
 use Rattle.accumulator.specs.Record.{bounded, finiteSums, boundedCounts, wellFormed, raised}
 use Rattle.accumulator.specs.Update.{figuresOf, figuresFor, withoutOf, processedOf, enough, updatedOf}
 use Rattle.accumulator.specs.Calls.{sound, kept}
@@ -93,9 +94,13 @@ module _ (w : Bool) (a : StatisticsAccumulator) where
   numbered n true false h = refl
   numbered n false b h = refl
 
-  pub refusal-of-ended : endedOf w a .refusal ≡ refusalOf a
+  refusal-of-ended : endedOf w a .refusal ≡ refusalOf a
   unfolding endedOf
   refusal-of-ended = numbered (refusalOf a) (eqb (refusalOf a) 0) (enough a) (eqb-true (refusalOf a) 0)
+
+  -- as the calls have it: f is what the iteration of a comes to
+  pub number : (f : Figures) → f ≡ endedOf w a → f .refusal ≡ refusalOf a
+  number f is = rw is refusal-of-ended
 
   -- the figures of an iteration that may end
   pub figures-there : refusalOf a ≡ 0 → enough a ≡ true → endedOf w a ≡ figuresFor w a

@@ -293,9 +293,9 @@ fn tallied(
     r
 }
 
-// Why an iteration with these sums and counts may not end, and what it comes to. An update and a live estimate call this function, so
-// that it stays a call. It is handed numbers and hands numbers on: the calls around it stay small, and what a record keeps need not
-// pass through memory.
+// Why an iteration with these sums and counts may not end, and what it comes to. An update names this function
+// twice and a live estimate once, so that it stays a call. It is handed numbers and hands numbers on: the calls around it stay small, and
+// what a record keeps need not pass through memory.
 pub fn figures_of(
     weighted: bool,
     sum: f64,
