@@ -1,6 +1,6 @@
 -- An iteration's processing: what the code's calls answer, put together, is the definition.
 use mathlib.Core.Path.{_≡_, refl}
-use mathlib.Core.Bool.{Bool, false}
+use mathlib.Core.Bool.{Bool, true, false}
 use lib.Dec.{eqb}
 use Rattle.accumulator.specs.declared.StatisticsAccumulator.{StatisticsAccumulator}
 use Rattle.accumulator.specs.declared.steps.Iterated.{Iterated}
@@ -9,7 +9,7 @@ use Rattle.accumulator.specs.Update.{figuresOf, figuresFor, gatheredOf, 
 use Rattle.accumulator.specs.Calls.{estimatesOf}
 
 -- the record: gathered, and then an iteration's course and estimates
-module _ (weighted : Bool) (a g : StatisticsAccumulator) (e : Iterated) where
+module _ (a g : StatisticsAccumulator) (e : Iterated) where
   abbrev after : StatisticsAccumulator
   after =
       record {
@@ -36,9 +36,10 @@ module _ (weighted : Bool) (a g : StatisticsAccumulator) (e : Iterated) where
         «max_eval_negative» = g .«max_eval_negative»;
       }
 
-  pub steps-are : g ≡ gatheredOf a → e ≡ iteratedOf weighted (eqb (a .«cur_iter») 0) (figuresFor weighted a) (courseOf a) → after ≡ processedOf weighted a
+  pub steps-are : (weighted : Bool) → g ≡ gatheredOf a → e ≡ iteratedOf weighted (eqb (a .«cur_iter») 0) (figuresFor weighted a) (courseOf a) → after ≡ processedOf weighted a
   unfolding processedOf gatheredOf courseOf iteratedOf settledOf figuresFor figuresOf
-  steps-are is-g is-e = rw (is-e, is-g)
+  steps-are true is-g is-e = rw (is-e, is-g)
+  steps-are false is-g is-e = rw (is-e, is-g)
 
 -- the estimates alone, with the plain average
 pub estimates-are : (a : StatisticsAccumulator) (e : Iterated) → e ≡ iteratedOf false (eqb (a .«cur_iter») 0) (figuresFor false a) (courseOf a)

@@ -25,7 +25,8 @@ varianceOf mean squares n = varianceFrom mean (rootOf squares) n
 unfoldable pub weightOf : Float → Float
 weightOf variance = cond (eq variance zero64) (ofBits binary64 0x43f0_0000_0000_0000) (invOf variance)
 
--- the figures of an iteration's n samples and of all samples, from the sums of both and of their squares, and the weight of all iterations before
+-- the figures of an iteration's n samples and of all samples, from the sums of both and of their squares, and the weight of all iterations before;
+-- a weighted mean needs no plain one
 unfoldable pub figuresOf : Bool → Float → Float → Float → Float → Float → Float → Float → Figures
 figuresOf weighted sum sumSq n total totalSq all weights =
     let mean = div binary64 sum n in
@@ -36,7 +37,7 @@ figuresOf weighted sum sumSq n total totalSq all weights =
       mean = mean;
       refusal = 0;
       weight = weight;
-      avg = avg;
+      avg = cond weighted zero64 avg;
       err = cond weighted (rootOf sigma) (rootOf (varianceOf avg (div binary64 totalSq all) all));
       sigma = sigma;
     }

@@ -114,7 +114,8 @@ pub fn copied(a: StatisticsAccumulator) -> StatisticsAccumulator
 }
 
 // What an iteration comes to: the number of the refusal of its end, 0 for none; its samples' mean and weight; the plain mean of all
-// samples; the error, and the weighted mean's variance. Without at least two samples there is nothing but the number.
+// samples, 0 where the mean is weighted; the error, and the weighted mean's variance. Without at least two samples there is nothing
+// but the number.
 pub struct Figures {
     pub mean: f64,
     pub refusal: u64,
@@ -157,25 +158,25 @@ fn without(refusal: u64) -> Figures
 
 // The figures of an iteration's n samples, after iterations of this weight in all, for a weighted mean, whose error is the root of its
 // variance. It and the plain mean's are two functions, so that neither waits for what the other needs.
-fn figured_weighted(sum: f64, sum_sq: f64, n: f64, total: f64, all: f64, weight_sum: f64) -> Figures
-    ensures { λ r. ⌜ ((squares : Float) → r ≡ figuresOf true sum «sum_sq» n total squares all «weight_sum») ⌝ }
+fn figured_weighted(sum: f64, sum_sq: f64, n: f64, weight_sum: f64) -> Figures
+    ensures { λ r. ⌜ ((total squares all : Float) → r ≡ figuresOf true sum «sum_sq» n total squares all «weight_sum») ⌝ }
 {
     let mean = sum / n;
     let weight = weight(variance(mean, root::sqrt(sum_sq / n), n));
     let sigma = plain::inv(weight_sum + weight);
-    let avg = total / all;
     let err = root::sqrt(sigma);
     Figures {
         mean,
         refusal: 0,
         weight,
-        avg,
+        avg: 0.0,
         err,
         sigma,
     }
 }
 
-// The same for the plain mean, whose error is that of all samples. The first two roots are taken together.
+// The same for the plain mean, whose error is that of all samples. The two roots that wait for nothing are taken first, so that the
+// processor works on both at once.
 fn figured_plain(
     sum: f64,
     sum_sq: f64,
@@ -187,12 +188,13 @@ fn figured_plain(
 ) -> Figures
     ensures { λ r. ⌜ r ≡ figuresOf false sum «sum_sq» n total «total_sq» all «weight_sum» ⌝ }
 {
-    let roots = root::sqrts(sum_sq / n, total_sq / all);
+    let root = root::sqrt(sum_sq / n);
+    let root_of_all = root::sqrt(total_sq / all);
     let mean = sum / n;
     let avg = total / all;
-    let weight = weight(variance(mean, roots.first, n));
+    let weight = weight(variance(mean, root, n));
     let sigma = plain::inv(weight_sum + weight);
-    let err = root::sqrt(variance(avg, roots.second, all));
+    let err = root::sqrt(variance(avg, root_of_all, all));
     Figures {
         mean,
         refusal: 0,
@@ -332,10 +334,10 @@ pub fn figures_of(
         return without(refusal);
     }
     let waiting = n as f64;
-    let all = (processed as f64) + waiting;
     if weighted {
-        return figured_weighted(sum, sum_sq, waiting, t, all, weight_sum);
+        return figured_weighted(sum, sum_sq, waiting, weight_sum);
     }
+    let all = (processed as f64) + waiting;
     figured_plain(sum, sum_sq, waiting, t, q, all, weight_sum)
 }
 

@@ -11,9 +11,7 @@ pub use plain::finite;
 pub use plain::inv;
 pub use plain::norm;
 pub use plain::whole;
-pub use root::RootPair;
 pub use root::sqrt;
-pub use root::sqrts;
 
 // The logarithm of x, every step one rounded operation; NaN for anything not finite and above 0.
 pub fn ln(x: f64) -> f64

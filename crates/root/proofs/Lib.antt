@@ -1,4 +1,2 @@
-pub mod Closeness
 pub mod Settled
-pub mod Starts
 pub mod Unique

@@ -1,11 +1,13 @@
 -- The calls, put together, are the definition's figures.
-use Rattle.root.specs.Pair.{rootsOf}
 use Rattle.accumulator.specs.Update.{varianceOf, figuresOf}
 use Rattle.accumulator.proofs.steps.figured_plain.Statement.{statement}
 use Rattle.accumulator.proofs.steps.figured_plain.Tie as tie
 
-sqrts-requires : tie.Need-sqrts-requires
-sqrts-requires c κs = tt
+sqrt-requires : tie.Need-sqrt-requires
+sqrt-requires c κs = tt
+
+sqrt-requires-2 : tie.Need-sqrt-requires-2
+sqrt-requires-2 c κs = tt
 
 variance-requires : tie.Need-variance-requires
 variance-requires c κs = tt
@@ -19,29 +21,31 @@ inv-requires c κs = tt
 variance-requires-2 : tie.Need-variance-requires-2
 variance-requires-2 c κs = tt
 
-sqrt-requires : tie.Need-sqrt-requires
-sqrt-requires c κs = tt
+sqrt-requires-3 : tie.Need-sqrt-requires-3
+sqrt-requires-3 c κs = tt
 
 returns : tie.Need-returns
-unfolding figuresOf varianceOf rootsOf
+unfolding figuresOf varianceOf
 returns c =
     rw (
-      c .sqrt .ensures,
+      c .sqrt3 .ensures,
       c .before .variance2 .ensures,
       c .before .before .inv .ensures,
       c .before .before .before .weight .ensures,
       c .before .before .before .before .variance .ensures,
-      c .before .before .before .before .before .sqrts .ensures,
+      c .before .before .before .before .before .sqrt2 .ensures,
+      c .before .before .before .before .before .before .sqrt .ensures,
     )
 
 pub figured-plain-spec : {M : Type 1} → statement M
 figured-plain-spec =
     tie.close
     (tie.spec
-    sqrts-requires
+    sqrt-requires
+    sqrt-requires-2
     variance-requires
     weight-requires
     inv-requires
     variance-requires-2
-    sqrt-requires
+    sqrt-requires-3
     returns)

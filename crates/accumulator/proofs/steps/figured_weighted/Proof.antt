@@ -1,4 +1,4 @@
--- The calls, put together, are the definition's figures, whatever the squares of all samples come to.
+-- The calls, put together, are the definition's figures, whatever all samples come to.
 use Rattle.accumulator.specs.Update.{varianceOf, figuresOf}
 use Rattle.accumulator.proofs.steps.figured_weighted.Statement.{statement}
 use Rattle.accumulator.proofs.steps.figured_weighted.Tie as tie
@@ -20,7 +20,7 @@ sqrt-requires-2 c κs = tt
 
 returns : tie.Need-returns
 unfolding figuresOf varianceOf
-returns c squares =
+returns c total squares all =
     rw (
       c .sqrt2 .ensures,
       c .before .inv .ensures,

@@ -59,10 +59,6 @@ int-to-float-waiting : tie.Need-int-to-float-waiting
 unfolding talliedOf
 int-to-float-waiting c = exact _ (within _ (counts (c .before)) .waiting)
 
-int-to-float-all : tie.Need-int-to-float-all
-unfolding talliedOf
-int-to-float-all c = exact _ (within _ (counts (c .before .before)) .processed)
-
 -- the figures that are worked out are the record's own
 there : (w : Bool) (c : tie.Else2)
     → let s = c .before .before .before .args in
@@ -80,16 +76,21 @@ figured-weighted-requires c κs = tt
 returns-2 : tie.Need-returns-2
 unfolding countOf
 returns-2 c =
-    let e = c .before .before .before .before in
+    let e = c .before .before .before in
     let s = e .before .before .before .args in
-    rw (c .before .if3 .taken) (c .figured-weighted .ensures (add binary64 (s .total-sq) (s .sum-sq)) ∙ there true e)
+    let all = add binary64 (countOf (s .processed)) (countOf (s .n)) in
+    rw (c .before .if3 .taken) (c .figured-weighted .ensures (add binary64 (s .total) (s .sum)) (add binary64 (s .total-sq) (s .sum-sq)) all ∙ there true e)
+
+int-to-float-all : tie.Need-int-to-float-all
+unfolding talliedOf
+int-to-float-all c = exact _ (within _ (counts (c .before .before .before)) .processed)
 
 figured-plain-requires : tie.Need-figured-plain-requires
 figured-plain-requires c κs = tt
 
 returns-3 : tie.Need-returns-3
 unfolding countOf
-returns-3 c = rw (c .before .if3 .left) (c .figured-plain .ensures ∙ there false (c .before .before .before .before))
+returns-3 c = rw (c .before .before .if3 .left) (c .figured-plain .ensures ∙ there false (c .before .before .before .before))
 
 pub figures-of-spec : {M : Type 1} → statement M
 figures-of-spec =
@@ -101,8 +102,8 @@ figures-of-spec =
     without-requires
     returns
     int-to-float-waiting
-    int-to-float-all
     figured-weighted-requires
     returns-2
+    int-to-float-all
     figured-plain-requires
     returns-3)

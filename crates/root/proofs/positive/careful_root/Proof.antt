@@ -1,4 +1,5 @@
 -- `careful_root`: the judge answers the root from any guess. Assumes nothing.
+use Prim.Native.Nat.{_^_, _<_}
 use native.Mathlib.Omega.{arith}
 use lib.Dec.{T}
 use lib.Ieee.{binary64, fits}
@@ -36,16 +37,14 @@ sub-guess c = search needs
 mul-guess : tie.Need-mul-guess
 mul-guess c = search needs
 
+short : (c : tie.After-split) → c .split .result .digits < 2 ^ 53
+short c = let s = c .before .before .before in splits (s .args .x) (c .split .result) (held s) (above (c .before)) (c .split .ensures) .short
+
 add-guess : tie.Need-add-guess
-add-guess c =
-    let a = c .before .before in
-    let t = a .before in
-    let s = t .before .before in
-    let h = splits (s .args .x) (a .split .result) (held s) (above t) (a .split .ensures) .short in
-    omega arith
+add-guess c = let h = short (c .before .before) in omega arith
 
 guess-requires : tie.Need-guess-requires
-guess-requires c κs = search needs
+guess-requires c κs = let h = short (c .before .before) in omega arith
 
 root-from-requires-2 : tie.Need-root-from-requires-2
 root-from-requires-2 c κs = search needs

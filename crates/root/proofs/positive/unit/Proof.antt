@@ -1,9 +1,7 @@
 -- `unit`: the bits lie from those of 1/2 to below those of 2. Assumes nothing.
 use Prim.Native.Nat.{ℕ, _+_, _*_, _%_, _^_, _≤_}
 use native.Mathlib.Omega.{arith}
-use mathlib.Core.Path.{refl}
 use borrow.Author.Needs.{needs}
-use Rattle.root.specs.Digits.{unitOf}
 use Rattle.doubles.proofs.Bits.{no-nan-bits}
 use Rattle.root.proofs.positive.unit.Statement.{statement}
 use Rattle.root.proofs.positive.unit.Tie as tie
@@ -18,8 +16,7 @@ float-from-bits-result : tie.Need-float-from-bits-result
 float-from-bits-result c = no-nan-bits _ (top (c .args .bits))
 
 returns : tie.Need-returns
-unfolding unitOf
-returns c = refl
+returns c = search needs
 
 pub unit-spec : {M : Type 1} → statement M
 unit-spec = tie.close (tie.spec add-result float-from-bits-result returns)

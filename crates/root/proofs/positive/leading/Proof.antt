@@ -1,12 +1,11 @@
--- `start`: 26 digits and one of two scales bound every product, so that the bits stay below those of infinity. Assumes nothing.
+-- `leading`: 26 digits and one of two scales bound every product. Assumes nothing.
 use Prim.Native.Nat.{ℕ, _+_, _-_, _*_, _/_, _%_, _^_, _≤_}
 use native.Mathlib.Nat.{mul-le-mul}
 use native.Mathlib.Omega.{arith}
 use mathlib.Core.Logic.{⊎-elim}
 use borrow.Author.Needs.{needs}
-use Rattle.doubles.proofs.Bits.{no-nan-bits}
-use Rattle.root.proofs.positive.start.Statement.{statement}
-use Rattle.root.proofs.positive.start.Tie as tie
+use Rattle.root.proofs.positive.leading.Statement.{statement}
+use Rattle.root.proofs.positive.leading.Tie as tie
 
 -- the products that digits f and a scale s make
 record Products (f s : ℕ) : Type 0 where
@@ -27,9 +26,6 @@ products f s h l =
 here : (c : tie.Joined1) → Products (c .before .args .bits % 2 ^ 52 / 2 ^ 26) (c .if1 .scale)
 here c = products (c .before .args .bits % 2 ^ 52 / 2 ^ 26) (c .if1 .scale) (omega arith) (⊎-elim (λ w. omega arith) (λ w. omega arith) (c .if1 .came))
 
-top : (b p : ℕ) → p ≤ 2 ^ 24 * 2 ^ 31 → let e = (1021 + b % 2) * 2 ^ 52 + p in e - e % 0x800_0000 ≤ 2047 * 2 ^ 52
-top b p h = omega arith
-
 add-first : tie.Need-add-first
 add-first c = search needs
 
@@ -45,40 +41,14 @@ mul-second c = let p = here (c .before) in omega arith
 sub-second-2 : tie.Need-sub-second-2
 sub-second-2 c = let p = here (c .before) in omega arith
 
-add-e : tie.Need-add-e
-add-e c = search needs
-
-mul-e : tie.Need-mul-e
-mul-e c = search needs
-
-mul-e-2 : tie.Need-mul-e-2
-mul-e-2 c = let p = here (c .before) in omega arith
-
-add-e-2 : tie.Need-add-e-2
-add-e-2 c = let p = here (c .before) in omega arith
+mul-p : tie.Need-mul-p
+mul-p c = let p = here (c .before) in omega arith
 
 sub-result : tie.Need-sub-result
 sub-result c = search needs
 
-float-from-bits-result : tie.Need-float-from-bits-result
-float-from-bits-result c = no-nan-bits _ (top (c .before .before .args .bits / 2 ^ 52) _ (here (c .before) .both))
-
 returns : tie.Need-returns
-returns c = search needs
+returns c = let p = here (c .before) in omega arith
 
-pub start-spec : {M : Type 1} → statement M
-start-spec =
-    tie.close
-    (tie.spec
-    add-first
-    mul-first
-    sub-second
-    mul-second
-    sub-second-2
-    add-e
-    mul-e
-    mul-e-2
-    add-e-2
-    sub-result
-    float-from-bits-result
-    returns)
+pub leading-spec : {M : Type 1} → statement M
+leading-spec = tie.close (tie.spec add-first mul-first sub-second mul-second sub-second-2 mul-p sub-result returns)
