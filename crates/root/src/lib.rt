@@ -8,7 +8,8 @@ use positive::guess;
 use positive::is_root;
 
 // The double nearest the true root, ties to even; NaN for a negative or a NaN, infinity for infinity;
-// a zero keeps its sign. What is above 0 is no NaN, so that its bits may be asked.
+// a zero keeps its sign. What is above 0 is no NaN, so that its bits may be asked. The judge is named twice, so that it stays a call
+// and the quick way needs no room on the stack (docs/BENCHMARK.md).
 pub fn sqrt(x: f64) -> f64
     ensures { λ r. ⌜ r ≡ rootOf x ⌝ }
 {

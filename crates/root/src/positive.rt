@@ -56,8 +56,9 @@ pub fn guess(bits: u64) -> f64
     refined(unit(bits), h, k)
 }
 
-// Whether q is nearest to the root of d * 2^52. With q = a * 2^26 + b the difference of q * q + q and d * 2^52 has the digits of
-// v = d - a * a, then of w = 2 * a * b - v * 2^26, then of w * 2^26 + b * b + q; each is small where q is nearest.
+// Whether q is nearest to the root of d * 2^52. With q = a * 2^26 + b what q * q + q has more than that is
+// ((a * a - d) * 2^26 + 2 * a * b) * 2^26 + b * b + q, and lies from 0 to below 2 * q where q is nearest. It is worked out word by word; where
+// -v and w are small, nothing of it was lost by wrapping.
 fn is_near(q: u64, d: u64) -> bool
     requires { ⌜ (q < 2 ^ 53) × (d ≤ 2 ^ 54) ⌝ }
     ensures { λ r. ⌜ (r ≡ true → NearRoot (d * 2 ^ 52) q) ⌝ }
