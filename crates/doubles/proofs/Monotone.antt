@@ -149,3 +149,40 @@ round-unsigned f a b y u h = elim (round-kind f a b) [
   | inl e ↦ absurd (unbounded y u (subst (λ (z : Float). le z y ≡ true) e h))
   | inr g ↦ value-unsigned (round f false a b) (g .0) (2 ^ low f) (g .1)
 ]
+
+-- ---- a running sum of values without a sign falls nowhere, also where it passes the largest double
+abbrev pub upward : Float → Bool
+upward nan = false
+upward (inf s) = not s
+upward (fin s m e) = not s
+
+rounded-upward : (f : Format) (a b : ℕ) → T (upward (round f false a b))
+rounded-upward f a b = elim (round-kind f a b) [
+  | inl e ↦ subst (λ (z : Float). T (upward z)) (sym e) tt
+  | inr g ↦ finite-upward (round f false a b) (value-unsigned (round f false a b) (g .0) (2 ^ low f) (g .1))
+]
+  where
+    finite-upward : (x : Float) → T (unsigned x) → T (upward x)
+    finite-upward nan u = absurd u
+    finite-upward (inf s) u = absurd u
+    finite-upward (fin s m e) u = u
+
+finite-sum : (f : Format) (x y : Float) → T (fits f x) → T (unsigned x) → T (unsigned y) → (le x (add f x y) ≡ true) × T (upward (add f x y))
+finite-sum f x y t u w =
+    rw (add-at f x y (num x) (den x) (num y) (den y) (den-pos x) (den-pos y) (own x u) (own y w)) (
+      round-above f (num x * den y + num y * den x) (den x * den y) x (num x) (den x) (mul-pos (den-pos x) (den-pos y)) (den-pos x) t (own x u) (more (num x) (den x) (num y) (den y)),
+      rounded-upward f (num x * den y + num y * den x) (den x * den y),
+    )
+  where
+    more : (a c b d : ℕ) → a * (c * d) ≤ (a * d + b * c) * c
+    more a c b d = omega arith
+
+pub add-upward : (f : Format) (x y : Float) → T (fits f x) → T (upward x) → T (unsigned y) → (le x (add f x y) ≡ true) × T (upward (add f x y))
+unfolding le add
+add-upward f nan y t u w = absurd u
+add-upward f (inf true) y t u w = absurd u
+add-upward f (inf false) nan t u w = absurd w
+add-upward f (inf false) (inf s) t u w = absurd w
+add-upward f (inf false) (fin s m e) t u w = (refl, tt)
+add-upward f (fin true m e) y t u w = absurd u
+add-upward f (fin false m e) y t u w = finite-sum f (fin false m e) y t u w

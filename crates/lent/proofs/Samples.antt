@@ -1,6 +1,7 @@
 -- Sampling the tree: the bin that a draw reaches, what is put in front of a sample, and a draw from one of the bins.
 use mathlib.Core.Path.{_≡_, refl, sym, ap, ap₂, _∙_, subst}
-use mathlib.Core.Bool.{true, false, _&&_}
+use mathlib.Core.Bool.{Bool, true, false, not, cond, _&&_, false≢true}
+use mathlib.Core.Logic.{_⊎_, inl, inr}
 use mathlib.Core.List.{List, [], _∷_, _++_}
 use Prim.Native.Nat.{ℕ, zero, suc, _+_, _-_, _≤_, _<_}
 use native.Mathlib.Numerals.{add-one}
@@ -8,18 +9,25 @@ use native.Mathlib.Omega.{arith}
 use borrow.Author.Tests.{ne-eqb}
 use lib.ListN.{length, take, drop, set, getD, replicate, length-replicate, replicate-append-replicate, drop-of-length-le, length-drop}
 use lib.Seq.{drop-cons, length-take-le, set-comm, sets, sets-eq, take-at, drop-at, take-append-add}
-use lib.Ieee.{Float, nan, binary64, add, mul, le}
+use lib.Dec.{T}
+use lib.Ieee.{Float, nan, inf, fin, binary64, fits, add, mul, le, lt, ofBits}
+use lib.Ieee.Fits.{add-fits}
+use lib.Ieee.Bits.{ofBits-fits}
 use Rattle.doubles.specs.Numbers.{zero64, one64}
 use Rattle.doubles.specs.Inverse.{invOf}
+use Rattle.doubles.specs.Finite.{finiteOf}
 use Rattle.doubles.proofs.Truth.{both}
+use Rattle.doubles.proofs.Order.{le-trans-float}
+use Rattle.doubles.proofs.Monotone.{unsigned, upward, add-upward}
 use Rattle.stream.specs.declared.MonteCarloRng.{MonteCarloRng}
 use Rattle.stream.specs.declared.Unit.{Unit}
 use Rattle.stream.specs.Xoshiro.{wordOf, stepOf}
 use Rattle.stream.specs.Calls.{unitOf, unitDrawnOf}
 use Rattle.accumulator.specs.Record as account
 use Rattle.plan.specs.Numbers.{wordsAt}
-use Rattle.model.specs.Grid.{Grid, Child, Head, Bin, axes, bins, probabilities}
-use Rattle.model.specs.Sound.{chance, sound, formedChild, keptChild}
+use Rattle.model.specs.Grid.{Grid, Bins, Child, Head, Bin, axes, bins, none, more, probabilities}
+use Rattle.recut.specs.Chances.{chance, allChances}
+use Rattle.model.specs.Sound.{sound, formedGrid, formedBins, formedChild, keptChild}
 use Rattle.model.specs.Draw.{Sample, Drawing, unitAt, Placed, placedFrom, placedOf, drawAxes, weightAt, reached, over, drawBin, drawChild, drawNothing, drawGrid}
 use Rattle.lent.specs.declared.Traced.{Traced}
 use Rattle.lent.specs.declared.AxesAt.{AxesAt}
@@ -58,16 +66,76 @@ reached-last r sum cs i h =
     rw f
 
 -- from bin i on, whose sum before it is known
-pub reach-stop : (r sum : Float) (cs : List Float) (i : ℕ) → i + 1 < length cs → le r (add binary64 sum (getD cs i nan)) ≡ true
+reach-stop : (r sum : Float) (cs : List Float) (i : ℕ) → i + 1 < length cs → le r (add binary64 sum (getD cs i nan)) ≡ true
     → (i + reached r sum (drop i cs) ≡ reached r zero64 cs) → i ≡ reached r zero64 cs
 reach-stop r sum cs i h e k = let z = reached-pass r sum cs i h e in omega arith
 
-pub reach-next : (r sum : Float) (cs : List Float) (i : ℕ) → i + 1 < length cs → le r (add binary64 sum (getD cs i nan)) ≡ false
+reach-next : (r sum : Float) (cs : List Float) (i : ℕ) → i + 1 < length cs → le r (add binary64 sum (getD cs i nan)) ≡ false
     → (i + reached r sum (drop i cs) ≡ reached r zero64 cs) → i + 1 + reached r (add binary64 sum (getD cs i nan)) (drop (i + 1) cs) ≡ reached r zero64 cs
 reach-next r sum cs i h e k = let z = reached-on r sum cs i h e in omega arith
 
-pub reach-end : (r sum : Float) (cs : List Float) (i : ℕ) → i + 1 ≡ length cs → (i + reached r sum (drop i cs) ≡ reached r zero64 cs) → i ≡ reached r zero64 cs
+reach-end : (r sum : Float) (cs : List Float) (i : ℕ) → i + 1 ≡ length cs → (i + reached r sum (drop i cs) ≡ reached r zero64 cs) → i ≡ reached r zero64 cs
 reach-end r sum cs i h k = let z = reached-last r sum cs i h in omega arith
+
+-- probabilities are above 0, so that their running sum goes up
+chance-unsigned : (p : Float) → chance p ≡ true → T (unsigned p)
+unfolding chance finiteOf lt ofBits
+chance-unsigned nan h = absurd (false≢true h)
+chance-unsigned (inf s) h = absurd (false≢true h)
+chance-unsigned (fin true m e) h = absurd (false≢true h)
+chance-unsigned (fin false m e) h = tt
+
+chance-at : (cs : List Float) (i : ℕ) → allChances cs ≡ true → i < length cs → chance (getD cs i nan) ≡ true
+unfolding allChances
+chance-at [] i h l = absurd (omega arith)
+chance-at (c ∷ cs) zero h l = both (chance c) (allChances cs) h .0
+chance-at (c ∷ cs) (suc i) h l = chance-at cs i (both (chance c) (allChances cs) h .1) (omega arith)
+
+-- so many of the first i bins lie below the draw: all of them, or one was reached before, and the sums after it reach the draw too
+pub record Counting (r sum : Float) (cs : List Float) (i bin : ℕ) : Type 0 where
+  pub held : T (fits binary64 sum)
+  pub rises : T (upward sum)
+  pub counted : ((bin ≡ i) × (i + reached r sum (drop i cs) ≡ reached r zero64 cs)) ⊎ ((bin < i) × (bin ≡ reached r zero64 cs) × (le r sum ≡ true))
+
+pub counting-first : (r : Float) (cs : List Float) → Counting r zero64 cs 0 0
+unfolding ofBits
+counting-first r cs = record { held = ofBits-fits binary64 0; rises = tt; counted = inl (refl, omega arith) }
+
+pub counting-next : (r sum : Float) (cs : List Float) (i bin k : ℕ) → allChances cs ≡ true → i + 1 < length cs → k ≡ cond (not (le r (add binary64 sum (getD cs i nan)))) 1 0 → Counting r sum cs i bin
+    → Counting r (add binary64 sum (getD cs i nan)) cs (i + 1) (bin + k)
+counting-next r sum cs i bin k all inside is c =
+    let p = getD cs i nan in
+    let up = add-upward binary64 sum p (c .held) (c .rises) (chance-unsigned p (chance-at cs i all (omega arith))) in
+    record { held = add-fits binary64 sum p; rises = up .1; counted = subst (λ (n : ℕ). Told (bin + n)) (sym is) (go (le r (add binary64 sum p)) refl (up .0) (c .counted)) }
+  where
+    Told : ℕ → Type 0
+    Told n = ((n ≡ i + 1) × (i + 1 + reached r (add binary64 sum (getD cs i nan)) (drop (i + 1) cs) ≡ reached r zero64 cs)) ⊎ ((n < i + 1) × (n ≡ reached r zero64 cs) × (le r (add binary64 sum (getD cs i nan)) ≡ true))
+
+    go : (b : Bool) → le r (add binary64 sum (getD cs i nan)) ≡ b → le sum (add binary64 sum (getD cs i nan)) ≡ true
+        → ((bin ≡ i) × (i + reached r sum (drop i cs) ≡ reached r zero64 cs)) ⊎ ((bin < i) × (bin ≡ reached r zero64 cs) × (le r sum ≡ true)) → Told (bin + cond (not b) 1 0)
+    go true e up (inl o) = let z = reach-stop r sum cs i inside e (o .1) in inr (omega (arith, o .0), omega (arith, o .0, z), e)
+    go true e up (inr o) = inr (omega (arith, o .0), omega (arith, o .1), e)
+    go false e up (inl o) = inl (omega (arith, o .0), reach-next r sum cs i inside e (o .1))
+    go false e up (inr o) = absurd (false≢true (sym e ∙ le-trans-float r sum (add binary64 sum (getD cs i nan)) (o .2) up))
+
+-- where fewer than all were counted, and where there is but the last bin left
+pub counted-before : (r sum : Float) (cs : List Float) (i bin : ℕ) → bin < i → Counting r sum cs i bin → bin ≡ reached r zero64 cs
+counted-before r sum cs i bin h c = elim (c .counted) [
+  | inl o ↦ absurd (omega (arith, o .0))
+  | inr o ↦ o .1
+]
+
+pub counted-last : (r sum : Float) (cs : List Float) (i bin : ℕ) → i + 1 ≡ length cs → Counting r sum cs i bin → bin ≡ reached r zero64 cs
+counted-last r sum cs i bin h c = elim (c .counted) [
+  | inl o ↦ let z = reach-end r sum cs i h (o .1) in omega (arith, o .0)
+  | inr o ↦ o .1
+]
+
+pub counted-most : (r sum : Float) (cs : List Float) (i bin : ℕ) → Counting r sum cs i bin → bin ≤ i
+counted-most r sum cs i bin c = elim (c .counted) [
+  | inl o ↦ omega (arith, o .0)
+  | inr o ↦ omega (arith, o .0)
+]
 
 -- ---- samples
 
@@ -215,12 +283,30 @@ axes-made table reals counts w d start v g ws xs xs′ e h q =
 pub length-chances : (at n : ℕ) (reals : List Float) → at + n ≤ length reals → length (take (at + n - at) (drop at reals)) ≡ n
 length-chances at n reals h = let e : at + n - at ≡ n = omega arith in rw e (length-take-le n (drop at reals) (omega (arith, length-drop at reals)))
 
+formed-chances : (bs : Bins) → formedBins bs ≡ true → allChances (probabilities bs) ≡ true
+unfolding formedBins probabilities allChances
+formed-chances none e = refl
+formed-chances (more b c bs) e =
+    let x = both (chance (b .probability)) (formedChild c && formedBins bs) e in
+    rw (x .0) (formed-chances bs (both (formedChild c) (formedBins bs) (x .1) .1))
+
 module _ (f : ℕ → Grid) (table : List ℕ) (reals : List Float) (counts : List ℕ) (w : ℕ) (h : Head) where
   abbrev many : ℕ
   many = getD table (w + 2) 0
 
   abbrev first : ℕ
   first = getD table (w + 5) 0 + 14
+
+  -- the probabilities are the stretch that the code hands on
+  chances-part : first + many ≤ length reals → probabilities (binsIn f table reals counts w 0 many) ≡ take (first + many - first) (drop first reals)
+  chances-part room =
+      let z : first + 0 ≡ first = omega arith in
+      chances f table reals counts w 0 many (omega arith) ∙ ap (λ (p : ℕ). stretch p many reals) z ∙ sym (part first many reals)
+
+  pub chances-sound : first + many ≤ length reals → sound (bins h (binsIn f table reals counts w 0 many)) ≡ true → allChances (take (first + many - first) (drop first reals)) ≡ true
+  unfolding sound formedGrid
+  chances-sound room e =
+      ap allChances (sym (chances-part room)) ∙ formed-chances (binsIn f table reals counts w 0 many) (both (formedBins (binsIn f table reals counts w 0 many)) _ e .0)
 
   pub bins-drawn : (start : MonteCarloRng) (u : Unit) (i : ℕ) (below after : Drawing) (weight : Float)
       → first + many ≤ length reals → u ≡ unitDrawnOf start
@@ -231,9 +317,7 @@ module _ (f : ℕ → Grid) (table : List ℕ) (reals : List Float) (counts : Li
       → after ≡ drawGrid (bins h (binsIn f table reals counts w 0 many)) start
   unfolding drawGrid unitAt unitDrawnOf pushed binIn
   bins-drawn start u i below after weight room drawn at inside hung weighs made =
-      let z : first + 0 ≡ first = omega arith in
-      let c : probabilities (binsIn f table reals counts w 0 many) ≡ take (first + many - first) (drop first reals) =
-      chances f table reals counts w 0 many (omega arith) ∙ ap (λ (p : ℕ). stretch p many reals) z ∙ sym (part first many reals) in
+      let c = chances-part room in
       let j : i ≡ reached (unitOf (wordOf start)) zero64 (probabilities (binsIn f table reals counts w 0 many)) =
       at ∙ ap (λ (v : Unit). reached (v .value) zero64 (take (first + many - first) (drop first reals))) drawn ∙ ap (reached (unitOf (wordOf start)) zero64) (sym c) in
       let d : below ≡ drawChild (childIn f (getD table (w + 7 + i) 0)) (stepOf start) = hung ∙ ap (λ (v : Unit). drawChild (childIn f (getD table (w + 7 + i) 0)) (v .stream)) drawn in

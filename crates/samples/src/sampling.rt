@@ -1,9 +1,10 @@
 // Sampling: a grid's draw goes to its axes or to one of its bins, and from there to what hangs at the bin.
 ghost use mathlib.Core.Path.{_≡_};
-ghost use mathlib.Core.Bool.{true};
+ghost use mathlib.Core.Bool.{true, cond};
 ghost use Prim.Native.Nat.{_+_, _≤_, _<_};
 ghost use lib.ListN.{length, getD};
 ghost use Rattle.doubles.specs.Numbers.{zero64};
+ghost use Rattle.recut.specs.Chances.{allChances};
 ghost use Rattle.model.specs.Grid.{axes, bins};
 ghost use Rattle.model.specs.Sound.{sound};
 ghost use Rattle.model.specs.Draw.{reached, drawAxes, drawNothing, drawGrid, drawChild};
@@ -16,21 +17,32 @@ use lent::Sample;
 use lent::Traced;
 use stream::MonteCarloRng;
 
-// The first bin whose running sum of probabilities is at least the draw; if none, the last.
+// 1 where the test passed, else 0.
+fn one(test: bool) -> usize
+    ensures { λ n. ⌜ n ≡ cond test 1 0 ⌝ }
+{
+    if test { 1 } else { 0 }
+}
+
+// The first bin whose running sum of probabilities is at least the draw; if none, the last. The sums go up, so that the bins whose sum lies
+// below the draw are counted. Up to 16 bins all are looked at: a jump at the bin that is reached is one that the processor cannot foresee, and
+// costs more than the rest of the sums.
 fn reach(chances: &[f64], r: f64) -> usize
-    requires { ⌜ 1 ≤ length (now chances) ⌝ }
+    requires { ⌜ (1 ≤ length (now chances)) × (allChances (now chances) ≡ true) ⌝ }
     ensures { λ i. ⌜ (i ≡ reached r zero64 (now (chances .entry))) × (i < length (now (chances .entry))) ⌝ }
 {
     let mut sum = 0.0;
     let mut i = 0;
+    let mut bin = 0;
     while i + 1 < chances.len() {
         sum = sum + chances[i];
-        if r <= sum {
-            return i;
-        }
+        bin = bin + one(!(r <= sum));
         i += 1;
+        if (16 < chances.len()) & (bin < i) {
+            return bin;
+        }
     }
-    i
+    bin
 }
 
 // Nothing drawn: the answer beside a refusal.

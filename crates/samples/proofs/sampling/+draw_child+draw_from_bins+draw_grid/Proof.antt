@@ -1,9 +1,9 @@
 -- A bin, its child one level down, then the weight, as the model draws; what hangs in a sound grid is sound.
 use Rattle.lent.specs.Sampled.{ChildLaid, Traces}
-use Rattle.lent.proofs.Samples.{child-none, child-is, child-sound, sound-in, sound-below, length-chances, bins-made, nothing-made, shorter}
+use Rattle.lent.proofs.Samples.{child-none, child-is, child-sound, sound-in, sound-below, length-chances, chances-sound, bins-made, nothing-made, shorter}
 use Rattle.model.specs.Draw.{Drawing, drawAxes, drawGrid, drawChild}
 use mathlib.Core.Path.{_≡_, refl, sym, ap, _∙_, subst}
-use Prim.Native.Nat.{_+_, _-_, _*_}
+use Prim.Native.Nat.{_+_, _-_, _*_, _≤_}
 use native.Mathlib.Omega.{arith}
 use lib.ListN.{length, getD}
 use Rattle.model.specs.Grid.{Grid, bins}
@@ -259,7 +259,15 @@ draw-from-bins-reach-requires : (t : ℕ) → draw-from-bins-lts.Need-reach-requ
   draw-child-below t,
   draw-child.Post,
 ) (draw-from-bins-at t) draw-from-bins.Post
-draw-from-bins-reach-requires t c κs = omega (arith, (length-chances (getD (c .before .before .before .before .before .before .before .before .args .table .now) ((c .before .before .before .before .before .before .before .before .args .w) + 5) 0 + 14) (getD (c .before .before .before .before .before .before .before .before .args .table .now) ((c .before .before .before .before .before .before .before .before .args .w) + 2) 0) (c .before .before .before .before .before .before .before .before .args .reals .now) (omega (arith, (c .before .before .before .before .before .before .before .before .pre .1) .0))), (c .before .before .before .before .before .before .before .before .pre .1) .0 .some)
+draw-from-bins-reach-requires t c κs =
+    let s = c .before .before .before .before .before .before .before .before in
+    let at = getD (s .args .table .now) (s .args .w + 5) 0 + 14 in
+    let n = getD (s .args .table .now) (s .args .w + 2) 0 in
+    let room : at + n ≤ length (s .args .reals .now) = omega (arith, (s .pre .1) .0) in (
+      omega (arith, length-chances at n (s .args .reals .now) room, (s .pre .1) .0 .some),
+      chances-sound (gridAt (s .args .level) (s .args .table .now) (s .args .reals .now) (s .args .counts .now)) (s .args .table .now) (s .args .reals .now) (s .args .counts .now) (s .args .w)
+          (headAt (s .args .table .now) (s .args .reals .now) (s .args .counts .now) (s .args .w)) room ((s .pre .1) .2),
+    )
 
 draw-from-bins-add-chance : (t : ℕ) → draw-from-bins-lts.Need-add-chance (
   unit-reads.Asked,
