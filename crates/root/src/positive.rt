@@ -34,8 +34,8 @@ fn power(bits: u64) -> u64
     (bits / 2 + 0x1ff8_0000_0000_0000) / 0x10_0000_0000_0000 * 0x10_0000_0000_0000
 }
 
-// About the root of x times a power of two, from a start h of the root itself, which is k times that power: the rest is a fraction that
-// equals what is left of the root up to the fifth power of x / h^2 - 1. So the answer has the root's own exponent with no further step.
+// About the root of x, times a power of two. The root starts from h, and k is h times that power. What is left is a fraction, right up to
+// the fifth power of x / h^2 - 1; it is scaled like k before it is added, so that nothing follows the addition.
 fn refined(x: f64, h: f64, k: f64) -> f64 {
     let hh = h * h;
     let sum = x + hh;
