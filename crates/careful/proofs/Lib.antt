@@ -1,3 +1,4 @@
+pub mod Halves
 pub mod Roots
 pub mod Judge
 pub mod Nearest

@@ -56,10 +56,10 @@ pub fn guess(bits: u64) -> f64
     refined(unit(bits), h, k)
 }
 
-// Whether q is nearest to the root of d * 2^52. With q = a * 2^26 + b what q * q + q has more than that is
+// Whether q is surely nearest to the root of d * 2^52; a no says nothing. With q = a * 2^26 + b what q * q + q has more than that is
 // ((a * a - d) * 2^26 + 2 * a * b) * 2^26 + b * b + q, and lies from 0 to below 2 * q where q is nearest. It is worked out word by word; where
-// -v and w are small, nothing of it was lost by wrapping.
-fn is_near(q: u64, d: u64) -> bool
+// v, which is d - a * a, and w are small, nothing of it was lost by wrapping. The judge in `careful` tells both ways, and takes longer.
+fn is_sure(q: u64, d: u64) -> bool
     requires { ⌜ (q < 2 ^ 53) × (d ≤ 2 ^ 54) ⌝ }
     ensures { λ r. ⌜ (r ≡ true → NearRoot (d * 2 ^ 52) q) ⌝ }
 {
@@ -71,7 +71,7 @@ fn is_near(q: u64, d: u64) -> bool
     (v < 0x2000_0000) & (std::num::wrapping_add_u64(w, 0x2000_0000) < 0x4000_0000) & (rest < 2 * q)
 }
 
-// Whether e are the bits of the root of the double whose bits are `bits`, a normal one.
+// Whether e are surely the bits of the root of the double whose bits are `bits`, a normal one; a no says nothing.
 pub fn is_root(e: u64, bits: u64) -> bool
     ensures { λ r. ⌜ (r ≡ true → Right bits e) ⌝ }
 {
@@ -79,7 +79,7 @@ pub fn is_root(e: u64, bits: u64) -> bool
     let rest = std::num::wrapping_sub_u64(e, power(bits));
     if (0 < top) & (top < 2047) & (rest < 0x10_0000_0000_0000) {
         let m = bits % 0x10_0000_0000_0000 + 0x10_0000_0000_0000;
-        return is_near(rest + 0x10_0000_0000_0000, m * (2 - top % 2));
+        return is_sure(rest + 0x10_0000_0000_0000, m * (2 - top % 2));
     }
     false
 }

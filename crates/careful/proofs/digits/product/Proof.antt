@@ -6,20 +6,9 @@ use native.Mathlib.Nat.{mul-le-mul}
 use native.Mathlib.Omega.{arith}
 use borrow.Author.Needs.{needs}
 use Rattle.careful.specs.Digits.{Words}
+use Rattle.careful.proofs.Halves.{halves}
 use Rattle.careful.proofs.digits.product.Statement.{statement}
 use Rattle.careful.proofs.digits.product.Tie as tie
-
--- the products of the halves of q
-record Halves (a b : ℕ) : Type 0 where
-  upper : a * a ≤ 2 ^ 54
-  cross : a * b ≤ 2 ^ 53
-  lower : b * b ≤ 2 ^ 52
-
-halves : (q : ℕ) → q < 2 ^ 53 → Halves (q / 2 ^ 26) (q % 2 ^ 26)
-halves q h =
-    let A : q / 2 ^ 26 ≤ 2 ^ 27 = omega arith in
-    let B : q % 2 ^ 26 ≤ 2 ^ 26 = omega arith in
-    record { upper = mul-le-mul A A; cross = mul-le-mul A B; lower = mul-le-mul B B }
 
 abbrev lastOf : ℕ → ℕ → ℕ
 lastOf q b = b * b + q

@@ -59,17 +59,17 @@ at-if c = tested (c .before .before .before .args .bits) (c .before .wrapping-su
 add-m : tie.Need-add-m
 add-m c = search needs
 
-add-is-near : tie.Need-add-is-near
-add-is-near c = let h = at-if c .short in omega arith
+add-is-sure : tie.Need-add-is-sure
+add-is-sure c = let h = at-if c .short in omega arith
 
-sub-is-near : tie.Need-sub-is-near
-sub-is-near c = search needs
+sub-is-sure : tie.Need-sub-is-sure
+sub-is-sure c = search needs
 
-mul-is-near : tie.Need-mul-is-near
-mul-is-near c = let h = digits (c .before .before .before .args .bits) in omega arith
+mul-is-sure : tie.Need-mul-is-sure
+mul-is-sure c = let h = digits (c .before .before .before .args .bits) in omega arith
 
-is-near-requires : tie.Need-is-near-requires
-is-near-requires c κs = let h = at-if c .short in (omega arith, digits (c .before .before .before .args .bits))
+is-sure-requires : tie.Need-is-sure-requires
+is-sure-requires c κs = let h = at-if c .short in (omega arith, digits (c .before .before .before .args .bits))
 
 returns : tie.Need-returns
 returns c h =
@@ -77,7 +77,7 @@ returns c h =
     let r = t .before in
     let p = r .before in
     let s = p .before in
-    right (s .args .bits) (s .args .e) (p .power .result) (r .wrapping-sub-u64 .result) (omega arith) (omega arith) (p .power .ensures) (r .wrapping-sub-u64 .ensures) (at-if t) (c .is-near .ensures h)
+    right (s .args .bits) (s .args .e) (p .power .result) (r .wrapping-sub-u64 .result) (omega arith) (omega arith) (p .power .ensures) (r .wrapping-sub-u64 .ensures) (at-if t) (c .is-sure .ensures h)
 
 returns-2 : tie.Need-returns-2
 returns-2 c h = absurd (false≢true h)
@@ -89,9 +89,9 @@ is-root-spec =
     power-requires
     wrapping-sub-u64-requires
     add-m
-    add-is-near
-    sub-is-near
-    mul-is-near
-    is-near-requires
+    add-is-sure
+    sub-is-sure
+    mul-is-sure
+    is-sure-requires
     returns
     returns-2)

@@ -1,8 +1,7 @@
--- `is_near`: three words, each small beside 2 ^ 64, so that what was wrapped is known, are the digits of the difference. Assumes nothing.
+-- `is_sure`: three words, each small beside 2 ^ 64, so that what was wrapped is known, are the digits of the difference. Assumes nothing.
 use mathlib.Core.Path.{_≡_, ap, _∙_, subst}
 use mathlib.Core.Logic.{inl, inr}
 use Prim.Native.Nat.{ℕ, _+_, _-_, _*_, _/_, _%_, _^_, _≤_, _<_}
-use native.Mathlib.Nat.{mul-le-mul}
 use native.Mathlib.Omega.{arith}
 use mathlib.Core.Bool.{true, _&&_}
 use lib.Dec.{ltb}
@@ -10,26 +9,15 @@ use borrow.Author.Needs.{needs}
 use borrow.Author.Tests.{ltb-true, ltb-false}
 use Rattle.careful.specs.Digits.{NearRoot}
 use Rattle.doubles.proofs.Truth.{either, both}
-use Rattle.root.proofs.positive.is_near.Statement.{statement}
-use Rattle.root.proofs.positive.is_near.Tie as tie
-
--- the products of the halves of q
-record Products (a b : ℕ) : Type 0 where
-  high : a * a ≤ 2 ^ 54
-  cross : a * b ≤ 2 ^ 53
-  low : b * b ≤ 2 ^ 52
-
-products : (q : ℕ) → q < 2 ^ 53 → Products (q / 2 ^ 26) (q % 2 ^ 26)
-products q h =
-    let a : q / 2 ^ 26 ≤ 2 ^ 27 = omega arith in
-    let b : q % 2 ^ 26 ≤ 2 ^ 26 = omega arith in
-    record { high = mul-le-mul a a; cross = mul-le-mul a b; low = mul-le-mul b b }
+use Rattle.careful.proofs.Halves.{halves}
+use Rattle.root.proofs.positive.is_sure.Statement.{statement}
+use Rattle.root.proofs.positive.is_sure.Tie as tie
 
 -- a word that was moved up and did not wrap
 unwrapped : (w n k : ℕ) → w < 2 ^ 29 → n ≤ 2 ^ 54 → (w * 2 ^ 26 % 2 ^ 64 + n) % 2 ^ 64 < k → w * 2 ^ 26 + n < k
 unwrapped w n k h l r = let i : w * 2 ^ 26 % 2 ^ 64 ≡ w * 2 ^ 26 = omega arith in omega (arith, i)
 
--- with A, M and C for those products: what the words v and w and the last one say
+-- with A, M and C for the products of the halves of q: what the words v and w and the last one say
 module _ (A M C q d v w : ℕ) (la : A ≤ 2 ^ 54) (lm : M ≤ 2 ^ 53) (lc : C ≤ 2 ^ 52) (lq : q < 2 ^ 53) (ld : d ≤ 2 ^ 54) (word : w < 2 ^ 64)
     (is-v : (v + A) % 2 ^ 64 ≡ d) (is-w : (w + v * 2 ^ 26 % 2 ^ 64) % 2 ^ 64 ≡ 2 * M)
     (few : v < 2 ^ 29) (small : (w + 2 ^ 29) % 2 ^ 64 < 2 ^ 30) (rest : (w * 2 ^ 26 % 2 ^ 64 + (C + q)) % 2 ^ 64 < 2 * q) where
@@ -78,19 +66,19 @@ tells : (q d v w t z : ℕ) → q < 2 ^ 53 → d ≤ 2 ^ 54 → w < 2 ^ 64 → (
 tells q d v w t z lq ld word is-v is-w is-t is-z y =
     let a = q / 2 ^ 26 in
     let b = q % 2 ^ 26 in
-    let p = products q lq in
+    let p = halves q lq in
     let f = both _ _ y in
     let g = both _ _ (f .0) in
     let few = ltb-true v (2 ^ 29) (g .0) in
     let small = subst (λ (i : ℕ). i < 2 ^ 30) is-t (ltb-true t (2 ^ 30) (g .1)) in
     let rest = subst (λ (i : ℕ). i < 2 * q) is-z (ltb-true z (2 * q) (f .1)) in
     let i : 2 * a * b ≡ 2 * (a * b) = omega arith in
-    let n = near (a * a) (a * b) (b * b) q d v w (p .high) (p .cross) (p .low) lq ld word is-v (is-w ∙ i) few small rest in
+    let n = near (a * a) (a * b) (b * b) q d v w (p .upper) (p .cross) (p .lower) lq ld word is-v (is-w ∙ i) few small rest in
     let s = square-is q in
     record { high = subst (λ (k : ℕ). d * 2 ^ 52 ≤ k + q) s (n .0); low = subst (λ (k : ℕ). k < d * 2 ^ 52 + q) s (n .1) }
 
 mul-wrapping-sub-u64 : tie.Need-mul-wrapping-sub-u64
-mul-wrapping-sub-u64 c = let p = products (c .args .q) (c .pre .0) in omega arith
+mul-wrapping-sub-u64 c = let p = halves (c .args .q) (c .pre .0) in omega arith
 
 wrapping-sub-u64-requires : tie.Need-wrapping-sub-u64-requires
 wrapping-sub-u64-requires c κs = search needs
@@ -99,16 +87,16 @@ mul-wrapping-sub-u64-2 : tie.Need-mul-wrapping-sub-u64-2
 mul-wrapping-sub-u64-2 c = search needs
 
 mul-wrapping-sub-u64-3 : tie.Need-mul-wrapping-sub-u64-3
-mul-wrapping-sub-u64-3 c = let s = c .before in let p = products (s .args .q) (s .pre .0) in omega arith
+mul-wrapping-sub-u64-3 c = let s = c .before in let p = halves (s .args .q) (s .pre .0) in omega arith
 
 wrapping-sub-u64-requires-2 : tie.Need-wrapping-sub-u64-requires-2
 wrapping-sub-u64-requires-2 c κs = search needs
 
 mul-wrapping-add-u64 : tie.Need-mul-wrapping-add-u64
-mul-wrapping-add-u64 c = let s = c .before .before in let p = products (s .args .q) (s .pre .0) in omega arith
+mul-wrapping-add-u64 c = let s = c .before .before in let p = halves (s .args .q) (s .pre .0) in omega arith
 
 add-wrapping-add-u64 : tie.Need-add-wrapping-add-u64
-add-wrapping-add-u64 c = let s = c .before .before in let p = products (s .args .q) (s .pre .0) in omega arith
+add-wrapping-add-u64 c = let s = c .before .before in let p = halves (s .args .q) (s .pre .0) in omega arith
 
 wrapping-add-u64-requires : tie.Need-wrapping-add-u64-requires
 wrapping-add-u64-requires c κs = search needs
@@ -126,8 +114,8 @@ returns c =
     let w = c .before .before .wrapping-sub-u642 in
     tells (s .args .q) (s .args .d) (v .result) (w .result) (c .wrapping-add-u642 .result) (c .before .wrapping-add-u64 .result) (s .pre .0) (s .pre .1) (omega arith) (v .ensures) (w .ensures) (c .wrapping-add-u642 .ensures) (c .before .wrapping-add-u64 .ensures)
 
-pub is-near-spec : {M : Type 1} → statement M
-is-near-spec =
+pub is-sure-spec : {M : Type 1} → statement M
+is-sure-spec =
     tie.close
     (tie.spec
     mul-wrapping-sub-u64
