@@ -2,6 +2,7 @@
 //
 // One record of doubles and counts, passed and returned by value. Each call judges the record it is given (12) before all
 // else, and a refusal's number is its whole answer.
+#![tactic(auto)]
 mod judge;
 mod steps;
 
@@ -15,7 +16,7 @@ use judge::{has_bounded_counts, is_well_formed};
 
 // The record. A sample of an extreme is its number, 0 for none. Doubles and counts take turns: of two doubles side by side
 // the compiler would move both at once, and the processor would wait until each of them, stored alone, is written.
-#[derive(Drop)]
+#[derive(Clone, Copy)]
 pub struct StatisticsAccumulator {
     pub sum: f64,
     pub new_samples: u64,
@@ -41,27 +42,27 @@ pub struct StatisticsAccumulator {
 }
 
 // The record after a call, or a refusal's number.
-#[derive(Drop)]
+#[derive(Clone, Copy)]
 pub enum Changed {
     Record(StatisticsAccumulator),
     Refused(u64),
 }
 
 // Both records after a clearing merge, or a refusal's number.
-#[derive(Drop)]
+#[derive(Clone, Copy)]
 pub enum Merged {
     Records(StatisticsAccumulator, StatisticsAccumulator),
     Refused(u64),
 }
 
 // Whether waiting samples were processed, and the record after the update; or a refusal's number.
-#[derive(Drop)]
+#[derive(Clone, Copy)]
 pub enum Updated {
     Record(bool, StatisticsAccumulator),
     Refused(u64),
 }
 
-#[derive(Drop)]
+#[derive(Clone, Copy)]
 pub struct Estimate {
     pub avg: f64,
     pub err: f64,
@@ -69,14 +70,14 @@ pub struct Estimate {
 }
 
 // The estimate as if the iteration had ended, or a refusal's number.
-#[derive(Drop)]
+#[derive(Clone, Copy)]
 pub enum Estimated {
     Estimate(Estimate),
     Refused(u64),
 }
 
 // Iterations, samples, average, error, chi-squared, and whether the error is zero.
-#[derive(Drop)]
+#[derive(Clone, Copy)]
 pub struct Summary {
     pub iterations: u64,
     pub samples: u64,
@@ -86,7 +87,7 @@ pub struct Summary {
     pub flat: bool,
 }
 
-#[derive(Drop)]
+#[derive(Clone, Copy)]
 pub enum Summed {
     Summary(Summary),
     Refused(u64),

@@ -114,7 +114,7 @@ pub fn copied(a: StatisticsAccumulator) -> StatisticsAccumulator
 // What an iteration comes to: the number of the refusal of its end, 0 for none; its samples' mean and weight; the plain mean of all
 // samples, 0 where the mean is weighted; the error, and the weighted mean's variance. Without at least two samples there is nothing
 // but the number.
-#[derive(Drop)]
+#[derive(Clone, Copy)]
 pub struct Figures {
     pub mean: f64,
     pub refusal: u64,
@@ -332,7 +332,7 @@ pub fn figures_of(
 }
 
 // What the iterations so far come to: their weighted sums, and the mean of the first.
-#[derive(Drop)]
+#[derive(Clone, Copy)]
 struct Course {
     weight_sum: f64,
     avg_sum: f64,
@@ -370,7 +370,7 @@ fn settled(c: Course, f: Figures, first: bool) -> Course
 }
 
 // A course, and the estimates at its end.
-#[derive(Drop)]
+#[derive(Clone, Copy)]
 struct Iterated {
     course: Course,
     estimate: Estimate,

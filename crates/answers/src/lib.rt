@@ -1,5 +1,7 @@
 // A list of answers: words of 16 lower-case hex digits, each with one byte after it, as oracle/README.md describes,
 // and doubles as the words of such a list. Every program that replays a list reads it here.
+#![tactic(auto)]
+
 ghost use Rattle.std.specs.Prelude.{◌≡◌, ◌<◌};
 ghost use Rattle.std.specs.Float.{binary64};
 ghost use Rattle.std.specs.Float.Ieee.{to_bits, of_bits, nan_bits};

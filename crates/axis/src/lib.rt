@@ -2,6 +2,7 @@
 //
 // `probe` and `draw` judge the edges they are given. The functions of `edges` and `scans` judge nothing and answer on any list,
 // for calls that judge once and go on.
+#![tactic(auto)]
 pub mod edges;
 pub mod scans;
 
@@ -9,28 +10,28 @@ ghost use Rattle.std.specs.Prelude.{◌≡◌};
 ghost use Rattle.axis.specs.Calls.{paper_probed, probe_of, paper_drawn, draw_of};
 
 // The weight of a coordinate's bin, or a refusal's number.
-#[derive(Drop)]
+#[derive(Clone, Copy)]
 pub enum Probed {
     Weight(f64),
     Refused(u64),
 }
 
 // A drawn coordinate and its weight.
-#[derive(Drop)]
+#[derive(Clone, Copy)]
 pub struct Point {
     pub at: f64,
     pub weight: f64,
 }
 
 // A coordinate, its weight, and its bin.
-#[derive(Drop)]
+#[derive(Clone, Copy)]
 pub struct Spot {
     pub point: Point,
     pub bin: usize,
 }
 
 // A drawn point, or a refusal's number.
-#[derive(Drop)]
+#[derive(Clone, Copy)]
 pub enum Drawn {
     Point(Point),
     Refused(u64),

@@ -1,5 +1,6 @@
 // Runs one of the library's inner loops as often as standard input says, `KIND COUNT`, and prints a word made of all results,
 // so that no part of the work can be left out. bench/run times it beside the same loop of the Rust.
+#![tactic(auto)]
 mod edges;
 mod grids;
 mod kernels;

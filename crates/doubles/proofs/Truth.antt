@@ -2,9 +2,8 @@
 -- names. Assumes nothing.
 use mathlib.Core.Path.{◌≡◌, refl, sym, ◌∙◌, subst}
 use mathlib.Core.Logic.{◌⊎◌, inl, inr}
-use mathlib.Core.Bool.{Bool, true, false, not, ◌&&◌, false≢true}
+use mathlib.Core.Bool.{Bool, true, false, ◌&&◌, false≢true}
 use lib.Dec.{T}
-use borrow.Author.Tests.{not-true, not-false}
 
 pub is : {b : Bool} → T b → b ≡ true
 is {b = true} t = refl
@@ -23,8 +22,8 @@ both true b e = (refl, e)
 both false b e = absurd (false≢true e)
 
 -- `if !f(..) { return .. }`: the branch was taken, and the decider fails; it was not, and the decider passes
-pub failed : {r b : Bool} → r ≡ b → not r ≡ true → b ≡ false
-failed {r} e t = sym e ∙ not-true r t
+pub failed : {r b : Bool} → r ≡ b → r ≡ false → b ≡ false
+failed e t = sym e ∙ t
 
-pub passed : {r b : Bool} → r ≡ b → not r ≡ false → b ≡ true
-passed {r} e t = sym e ∙ not-false r t
+pub passed : {r b : Bool} → r ≡ b → r ≡ true → b ≡ true
+passed e t = sym e ∙ t

@@ -1,5 +1,7 @@
 // The doubles: the laws in proofs/ that the crates above cite, with the definitions that they need, and what both the root and
 // the logarithm ask of a double before they begin.
+#![tactic(auto)]
+
 ghost use Rattle.std.specs.Prelude.{◌≡◌, ◌^◌, ◌<◌};
 ghost use Rattle.std.specs.Float.Ieee.Positive.{positive};
 ghost use Rattle.doubles.specs.Split.{lifted_of, split_of};
@@ -15,7 +17,7 @@ pub fn above_zero(x: f64) -> bool
 }
 
 // A double's binary digits: it is digits * 2^shift / 2^1126.
-#[derive(Drop)]
+#[derive(Clone, Copy)]
 pub struct Parts {
     pub digits: u64,
     pub shift: u64,

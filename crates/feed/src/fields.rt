@@ -5,7 +5,7 @@ ghost use Rattle.feed.specs.Fields.{missing_of, standing_of, is_sample, row_from
 use crate::numbers::{double_at, number_at};
 
 // A field that is due: all of it is there; its bytes may still come; or another stands there, or none, or it is cut by the input's end.
-#[derive(Drop)]
+#[derive(Clone, Copy)]
 pub enum Standing {
     Whole,
     Waiting,

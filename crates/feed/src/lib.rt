@@ -2,6 +2,7 @@
 //
 // A run is a value that says what is due. A turn takes what is due from the front of some bytes, and the caller gives the rest
 // again, with more behind it. Each call's promise is an equation with its definition in specs/.
+#![tactic(auto)]
 mod fields;
 mod numbers;
 mod planning;
@@ -16,7 +17,7 @@ ghost use Rattle.feed.specs.Said.{said, beginning_of, is_over_of};
 ghost use Rattle.feed.specs.Turns.{turn_end, turn_of};
 
 // What is due next: the plan, the stream's field, samples and updates, or nothing any more.
-#[derive(Drop)]
+#[derive(Clone, Copy)]
 pub enum Phase {
     Plan,
     Stream,
@@ -25,7 +26,7 @@ pub enum Phase {
 }
 
 // What is due, the stream, the next sample's number, and the offset of the next field.
-#[derive(Drop)]
+#[derive(Clone, Copy)]
 pub struct Run {
     pub phase: Phase,
     pub stream: stream::MonteCarloRng,
@@ -34,7 +35,7 @@ pub struct Run {
 }
 
 // What a turn tells: nothing, an update's line, or a refusal with its field's offset.
-#[derive(Drop)]
+#[derive(Clone, Copy)]
 pub enum Told {
     Nothing,
     Line(accumulator::Summary),
@@ -43,7 +44,7 @@ pub enum Told {
 
 // A run after a turn: how many bytes it took, and what it tells. Where nothing was taken and the run is not over, it waits for more
 // bytes.
-#[derive(Drop)]
+#[derive(Clone, Copy)]
 pub struct Turned {
     pub run: Run,
     pub taken: usize,

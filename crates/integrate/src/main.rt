@@ -1,6 +1,7 @@
 // The integration program: a plan, a stream, then samples and updates from standard input; a line for each update, or the first refusal.
 //
 // The work is `feed::turn`; this program reads, writes, and keeps the bytes that a turn has not taken.
+#![tactic(auto)]
 mod lines;
 
 ghost use Rattle.std.specs.Prelude.{◌≡◌, true, false, ◌&&◌, ◌+◌, ◌-◌, ◌≤◌, ◌<◌, eqb, length, take, drop};

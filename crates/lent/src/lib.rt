@@ -1,13 +1,14 @@
 // Grids in lent memory, as definitions: what stands where, what each call answers and leaves (specs/), and the laws of it (proofs/).
 // Of code there are the records that the definitions speak of, and what all crates ask of a place: where axes stand, and whether there is
 // room for them.
+#![tactic(auto)]
 pub mod layout;
 pub mod room;
 
 use stream::MonteCarloRng;
 
 // An axes grid's plan in numbers, and where its axes' reals and counts begin: each axis has room for `most` bins.
-#[derive(Drop)]
+#[derive(Clone, Copy)]
 pub struct AxesAt {
     pub axes: usize,
     pub most: usize,
@@ -18,7 +19,7 @@ pub struct AxesAt {
 
 // A sample: a bin for each bins grid on its path, a weight for each of them and for the axes grid at its end, and that grid's
 // coordinates. Of each as many are there as its number says.
-#[derive(Drop)]
+#[derive(Clone, Copy)]
 pub struct Sample {
     pub path: [usize; 4],
     pub levels: usize,
@@ -29,14 +30,14 @@ pub struct Sample {
 }
 
 // A drawn sample, and the stream after it.
-#[derive(Drop)]
+#[derive(Clone, Copy)]
 pub struct Drawing {
     pub sample: Sample,
     pub stream: MonteCarloRng,
 }
 
 // The coordinates of a probe: `many` of them, each given or, where it is free, left open.
-#[derive(Drop)]
+#[derive(Clone, Copy)]
 pub struct Coordinates {
     pub at: [f64; 8],
     pub free: [bool; 8],
@@ -44,7 +45,7 @@ pub struct Coordinates {
 }
 
 // What a probe asks for: a bin for each bins grid on its path, and the coordinates in the axes grid at its end.
-#[derive(Drop)]
+#[derive(Clone, Copy)]
 pub struct Region {
     pub path: [usize; 4],
     pub levels: usize,
@@ -52,14 +53,14 @@ pub struct Region {
 }
 
 // What a draw answers: 0, the sample and the stream after it; or a refusal's number, no sample and the stream as it was.
-#[derive(Drop)]
+#[derive(Clone, Copy)]
 pub struct Drawn {
     pub refused: u64,
     pub drawing: Drawing,
 }
 
 // What a batch answers: 0 or the first refusal's number, how many evaluations were trained, and the stream after their draws.
-#[derive(Drop)]
+#[derive(Clone, Copy)]
 pub struct Batched {
     pub refused: u64,
     pub done: usize,
@@ -67,7 +68,7 @@ pub struct Batched {
 }
 
 // The weight of the coordinates that a walk sets, and the stream after them.
-#[derive(Drop)]
+#[derive(Clone, Copy)]
 pub struct Walked {
     pub weight: f64,
     pub stream: MonteCarloRng,
@@ -75,7 +76,7 @@ pub struct Walked {
 
 // What a draw answers beside the bins, weights and coordinates that it writes: how many of them are there now, its weight, and the
 // stream after it.
-#[derive(Drop)]
+#[derive(Clone, Copy)]
 pub struct Traced {
     pub levels: usize,
     pub given: usize,
@@ -85,7 +86,7 @@ pub struct Traced {
 }
 
 // The values of an accumulator that a sample changes, by the accumulator's names.
-#[derive(Drop)]
+#[derive(Clone, Copy)]
 pub struct Gain {
     pub sum: f64,
     pub sum_sq: f64,
@@ -98,7 +99,7 @@ pub struct Gain {
 }
 
 // What the plan says of an update: the bins where it has no evolution list, the least samples, whether averages are trained on.
-#[derive(Drop)]
+#[derive(Clone, Copy)]
 pub struct Rule {
     pub bins: usize,
     pub least: u64,
@@ -106,7 +107,7 @@ pub struct Rule {
 }
 
 // Whether some 8 or some 9 was found.
-#[derive(Drop)]
+#[derive(Clone, Copy)]
 pub struct Found {
     pub eight: bool,
     pub nine: bool,

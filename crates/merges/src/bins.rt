@@ -3,7 +3,7 @@ ghost use Rattle.std.specs.Prelude.{◌≡◌};
 ghost use Rattle.merges.specs.Bins.{bin_place, Placed};
 
 // Where a bin's probability stands, and where its accumulator's reals and counts begin.
-#[derive(Drop)]
+#[derive(Clone, Copy)]
 pub struct BinAt {
     pub chance: usize,
     pub reals: usize,

@@ -1,4 +1,5 @@
 // Merges: what stands against the merge of two grids in lent memory, and the merge.
+#![tactic(auto)]
 mod bins;
 mod joining;
 mod matching;

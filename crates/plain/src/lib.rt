@@ -1,5 +1,7 @@
 // The plain kernels on doubles, one or two operations each. Each answers every input, and its promise, one
 // equation with a definition, says which double it answers.
+#![tactic(auto)]
+
 ghost use Rattle.std.specs.Prelude.{◌≡◌};
 ghost use Rattle.doubles.specs.Finite.{finite_of};
 ghost use Rattle.plain.specs.Norm.{norm_of};

@@ -2,6 +2,8 @@
 //
 // A plan is judged and measured first, field by field; only then is its table written, over the same bytes. A table is
 // known again by walking it in the same way. Each call's promise is an equation with its definition in specs/Calls.antt.
+#![tactic(auto)]
+
 mod bits;
 mod bytes;
 mod fields;
@@ -22,7 +24,7 @@ use writing::write;
 
 // An axes grid's plan: the numbers of its 01; the largest of its bin numbers, and how many values its bin evolution has.
 // The values stay in the bytes, and then in the table.
-#[derive(Drop)]
+#[derive(Clone, Copy)]
 pub struct AxesPlan {
     pub axes: usize,
     pub bins: usize,
@@ -34,7 +36,7 @@ pub struct AxesPlan {
 }
 
 // A bins grid's plan: the numbers of its 03.
-#[derive(Drop)]
+#[derive(Clone, Copy)]
 pub struct BinsPlan {
     pub bins: usize,
     pub ratio: u64,
@@ -42,7 +44,7 @@ pub struct BinsPlan {
 }
 
 // What hangs at a bin.
-#[derive(Drop)]
+#[derive(Clone, Copy)]
 pub enum Child {
     Nothing,
     Axes(AxesPlan),
@@ -50,7 +52,7 @@ pub enum Child {
 }
 
 // The grids that may still come, and what those before take: words of the table, reals, counts, and bins in all.
-#[derive(Drop)]
+#[derive(Clone, Copy)]
 pub struct Tally {
     pub left: usize,
     pub words: usize,
@@ -60,35 +62,35 @@ pub struct Tally {
 }
 
 // Where reading stands: the byte, and what is taken by then.
-#[derive(Drop)]
+#[derive(Clone, Copy)]
 pub struct Place {
     pub at: usize,
     pub tally: Tally,
 }
 
 // A bin's plan: what hangs there, and the place past its field.
-#[derive(Drop)]
+#[derive(Clone, Copy)]
 pub struct BinPlan {
     pub child: Child,
     pub past: Place,
 }
 
 // One field, judged.
-#[derive(Drop)]
+#[derive(Clone, Copy)]
 pub enum Field {
     Stop { number: u64, at: usize },
     Found(BinPlan),
 }
 
 // What a whole grid, or several, come to.
-#[derive(Drop)]
+#[derive(Clone, Copy)]
 pub enum Step {
     Stopped { number: u64, at: usize },
     Done(Place),
 }
 
 // What a plan needs: words of its table, reals and counts, each axis at its largest bin number; and its bins in all.
-#[derive(Drop)]
+#[derive(Clone, Copy)]
 pub struct Needs {
     pub words: usize,
     pub reals: usize,
@@ -97,14 +99,14 @@ pub struct Needs {
 }
 
 // What reading a plan answers: how many bytes it takes and what it needs, or a refusal's number and its field's offset.
-#[derive(Drop)]
+#[derive(Clone, Copy)]
 pub enum Read {
     Plan { end: usize, needs: Needs },
     Refused { number: u64, offset: usize },
 }
 
 // What a table answers.
-#[derive(Drop)]
+#[derive(Clone, Copy)]
 pub enum Sized {
     Plan(Needs),
     Refused(u64),

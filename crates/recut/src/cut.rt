@@ -3,7 +3,7 @@ ghost use Rattle.std.specs.Prelude.{◌≡◌, ◌<◌, length};
 ghost use Rattle.recut.specs.Cut.{walk_to, edge_at, cuts_of};
 
 // Where the walk over the old bins stands: the weight passed, and the bin.
-#[derive(Drop)]
+#[derive(Clone, Copy)]
 pub struct Spot {
     pub passed: f64,
     pub bin: usize,

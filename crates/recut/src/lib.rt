@@ -3,6 +3,7 @@
 //
 // Every call answers on any input. `renew` works on a spare: the importances it is lent are its workspace, and the new
 // edges stand in a room beside them, so that the axis itself is written only once the update is known to be accepted.
+#![tactic(auto)]
 mod chances;
 mod cut;
 mod weights;
@@ -13,7 +14,7 @@ ghost use Rattle.recut.specs.Chances.{all_chances, adapted_to};
 ghost use Rattle.recut.specs.Renew.{paper_renewed, lengths_fit, from_damped, from_divided, renew_of};
 
 // The new edges stand in the room, or a refusal's number.
-#[derive(Drop)]
+#[derive(Clone, Copy)]
 pub enum Renewed {
     Done,
     Refused(u64),

@@ -1,6 +1,7 @@
 // Makes the calls of a list of the oracle's answers (standard input) on the accumulator, and prints how many records agreed.
 //
 // The list is that of `oracle/target/release/answers accumulator 6 1900`: every call, with each refusal that it has.
+#![tactic(auto)]
 mod calls;
 mod list;
 

@@ -1,6 +1,7 @@
 // Lays the plans of a list of the oracle's answers (standard input), makes its calls on their grids, and prints how many agreed.
 //
 // The list is that of `oracle/target/release/answers grid 3 150`.
+#![tactic(auto)]
 mod calls;
 mod list;
 mod memory;

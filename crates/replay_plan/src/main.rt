@@ -1,5 +1,6 @@
 // Runs plans of every kind, most of them malformed, through the reader and through the table's judge, and prints how many
 // answers agree with a stored list (standard input). list.py writes the list, from a reader of its own.
+#![tactic(auto)]
 mod cases;
 mod codes;
 

@@ -1,6 +1,7 @@
 // Feeds the inputs of a list of the oracle's answers (standard input) through `feed::turn`, whole and cut in two, and prints how many agreed.
 //
 // The list is that of `oracle/target/release/answers program 3 160`.
+#![tactic(auto)]
 mod feeding;
 mod list;
 mod tally;

@@ -1,6 +1,7 @@
 // Replays a list of the kernels' answers. A line of standard input is an opcode and three words of 16
 // hexadecimal digits: x, a (or zeros) and the answer. The program writes each line that it does not agree
 // with, and at the end how many lines of each kind it compared and how many differ. The list is that of list.py beside it.
+#![tactic(auto)]
 ghost use Rattle.std.specs.Prelude.{◌≤◌};
 
 use libc::{STDIN_FILENO, STDOUT_FILENO};

@@ -1,5 +1,6 @@
 // Runs the stream on published words and on a list of the oracle's answers (standard input), and prints what agreed. The list is that
 // of `oracle/target/release/answers stream 1 1500`.
+#![tactic(auto)]
 mod list;
 mod published;
 

@@ -12,7 +12,7 @@ use lent::{AxesAt, Walked};
 use stream::MonteCarloRng;
 
 // Whether sampling is even, and the stream that it starts from.
-#[derive(Drop)]
+#[derive(Clone, Copy)]
 struct Choice {
     evenly: bool,
     stream: MonteCarloRng,

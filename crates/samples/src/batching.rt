@@ -9,7 +9,7 @@ use lent::Batched;
 use stream::MonteCarloRng;
 
 // A refusal's number or 0, and the stream afterwards.
-#[derive(Drop)]
+#[derive(Clone, Copy)]
 pub struct Stepped {
     pub refused: u64,
     pub stream: MonteCarloRng,

@@ -2,6 +2,8 @@
 //
 // A stream is four words, passed and returned by value; any four are a state, zeros too. Each call's promise is an equation
 // with its definition in specs/, which says what the publications say.
+#![tactic(auto)]
+
 mod bytes;
 mod words;
 
@@ -14,7 +16,7 @@ use bytes::{is_all_zero, put_word, with_word, word_at};
 use words::{rotl, wrapping_mul};
 
 // The state: four words in the order of the publication.
-#[derive(Drop)]
+#[derive(Clone, Copy)]
 pub struct MonteCarloRng {
     pub s0: u64,
     pub s1: u64,
@@ -23,28 +25,28 @@ pub struct MonteCarloRng {
 }
 
 // A word, and the stream after it.
-#[derive(Drop)]
+#[derive(Clone, Copy)]
 pub struct Word {
     pub value: u64,
     pub stream: MonteCarloRng,
 }
 
 // The upper half of a word, and the stream after it.
-#[derive(Drop)]
+#[derive(Clone, Copy)]
 pub struct Half {
     pub value: u32,
     pub stream: MonteCarloRng,
 }
 
 // A number of [0, 1 - 2^-53], and the stream after it.
-#[derive(Drop)]
+#[derive(Clone, Copy)]
 pub struct Unit {
     pub value: f64,
     pub stream: MonteCarloRng,
 }
 
 // What `new` answers: a stream, or a refusal's number.
-#[derive(Drop)]
+#[derive(Clone, Copy)]
 pub enum Made {
     Stream(MonteCarloRng),
     Refused(u64),
@@ -58,7 +60,7 @@ pub fn unit_of(word: u64) -> f64
 }
 
 // A jump on its way: the sum of the states taken so far, and the state reached.
-#[derive(Drop)]
+#[derive(Clone, Copy)]
 pub struct Walk {
     pub sum: MonteCarloRng,
     pub state: MonteCarloRng,

@@ -45,7 +45,7 @@ fn update_account(reals: &mut [f64], counts: &mut [u64], r: usize, c: usize) -> 
 }
 
 // A bins grid's plan in numbers, and where its reals and counts begin.
-#[derive(Drop)]
+#[derive(Clone, Copy)]
 pub struct BinsAt {
     pub bins: usize,
     pub ratio: f64,

@@ -1,4 +1,5 @@
 // The update of a grid in lent memory, worked out on a spare.
+#![tactic(auto)]
 mod adapting;
 mod parts;
 mod renewal;

@@ -1,0 +1,37 @@
+-- The levels left fall; the answer for all children is the answer for those that are left.
+use Prim.Native.Nat.{◌+◌, ◌-◌, ◌*◌, ◌≤◌}
+use mathlib.Core.Path.{sym, ◌∙◌}
+use native.Mathlib.Omega.{arith}
+use Rattle.plan.specs.Reading.{tree_of}
+use Rattle.plan.specs.Walk.{child_of, from_table}
+use Rattle.plan.specs.Bounds.{Roomy}
+use Rattle.plan.proofs.Steps.{Walked, walked_from, walked_all, walked_next, walked_stop}
+use Rattle.plan.proofs.Measures.{measure-stop, measure-nothing, measure-axes, measure-bins}
+use Rattle.plan.proofs.Rows.{past-roomy, deep-row, links-before, child-none, child-astray, child-there, known-roomy}
+use Prim.Native.Nat.{ℕ, ◌<◌}
+use borrow.Fn.Kinds.{In}
+use borrow.Fn.PlainCycle.{Measures, is, falls, and}
+use Rattle.plan.proofs.walking.known.Reads as known
+use Rattle.plan.proofs.walking.known.Kinds as known-kinds
+use Rattle.plan.proofs.walking.known_all.Reads as known-all
+use Rattle.plan.proofs.walking.known_all.Kinds as known-all-kinds
+use Rattle.plan.proofs.walking.linked.Reads as linked
+use Rattle.plan.proofs.walking.linked.Kinds as linked-kinds
+use Rattle.plan.proofs.walking.row_at.Reads as row-at-reads
+use Rattle.plan.proofs.walking.word_at.Reads as word-at-reads
+use Rattle.plan.proofs.walking.+known_known_all_linked.Given as goal
+
+abbrev pub decreases-known : goal.decreases-known
+decreases-known l = 3 * l.level
+
+abbrev pub decreases-known_all : goal.decreases-known_all
+decreases-known_all l = 3 * l.level + 2
+
+abbrev pub decreases-linked : goal.decreases-linked
+decreases-linked l = 3 * l.level + 1
+
+abbrev pub invariant-known_all-loop-i : goal.invariant-known_all-loop-i
+invariant-known_all-loop-i l = Walked (λ s q. child_of l.table (tree_of (from_table l.table) l.level) s q) l.slot l.n l.initial.here l.here l.i × (Roomy l.here.tally × (l.slot + l.n ≤ 16832))
+
+abbrev pub decreases-known_all-loop-i : goal.decreases-known_all-loop-i
+decreases-known_all-loop-i l = l.n - l.i

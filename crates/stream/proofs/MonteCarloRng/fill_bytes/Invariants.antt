@@ -1,0 +1,11 @@
+-- `fill_bytes`: after k words, what is left to come from the stream reached is what was to come at first.
+use Rattle.std.proofs.Common.{◌≡◌, ◌-◌, ◌*◌, ◌<◌, length, sym, refl, ap, ◌∙◌, arith}
+use Rattle.stream.specs.Calls.{words_for}
+use Rattle.stream.proofs.Fills.{onward, onward-starts, onward-done, begins, spent, fills-word}
+use Rattle.stream.proofs.MonteCarloRng.fill_bytes.Given as goal
+
+abbrev pub invariant-loop-k : goal.invariant-loop-k
+invariant-loop-k l = (l.words ≡ words_for (length l.dest)) × (length l.dest ≡ length l.initial.dest) × (onward l.dest (l.k * 8) l.stream ≡ onward l.initial.dest 0 l.initial.stream)
+
+abbrev pub decreases-loop-k : goal.decreases-loop-k
+decreases-loop-k l = l.words - l.k
