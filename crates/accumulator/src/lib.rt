@@ -3,6 +3,7 @@
 // One record of doubles and counts, passed and returned by value. Each call judges the record it is given (12) before all
 // else, and a refusal's number is its whole answer.
 #![tactic(auto)]
+
 mod judge;
 mod steps;
 

@@ -3,6 +3,7 @@
 // `probe` and `draw` judge the edges they are given. The functions of `edges` and `scans` judge nothing and answer on any list,
 // for calls that judge once and go on.
 #![tactic(auto)]
+
 pub mod edges;
 pub mod scans;
 

@@ -1,6 +1,7 @@
 // Doubles: the kernels. Each answers every input, and its promise, one equation with a definition, says which
 // double it answers. The plain ones are the crate `plain`'s, the root the crate `root`'s.
 #![tactic(auto)]
+
 mod exp;
 mod log;
 

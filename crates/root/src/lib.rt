@@ -1,5 +1,6 @@
 // The root of a double: the double nearest the true root, for every input.
 #![tactic(auto)]
+
 mod positive;
 
 ghost use Rattle.std.specs.Prelude.{◌≡◌};

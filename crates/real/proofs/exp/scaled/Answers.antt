@@ -1,0 +1,8 @@
+-- `scaled` is the product of its two parts. Assumes nothing.
+use mathlib.Core.Path.{ap₂}
+use lib.Ieee.{Float, binary64, mul}
+use borrow.Author.Rules.{rules}
+use Rattle.real.proofs.exp.scaled.Goals as goal
+
+pub returns : goal.returns
+returns c = ap₂ (λ (x y : Float). mul binary64 x y) c.series.ensures c.two_to.ensures
