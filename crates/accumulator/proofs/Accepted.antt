@@ -1,6 +1,6 @@
 -- A sample judged on the record after it: sums that are finite there were finite before, and so is the evaluation.
 use mathlib.Core.Path.{◌≡◌, refl}
-use mathlib.Core.Bool.{Bool, true, false, not, cond, ◌&&◌, ◌||◌, false≢true}
+use mathlib.Core.Bool.{Bool, true, false, cond, ◌&&◌, ◌||◌, true≢false}
 use Prim.Native.Nat.{ℕ, ◌+◌}
 use lib.Ieee.{Float, binary64, add, mul, lt}
 use Rattle.doubles.specs.Finite.{finite_of}
@@ -49,9 +49,9 @@ miscounted a h = rw h (fails (finite_sums a))
     fails false = refl
 
 -- where none of four holds: neither of the first of both pairs, nor of the second
-pub none : (p q r s : Bool) → not ((p || q) || (r || s)) ≡ true → ((p || r) ≡ false) × ((q || s) ≡ false)
-none true q r s e = absurd (false≢true e)
-none false true r s e = absurd (false≢true e)
-none false false true s e = absurd (false≢true e)
-none false false false true e = absurd (false≢true e)
+pub none : (p q r s : Bool) → ((p || q) || (r || s)) ≡ false → ((p || r) ≡ false) × ((q || s) ≡ false)
+none true q r s e = absurd (true≢false e)
+none false true r s e = absurd (true≢false e)
+none false false true s e = absurd (true≢false e)
+none false false false true e = absurd (true≢false e)
 none false false false false e = (refl, refl)

@@ -4,6 +4,7 @@
 // Every call answers on any input. `renew` works on a spare: the importances it is lent are its workspace, and the new
 // edges stand in a room beside them, so that the axis itself is written only once the update is known to be accepted.
 #![tactic(auto)]
+
 mod chances;
 mod cut;
 mod weights;

@@ -7,14 +7,11 @@ use Rattle.accumulator.specs.Ended.{ended_of}
 use Rattle.accumulator.proofs.Counts.{counts_of_lem}
 use Rattle.accumulator.proofs.Ended.{ended-tally, number, figures-there, may-end, allowed, refused}
 use Rattle.accumulator.proofs.StatisticsAccumulator.update_iter.Goals as goal
-use Rattle.accumulator.proofs.StatisticsAccumulator.update_iter.Goals.{Joined-self-lt2}
+use Rattle.accumulator.proofs.StatisticsAccumulator.update_iter.Goals.{Joined-self-lt2, then-self-lt2, else-self-lt2}
 
 -- by either call
 ended : (c : Joined-self-lt2) → c.if-self-lt2.f ≡ ended_of c.args.weighted_average c.args.self
-ended c = elim c.if-self-lt2.branch [
-  | inl w ↦ w.2 ∙ w.1.ensures ∙ ended-tally _ _
-  | inr w ↦ w.2 ∙ w.1.ensures ∙ ended-tally _ _
-]
+ended c = elim c.if-self-lt2.branch [ then-self-lt2 w ↦ w.f-is ∙ w.figures_of-f.ensures ∙ ended-tally _ _ | else-self-lt2 w ↦ w.f-is ∙ w.figures_of-f-else-self-lt2.ensures ∙ ended-tally _ _ ]
 
 pub returns-then-f-ne0 : goal.returns-then-f-ne0
 unfolding paper_updated update_of

@@ -13,32 +13,25 @@ use Rattle.accumulator.specs.Ended.{tallied_of, refusal_of, ended_of}
 use Rattle.accumulator.proofs.Counts.{within, exact, all-count, counts_of_lem}
 use Rattle.accumulator.proofs.Ended.{plainly, may-end, figures-there, figures-missing, missing, present}
 use Rattle.accumulator.proofs.steps.figures_of.Goals as goal
-use Rattle.accumulator.proofs.steps.figures_of.Goals.{Else-refusal-n, Joined-not-is_plain}
+use Rattle.accumulator.proofs.steps.figures_of.Goals.{Else-refusal-n, Joined-not-is_plain, then-not-is_plain, else-not-is_plain}
 
--- the sums and counts that are judged
-abbrev here : tie.Start → StatisticsAccumulator
-here s = tallied_of s.args.sum s.args.n s.args.sum-sq s.args.zeros s.args.total s.args.processed s.args.total-sq s.args.num-zeros s.args.weight-sum s.args.iterations
-
-number : (c : Joined-not-is_plain) → c.if-not-is_plain.refusal ≡ refusal_of (here c.before.before)
-number c = elim c.if-not-is_plain.branch [
-  | inl w ↦ w.3 ∙ w.2.ensures ∙ ap refusal_of w.1.ensures
-  | inr w ↦ w.1 ∙ sym (plainly _ _ _ _ _ _ _ _ _ _ (c.is_plain.ensures w.0.left))
-]
+number : (c : Joined-not-is_plain) → c.if-not-is_plain.refusal ≡ refusal_of (tallied_of c.args.sum c.args.n c.args.sum_sq c.args.zeros c.args.total c.args.processed c.args.total_sq c.args.num_zeros c.args.weight_sum c.args.iterations)
+number c = elim c.if-not-is_plain.branch [ then-not-is_plain w ↦ w.refusal-is ∙ w.refusal_of-refusal.ensures ∙ ap refusal_of w.tallied.ensures | else-not-is_plain w ↦ w.refusal-is ∙ sym (plainly _ _ _ _ _ _ _ _ _ _ (c.is_plain.ensures w.if-not-is_plain.false)) ]
 
 -- the iteration may end, and has two samples or more
-present-here : (c : Else-refusal-n) → (refusal_of (here c.before.before.before) ≡ 0) × (enough (here c.before.before.before) ≡ true)
+present-here : (c : Else-refusal-n) → (refusal_of (tallied_of c.args.sum c.args.n c.args.sum_sq c.args.zeros c.args.total c.args.processed c.args.total_sq c.args.num_zeros c.args.weight_sum c.args.iterations) ≡ 0) × (enough (tallied_of c.args.sum c.args.n c.args.sum_sq c.args.zeros c.args.total c.args.processed c.args.total_sq c.args.num_zeros c.args.weight_sum c.args.iterations) ≡ true)
 unfolding enough tallied_of
 present-here c = let p = present (eqb c.if-not-is_plain.refusal 0) c.args.n c.if-refusal-n.false in
     (sym (number c.before) ∙ eqb-true c.if-not-is_plain.refusal 0 p.0, p.1)
 
-counts : (c : Else-refusal-n) → bounded_counts (here c.before.before.before) ≡ true
+counts : (c : Else-refusal-n) → bounded_counts (tallied_of c.args.sum c.args.n c.args.sum_sq c.args.zeros c.args.total c.args.processed c.args.total_sq c.args.num_zeros c.args.weight_sum c.args.iterations) ≡ true
 counts c = counts_of_lem _ (may-end false _ (present-here c).0).0
 
 pub returns-then-refusal-n : goal.returns-then-refusal-n
 unfolding enough tallied_of
 returns-then-refusal-n c = let n = number (goal.at.returns-then-refusal-n c).Joined-not-is_plain in
     let h = rw n at (missing (eqb c.if-not-is_plain.refusal 0) c.args.n c.if-refusal-n.true) in
-    rw (c.without.ensures, n) (sym (figures-missing _ (here (goal.at.returns-then-refusal-n c).Start) h))
+    rw (c.without.ensures, n) (sym (figures-missing _ (tallied_of c.args.sum c.args.n c.args.sum_sq c.args.zeros c.args.total c.args.processed c.args.total_sq c.args.num_zeros c.args.weight_sum c.args.iterations) h))
 
 pub int_to_float-waiting : goal.int_to_float-waiting
 unfolding tallied_of
@@ -47,9 +40,9 @@ int_to_float-waiting c = exact _ (within _ (counts (goal.at.int_to_float-waiting
 -- the figures that are worked out are the record's own
 there : (w : Bool) (c : Else-refusal-n)
     → figures_of w c.args.sum c.args.sum_sq (count_of c.args.n) (add binary64 c.args.total c.args.sum) (add binary64 c.args.total_sq c.args.sum_sq) (add binary64 (count_of c.args.processed) (count_of c.args.n)) c.args.weight_sum
-    ≡ ended_of w (here c.before.before.before)
+    ≡ ended_of w (tallied_of c.args.sum c.args.n c.args.sum_sq c.args.zeros c.args.total c.args.processed c.args.total_sq c.args.num_zeros c.args.weight_sum c.args.iterations)
 unfolding figures_for tallied_of
-there w c = let a = here c.before.before.before in
+there w c = let a = tallied_of c.args.sum c.args.n c.args.sum_sq c.args.zeros c.args.total c.args.processed c.args.total_sq c.args.num_zeros c.args.weight_sum c.args.iterations in
     let p = present-here c in
     rw (all-count a (counts c)) (sym (figures-there w a p.0 p.1))
 

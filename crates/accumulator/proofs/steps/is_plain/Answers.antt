@@ -11,7 +11,7 @@ returns c h = let f = both _ _ h in
     let d = both _ _ e.0 in
     let b = both _ _ d.0 in
     let a = both _ _ b.0 in
-    let finite = both _ _ (sym (two-finite c.args.total c.args.«total-sq») ∙ f.1) in
+    let finite = both _ _ (sym (two-finite c.args.total c.args.total_sq) ∙ f.1) in
     record {
       waiting = ltb-true _ _ a.0;
       waiting_zeros = ltb-true _ _ a.1;

@@ -1,0 +1,12 @@
+-- Highest, raise, total, divide: one call's result put into the next is `adapted_to`, and the scan judges what came out.
+use mathlib.Core.Path.{refl}
+use Rattle.recut.specs.Chances.{adapted_to}
+use native.Mathlib.Omega.{arith}
+use Rattle.recut.proofs.adapt.Goals as goal
+
+pub shape_of-ps : goal.shape_of-ps
+shape_of-ps c = omega arith
+
+pub returns : goal.returns
+unfolding adapted_to
+returns c = rw (c.are_chances.ensures, c.divide.ensures, c.total-total.ensures, c.raise.ensures, c.highest_of.ensures) (refl, refl)

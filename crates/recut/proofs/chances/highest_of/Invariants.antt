@@ -1,0 +1,16 @@
+-- The highest of the list is at every turn the highest of those left, begun from `top`.
+use mathlib.Core.Path.{◌≡◌, refl, sym, ap, ◌∙◌}
+use Prim.Native.Nat.{zero-le, ◌+◌, ◌-◌, ◌≤◌}
+use native.Mathlib.Omega.{arith}
+use lib.ListN.{length, drop}
+use lib.Ieee.{Float}
+use Rattle.doubles.specs.Numbers.{zero64}
+use Rattle.recut.specs.Chances.{highest}
+use Rattle.recut.proofs.Shares.{highest-next, highest-end}
+use Rattle.recut.proofs.chances.highest_of.Given as goal
+
+abbrev pub invariant-loop-i : goal.invariant-loop-i
+invariant-loop-i l = (l.i ≤ length l.ps) × (highest zero64 l.ps ≡ highest l.top (drop l.i l.ps))
+
+abbrev pub decreases-loop-i : goal.decreases-loop-i
+decreases-loop-i l = length l.ps - l.i

@@ -1,0 +1,17 @@
+-- `recut::gather_counts` meets its contract: what is joined, and what the rest of both lists will give, stay the whole.
+use mathlib.Core.Path.{◌≡◌, refl, sym, ◌∙◌}
+use mathlib.Core.List.{◌++◌}
+use Prim.Native.Nat.{zero-le, ◌-◌, ◌≤◌}
+use borrow.Author.Tests.{ltb-true, ltb-false}
+use lib.ListN.{length, take, drop, length-set}
+use Rattle.recut.specs.Pairs.{pairwise}
+use Rattle.recut.specs.Gather.{joined_count, joined_counts}
+use Rattle.recut.proofs.Pairs.{pairs_next, pairs-done, pairs-out}
+use native.Mathlib.Omega.{arith}
+use Rattle.recut.proofs.gather_counts.Given as goal
+
+abbrev pub invariant-loop-i : goal.invariant-loop-i
+invariant-loop-i l = (l.i ≤ length l.counters) × (length l.counters ≡ length l.initial.counters) × (take l.i l.counters ++ pairwise joined_count (drop l.i l.counters) (drop l.i l.waiting) ≡ pairwise joined_count l.initial.counters l.waiting)
+
+abbrev pub decreases-loop-i : goal.decreases-loop-i
+decreases-loop-i l = length l.counters - l.i
