@@ -1,6 +1,6 @@
 -- Each return of `renew` and of its stages, in the shape that the code has it: what the callees ensure, and the branches taken.
 use mathlib.Core.Path.{◌≡◌, ap, ◌∙◌}
-use mathlib.Core.Bool.{Bool, true, false, not, ◌&&◌}
+use mathlib.Core.Bool.{Bool, true, false, ◌&&◌}
 use mathlib.Core.List.{List}
 use Prim.Native.Nat.{ℕ, ◌+◌, ◌-◌, ◌≤◌}
 use borrow.Author.Tests.{leb-true, eqb-true}
@@ -20,20 +20,20 @@ use Rattle.recut.specs.Renew.{lengths_fit, edges_of, step_of, from_damped, from_
 use Rattle.recut.proofs.Finite.{damped-once, divided-once}
 
 module _ (es ds : List Float) (places : ℕ) {w : Float} (ew : w ≡ total_of zero64 ds) {p : Bool} (ep : p ≡ finite_of w) where
-  pub damped-8 : not p ≡ true → refuses 8 ≡ from_damped es ds places
+  pub damped-8 : p ≡ false → refuses 8 ≡ from_damped es ds places
   damped-8 t = rw (damped-once es ds places, failed (ep ∙ ap finite_of ew) t)
 
-  module _ (tp : not p ≡ false) {n : Float} (en : n ≡ count_of (places - 1))
+  module _ (tp : p ≡ true) {n : Float} (en : n ≡ count_of (places - 1))
       {new : List Float} (er : new ≡ cuts_of es ds (div binary64 w n) places) {b : Bool} (eb : b ≡ well_formed new) where
     made : new ≡ cuts_of es ds (step_of ds places) places
     unfolding step_of
     made = er ∙ rw (ew, en)
 
-    pub damped-9 : not b ≡ true → refuses 9 ≡ from_damped es ds places
+    pub damped-9 : b ≡ false → refuses 9 ≡ from_damped es ds places
     unfolding edges_of
     damped-9 t = rw (damped-once es ds places, passed (ep ∙ ap finite_of ew) tp, failed (eb ∙ ap well_formed made) t)
 
-    pub damped-done : not b ≡ false → gives new ≡ from_damped es ds places
+    pub damped-done : b ≡ true → gives new ≡ from_damped es ds places
     unfolding edges_of
     damped-done t = rw (damped-once es ds places, passed (ep ∙ ap finite_of ew) tp, passed (eb ∙ ap well_formed made) t) (ap gives made)
 
@@ -42,18 +42,18 @@ module _ (es qs : List Float) (rate : Float) (places : ℕ) {ss : List Float} (e
   sum : w ≡ total_of zero64 (smoothed qs)
   sum = ew ∙ ap (total_of zero64) es₁
 
-  pub divided-8 : not p ≡ true → refuses 8 ≡ from_divided es qs rate places
+  pub divided-8 : p ≡ false → refuses 8 ≡ from_divided es qs rate places
   divided-8 t = rw (divided-once es qs rate places, failed (ep ∙ ap finite_of sum) t)
 
-  pub divided-on : not p ≡ false → {ds : List Float} → ds ≡ damped w rate ss → {x : Paper (List Float)} → x ≡ from_damped es ds places → x ≡ from_divided es qs rate places
+  pub divided-on : p ≡ true → {ds : List Float} → ds ≡ damped w rate ss → {x : Paper (List Float)} → x ≡ from_damped es ds places → x ≡ from_divided es qs rate places
   divided-on t e f = rw (divided-once es qs rate places, passed (ep ∙ ap finite_of sum) t) (f ∙ rw (e, sum, es₁))
 
 module _ (es qs : List Float) (ns : List ℕ) (rate : Float) (places : ℕ) {o : Bool} (eo : o ≡ lengths_fit es qs ns places) where
-  pub renew-10 : not o ≡ true → refuses 10 ≡ renew_of es qs ns rate places
+  pub renew-10 : o ≡ false → refuses 10 ≡ renew_of es qs ns rate places
   unfolding renew_of
   renew-10 t = rw (failed eo t)
 
-  pub renew-on : not o ≡ false → {ms : List Float} → ms ≡ normalised qs ns → {x : Paper (List Float)} → x ≡ from_divided es ms rate places → x ≡ renew_of es qs ns rate places
+  pub renew-on : o ≡ true → {ms : List Float} → ms ≡ normalised qs ns → {x : Paper (List Float)} → x ≡ from_divided es ms rate places → x ≡ renew_of es qs ns rate places
   unfolding renew_of
   renew-on t e f = rw (passed eo t) (f ∙ rw e)
 

@@ -39,10 +39,10 @@ pub loop-i-smaller : goal.loop-i-smaller
 loop-i-smaller c = simp length-set (omega arith)
 
 pub loop-i-preserved : goal.loop-i-preserved
-loop-i-preserved c = let at-loop = (goal.at.loop-i-preserved c).At-loop-i in (
+loop-i-preserved c = (
   simp length-set (omega arith),
-  simp length-set at-loop.loop.invariant.1,
-  pairs_next (add binary64) nan nan _ _ _ _ c.loop-i-test.true (ltb-true _ _ c.if-i-added.true) refl ∙ at-loop.loop.invariant.2,
+  simp length-set c.loop-i.invariant.1,
+  pairs_next (add binary64) nan nan _ _ _ _ c.loop-i-test.true c.if-i-added.true refl ∙ c.loop-i.invariant.2,
 )
 
 pub shape_of-importances-else-i-added : goal.shape_of-importances-else-i-added
@@ -50,9 +50,8 @@ shape_of-importances-else-i-added c = c.loop-i.invariant.1
 
 pub returns-else-i-added : goal.returns-else-i-added
 unfolding gathered_of
-returns-else-i-added c = let at-loop = (goal.at.returns-else-i-added c).At-loop-i in
-    let h : length at-loop.before.args.added.now ≤ at-loop.loop.i = ltb-false _ _ c.if-i-added.false in
-    sym (pairs-done (add binary64) _ _ _ h) ∙ at-loop.loop.invariant.2
+returns-else-i-added c = let h : length c.args.added.now ≤ c.loop-i.i = c.if-i-added.false in
+    sym (pairs-done (add binary64) _ _ _ h) ∙ c.loop-i.invariant.2
 
 pub shape_of-importances-after-loop-i : goal.shape_of-importances-after-loop-i
 shape_of-importances-after-loop-i c = c.loop-i.invariant.1

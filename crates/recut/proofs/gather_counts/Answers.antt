@@ -38,10 +38,10 @@ pub loop-i-smaller : goal.loop-i-smaller
 loop-i-smaller c = simp length-set (omega arith)
 
 pub loop-i-preserved : goal.loop-i-preserved
-loop-i-preserved c = let at-loop = (goal.at.loop-i-preserved c).At-loop-i in (
+loop-i-preserved c = (
   simp length-set (omega arith),
-  simp length-set at-loop.loop.invariant.1,
-  pairs_next joined_count 0 0 _ _ _ _ c.loop-i-test.true (ltb-true _ _ c.if-i-waiting.true) c.joined_count.ensures ∙ at-loop.loop.invariant.2,
+  simp length-set c.loop-i.invariant.1,
+  pairs_next joined_count 0 0 _ _ _ _ c.loop-i-test.true c.if-i-waiting.true c.joined_count.ensures ∙ c.loop-i.invariant.2,
 )
 
 pub shape_of-counters-else-i-waiting : goal.shape_of-counters-else-i-waiting
@@ -49,9 +49,8 @@ shape_of-counters-else-i-waiting c = c.loop-i.invariant.1
 
 pub returns-else-i-waiting : goal.returns-else-i-waiting
 unfolding joined_counts
-returns-else-i-waiting c = let at-loop = (goal.at.returns-else-i-waiting c).At-loop-i in
-    let h : length at-loop.before.before.before.args.waiting.now ≤ at-loop.loop.i = ltb-false _ _ c.if-i-waiting.false in
-    sym (pairs-done joined_count _ _ _ h) ∙ at-loop.loop.invariant.2
+returns-else-i-waiting c = let h : length c.args.waiting.now ≤ c.loop-i.i = c.if-i-waiting.false in
+    sym (pairs-done joined_count _ _ _ h) ∙ c.loop-i.invariant.2
 
 pub shape_of-counters-after-loop-i : goal.shape_of-counters-after-loop-i
 shape_of-counters-after-loop-i c = c.loop-i.invariant.1

@@ -35,9 +35,7 @@ pub loop-i-smaller : goal.loop-i-smaller
 loop-i-smaller c = omega arith
 
 pub loop-i-preserved : goal.loop-i-preserved
-loop-i-preserved c = let at-if = (goal.at.loop-i-preserved c).Else-rest-counters in
-    let at_turn = at-if.before.before in
-    (omega arith, at_turn.before.loop.invariant.1 ∙ reaches-next _ _ _ at_turn.loop-test.true at-if.if1.false)
+loop-i-preserved c = (omega arith, c.loop-i.invariant.1 ∙ reaches-next _ _ _ c.loop-i-test.true c.if-rest-counters.false)
 
 pub returns : goal.returns
 returns c = sym (c.loop-i.invariant.1 ∙ reaches_end _ _ _ c.loop-i-test.false)

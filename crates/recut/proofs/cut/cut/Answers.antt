@@ -33,13 +33,12 @@ pub loop-i-smaller : goal.loop-i-smaller
 loop-i-smaller c = omega arith
 
 pub loop-i-preserved : goal.loop-i-preserved
-loop-i-preserved c = let at-loop = (goal.at.loop-i-preserved c).At-loop-i in
-    let h : at-loop.loop.i < length at-loop.loop.room = omega arith in (
-      omega arith,
-      simp length-set at-loop.loop.invariant.1,
-      c.seek-s.ensures.1,
-      cut-next _ _ _ _ _ _ _ _ _ h c.seek-s.ensures.0 c.edge_at.ensures ∙ at-loop.loop.invariant.3,
-    )
+loop-i-preserved c = let h : c.loop-i.i < length c.loop-i.room = omega arith in (
+  omega arith,
+  simp length-set c.loop-i.invariant.1,
+  c.seek-s.ensures.1,
+  cut-next _ _ _ _ _ _ _ _ _ h c.seek-s.ensures.0 c.edge_at.ensures ∙ c.loop-i.invariant.3,
+)
 
 pub overflow_sub-room : goal.overflow_sub-room
 overflow_sub-room c = omega arith
@@ -54,8 +53,6 @@ pub shape_of-room : goal.shape_of-room
 shape_of-room c = simp length-set c.loop-i.invariant.1
 
 pub returns : goal.returns
-returns c = let at-loop = (goal.at.returns c).At-loop-i in
-    let start = at-loop.before.before.before.before in
-    let h : length at-loop.loop.room ≤ at-loop.loop.i = omega arith in
-    let whole = sym (cut-end _ _ _ _ _ _ _ h) ∙ at-loop.loop.invariant.3 in
-    ap (λ (t : List Float). set t (length start.args.room.now - 1) one64) whole ∙ cut-whole _ _ _ start.args.room.now start.requires.2
+returns c = let h : length c.loop-i.room ≤ c.loop-i.i = omega arith in
+    let whole = sym (cut-end _ _ _ _ _ _ _ h) ∙ c.loop-i.invariant.3 in
+    ap (λ (t : List Float). set t (length c.args.room.now - 1) one64) whole ∙ cut-whole _ _ _ c.args.room.now c.requires.2

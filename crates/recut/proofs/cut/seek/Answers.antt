@@ -30,8 +30,7 @@ loop-j-preserved c = (omega arith, c.loop-j.invariant.1 ∙ walk-next _ _ _ _ c.
 
 pub returns-else-next-target : goal.returns-else-next-target
 unfolding walk_to
-returns-else-next-target c = let at-loop = (goal.at.returns-else-next-target c).At-loop-j in
-    (sym (at-loop.loop.invariant.1 ∙ walk-stop _ _ _ _ at-loop.loop.invariant.0 c.if-next-target.false), at-loop.loop.invariant.0)
+returns-else-next-target c = (sym (c.loop-j.invariant.1 ∙ walk-stop _ _ _ _ c.loop-j.invariant.0 c.if-next-target.false), c.loop-j.invariant.0)
 
 pub offset_bounds-weights-j-2 : goal.offset_bounds-weights-j-2
 offset_bounds-weights-j-2 c = omega arith
@@ -41,10 +40,8 @@ bounds-weights-j-2 c = omega arith
 
 pub returns-then-last-target : goal.returns-then-last-target
 unfolding walk_to
-returns-then-last-target c = let at-loop = (goal.at.returns-then-last-target c).At-loop-j in
-    (sym (at-loop.loop.invariant.1 ∙ walk-last _ _ _ _ at-loop.loop.invariant.0 c.loop-j-test.false c.if-last-target.true), at-loop.loop.invariant.0)
+returns-then-last-target c = (sym (c.loop-j.invariant.1 ∙ walk-last _ _ _ _ c.loop-j.invariant.0 c.loop-j-test.false c.if-last-target.true), c.loop-j.invariant.0)
 
 pub returns : goal.returns
 unfolding walk_to
-returns c = let at-loop = (goal.at.returns c).At-loop-j in
-    (sym (at-loop.loop.invariant.1 ∙ walk-stop _ _ _ _ at-loop.loop.invariant.0 c.if-last-target.false), at-loop.loop.invariant.0)
+returns c = (sym (c.loop-j.invariant.1 ∙ walk-stop _ _ _ _ c.loop-j.invariant.0 c.if-last-target.false), c.loop-j.invariant.0)

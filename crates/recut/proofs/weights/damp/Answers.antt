@@ -30,8 +30,7 @@ pub loop-i-smaller : goal.loop-i-smaller
 loop-i-smaller c = simp length-set (omega arith)
 
 pub loop-i-preserved : goal.loop-i-preserved
-loop-i-preserved c = let at-loop = (goal.at.loop-i-preserved c).At-loop-i in
-    (simp length-set (omega arith), simp length-set at-loop.loop.invariant.1, damp-next _ _ _ _ _ c.loop-i-test.true c.damp_one.ensures ∙ at-loop.loop.invariant.2)
+loop-i-preserved c = (simp length-set (omega arith), simp length-set c.loop-i.invariant.1, damp-next _ _ _ _ _ c.loop-i-test.true c.damp_one.ensures ∙ c.loop-i.invariant.2)
 
 pub shape_of-importances : goal.shape_of-importances
 shape_of-importances c = c.loop-i.invariant.1

@@ -38,9 +38,8 @@ pub loop-i-smaller : goal.loop-i-smaller
 loop-i-smaller c = omega arith
 
 pub loop-i-preserved : goal.loop-i-preserved
-loop-i-preserved c = let at-loop = (goal.at.loop-i-preserved c).At-loop-i in
-    let h : at-loop.loop.i < length at-loop.loop.importances = omega arith in
-    (omega arith, simp length-set at-loop.loop.invariant.1, pairs_next per_count nan 0 _ _ _ _ h c.loop-i-test.true c.per_count.ensures ∙ at-loop.loop.invariant.2)
+loop-i-preserved c = let h : c.loop-i.i < length c.loop-i.importances = omega arith in
+    (omega arith, simp length-set c.loop-i.invariant.1, pairs_next per_count nan 0 _ _ _ _ h c.loop-i-test.true c.per_count.ensures ∙ c.loop-i.invariant.2)
 
 pub shape_of-importances : goal.shape_of-importances
 shape_of-importances c = c.loop-i.invariant.1

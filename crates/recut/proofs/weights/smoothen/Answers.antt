@@ -50,9 +50,8 @@ loop-bin-smaller c = omega arith
 
 pub loop-bin-preserved : goal.loop-bin-preserved
 unfolding inner_of
-loop-bin-preserved c = let at-loop = (goal.at.loop-bin-preserved c).At-loop-bin in
-    let h : at-loop.loop.bin + 1 < length at-loop.loop.importances = omega arith in
-    (omega arith, simp length-set at-loop.loop.invariant.1, smooth-next _ _ _ _ h ∙ at-loop.loop.invariant.2)
+loop-bin-preserved c = let h : c.loop-bin.bin + 1 < length c.loop-bin.importances = omega arith in
+    (omega arith, simp length-set c.loop-bin.invariant.1, smooth-next _ _ _ _ h ∙ c.loop-bin.invariant.2)
 
 pub overflow_sub-importances : goal.overflow_sub-importances
 overflow_sub-importances c = omega arith
@@ -68,7 +67,6 @@ shape_of-importances c = simp length-set c.loop-bin.invariant.1
 
 pub returns : goal.returns
 unfolding first_of last_of
-returns c = let at-loop = (goal.at.returns c).At-loop-bin in
-    let e : length at-loop.before.before.before.before.args.importances.now - 1 ≡ at-loop.loop.bin = omega arith in
-    let l : length at-loop.loop.importances ≡ suc at-loop.loop.bin = omega arith in
-    rw e (smooth-end _ _ _ _ l ∙ at-loop.loop.invariant.2 ∙ smooth-start _ at-loop.before.before.before.if1.false)
+returns c = let e : length c.args.importances.now - 1 ≡ c.loop-bin.bin = omega arith in
+    let l : length c.loop-bin.importances ≡ suc c.loop-bin.bin = omega arith in
+    rw e (smooth-end _ _ _ _ l ∙ c.loop-bin.invariant.2 ∙ smooth-start _ c.if-n-lt2.false)
