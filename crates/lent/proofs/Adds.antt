@@ -10,7 +10,7 @@ use Rattle.doubles.proofs.Truth.{both}
 use Rattle.accumulator.specs.declared.StatisticsAccumulator.{StatisticsAccumulator}
 use Rattle.accumulator.specs.Record.{finite_sums, bounded, bounded_counts, well_formed, with_waiting, with_extremes}
 use Rattle.accumulator.specs.Steps.{zero_count, added_of}
-use Rattle.accumulator.proofs.Counts.{within, counts_of}
+use Rattle.accumulator.proofs.Counts.{within, counts_of_lem}
 
 regroup : (x p q : Bool) → ((x && true && true) && ((((p && q) && true) && true) && true)) ≡ ((x && p) && q)
 regroup true true true = refl
@@ -23,7 +23,7 @@ pub added-fits : (a : StatisticsAccumulator) (v : Float) (k : ℕ) → well_form
     → well_formed (added_of a v k) ≡ (((finite_of (add binary64 a.sum v) && finite_of (add binary64 a.sum_sq (mul binary64 v v))) && leb (a.new_samples + 1) (2 ^ 53)) && leb (a.new_zero_evaluations + zero_count v) (2 ^ 53))
 unfolding well_formed finite_sums bounded_counts bounded added_of with_waiting with_extremes
 added-fits a v k well =
-    let b = within a (counts_of a well) in
+    let b = within a (counts_of_lem a well) in
     let f = both ((finite_of a.sum && finite_of a.sum_sq) && finite_of a.total_sum) (finite_of a.total_sum_sq) (both (finite_sums a) (bounded_counts a) well).0 in
     let g = both (finite_of a.sum && finite_of a.sum_sq) (finite_of a.total_sum) f.0 in
     rw (f.1, g.1, le-leb _ _ b.zeros, le-leb _ _ b.processed, le-leb _ _ b.iterations)

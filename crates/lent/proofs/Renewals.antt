@@ -13,7 +13,7 @@ use Rattle.doubles.proofs.Truth.{failed, passed}
 use Rattle.accumulator.specs.Record.{bounded}
 use Rattle.axis.specs.Scans.{all_bounded}
 use Rattle.recut.specs.Gather.{gathered_of, joined_counts, reaches_of}
-use mathlib.Core.Bool.{Bool, true, false, not, ◌&&◌}
+use mathlib.Core.Bool.{Bool, true, false, ◌&&◌}
 use Rattle.doubles.specs.Paper.{Paper, gives, refuses}
 use Rattle.recut.specs.declared.Renewed.{Renewed}
 use Rattle.recut.specs.declared.Renewed.TheVariants as renewed
@@ -117,21 +117,21 @@ module _ (rule : Rule) (values : List ℕ) (rate : Float) (m r c : ℕ) (qs : Li
   -- ---- from the gathered on
 
   module _ (ok : Bool) (judged : ok ≡ (all_finite qs && all_bounded ns)) where
-    pub adapt-8 : not ok ≡ true → finding true false s ≡ adapted_at rule values rate m r c qs ns s
+    pub adapt-8 : ok ≡ false → finding true false s ≡ adapted_at rule values rate m r c qs ns s
     unfolding adapted_at
     adapt-8 h = rw (failed judged h)
 
-    module _ (k : not ok ≡ false) (enough : Bool) (reach : enough ≡ reaches_of rule.least ns) where
-      pub adapt-kept : (t : Memory) → not enough ≡ true → t ≡ kept_at m r c qs ns s → finding false false t ≡ adapted_at rule values rate m r c qs ns s
+    module _ (k : ok ≡ true) (enough : Bool) (reach : enough ≡ reaches_of rule.least ns) where
+      pub adapt-kept : (t : Memory) → enough ≡ false → t ≡ kept_at m r c qs ns s → finding false false t ≡ adapted_at rule values rate m r c qs ns s
       unfolding adapted_at
       adapt-kept t h e = rw (passed judged k, failed reach h, e)
 
-      pub adapt-reset : (t : Memory) → not enough ≡ false → eq rate zero64 ≡ true → t ≡ empty_at m r c (length qs) (get_or s.counts (c + 1) 0) s
+      pub adapt-reset : (t : Memory) → enough ≡ true → eq rate zero64 ≡ true → t ≡ empty_at m r c (length qs) (get_or s.counts (c + 1) 0) s
           → finding false false t ≡ adapted_at rule values rate m r c qs ns s
       unfolding adapted_at
       adapt-reset t h z e = rw (passed judged k, passed reach h, z, e)
 
-      pub adapt-on : (o : Outcome Memory) → not enough ≡ false → eq rate zero64 ≡ false → o ≡ recut_at rule values rate m r c qs ns s
+      pub adapt-on : (o : Outcome Memory) → enough ≡ true → eq rate zero64 ≡ false → o ≡ recut_at rule values rate m r c qs ns s
           → o ≡ adapted_at rule values rate m r c qs ns s
       unfolding adapted_at
       adapt-on o h z e = rw (passed judged k, passed reach h, z) e

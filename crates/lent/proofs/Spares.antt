@@ -58,7 +58,7 @@ module _ (table : List ℕ) (bins_rate axes_rate : Float) (s to : Memory) (n : N
     both-fit : (a && b) ≡ (rate_fits bins_rate && rate_fits axes_rate)
     both-fit = ap₂ ◌&&◌ e f
 
-    pub update-made : (k : ℕ) (ys : List Float) (zs : List ℕ) → not (a && b) ≡ false
+    pub update-made : (k : ℕ) (ys : List Float) (zs : List ℕ) → (a && b) ≡ true
         → state_end k (memory ys zs) ≡ renewed_over table bins_rate axes_rate (memory (take (n.reals - 0) (drop 0 s.reals)) (take (n.counts - 0) (drop 0 s.counts)))
         → state_end k (memory (take 0 s.reals ++ (ys ++ drop (n.reals - 0) (drop 0 s.reals))) (take 0 s.counts ++ (zs ++ drop (n.counts - 0) (drop 0 s.counts))))
         ≡ updated_by table bins_rate axes_rate (length to.reals) (length to.counts) s n

@@ -2,6 +2,7 @@
 // Of code there are the records that the definitions speak of, and what all crates ask of a place: where axes stand, and whether there is
 // room for them.
 #![tactic(auto)]
+
 pub mod layout;
 pub mod room;
 

@@ -5,18 +5,14 @@ use Prim.Native.Nat.{ℕ, ◌+◌, ◌-◌, ◌≤◌, ◌<◌}
 use native.Mathlib.Omega.{arith}
 use borrow.Author.Tests.{leb-true, leb-false, le-leb, lt-leb}
 use lib.Dec.{leb}
-use Rattle.lent.proofs.room.is_within.Statement.{statement}
-use Rattle.lent.proofs.room.is_within.Tie as tie
+use Rattle.lent.proofs.room.is_within.Goals as goal
 
 what-is-left : (a s n : ℕ) (o : Bool) → leb a (n - s) ≡ o → s ≤ n → o ≡ leb (a + s) n
 what-is-left a s n true e h = let k = leb-true a (n - s) e in let i : a + s ≤ n = omega arith in sym (le-leb (a + s) n i)
 what-is-left a s n false e h = let k = leb-false a (n - s) e in let i : n < a + s = omega arith in sym (lt-leb (a + s) n i)
 
-returns : tie.Need-returns
-returns c = let h : c.before.args.all < c.before.args.start + c.before.args.size = omega arith in rw (lt-leb _ _ h)
+pub returns-then-all-size : goal.returns-then-all-size
+returns-then-all-size c = let h : c.args.all < c.args.start + c.args.size = omega arith in rw (lt-leb _ _ h)
 
-returns-2 : tie.Need-returns-2
-returns-2 c = what-is-left c.before.args.start c.before.args.size c.before.args.all _ refl c.if1.false
-
-pub is-within-spec : {M : Type 1} → statement M
-is-within-spec = tie.close (tie.spec returns returns-2)
+pub returns : goal.returns
+returns c = what-is-left c.args.start c.args.size c.args.all _ refl c.if-all-size.false
