@@ -18,20 +18,6 @@ use Rattle.plan.proofs.measuring.measure_all.Kinds as measure-all-kinds
 use Rattle.plan.proofs.fields.field_at.Reads as field-at-reads
 use Rattle.plan.proofs.measuring.+measure_measure_all.Goals as goal
 
--- LOST measure-at : ℕ → In 1 measure-kinds.ps
--- measure-at t = and 1 measure-kinds.ps (is 1 measure-kinds.ps decreases-measure t) measure.Pre
-
--- LOST measure-below : ℕ → In 1 measure-kinds.ps
--- measure-below t = and 1 measure-kinds.ps (falls 1 measure-kinds.ps ◌<◌ decreases-measure t) measure.Pre
-
--- LOST measure-all-at : ℕ → In 1 measure-all-kinds.ps
--- measure-all-at t =
---     and 1 measure-all-kinds.ps (is 1 measure-all-kinds.ps decreases-measure_all t) measure-all.Pre
-
--- LOST measure-all-below : ℕ → In 1 measure-all-kinds.ps
--- measure-all-below t =
---     and 1 measure-all-kinds.ps (falls 1 measure-all-kinds.ps ◌<◌ decreases-measure_all t) measure-all.Pre
-
 pub measure-field_at-requires : goal.measure-field_at-requires
 measure-field_at-requires t c = c.requires
 

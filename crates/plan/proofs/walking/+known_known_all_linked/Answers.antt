@@ -21,25 +21,6 @@ use Rattle.plan.proofs.walking.row_at.Reads as row-at-reads
 use Rattle.plan.proofs.walking.word_at.Reads as word-at-reads
 use Rattle.plan.proofs.walking.+known_known_all_linked.Goals as goal
 
--- LOST known_at : ℕ → In 1 known-kinds.ps
--- known_at t = and 1 known-kinds.ps (is 1 known-kinds.ps decreases-known t) known.Pre
-
--- LOST known-below : ℕ → In 1 known-kinds.ps
--- known-below t = and 1 known-kinds.ps (falls 1 known-kinds.ps ◌<◌ decreases-known t) known.Pre
-
--- LOST known-all-at : ℕ → In 1 known-all-kinds.ps
--- known-all-at t = and 1 known-all-kinds.ps (is 1 known-all-kinds.ps decreases-known_all t) known-all.Pre
-
--- LOST known-all-below : ℕ → In 1 known-all-kinds.ps
--- known-all-below t =
---     and 1 known-all-kinds.ps (falls 1 known-all-kinds.ps ◌<◌ decreases-known_all t) known-all.Pre
-
--- LOST linked-at : ℕ → In 1 linked-kinds.ps
--- linked-at t = and 1 linked-kinds.ps (is 1 linked-kinds.ps decreases-linked t) linked.Pre
-
--- LOST linked-below : ℕ → In 1 linked-kinds.ps
--- linked-below t = and 1 linked-kinds.ps (falls 1 linked-kinds.ps ◌<◌ decreases-linked t) linked.Pre
-
 pub known-row_at-requires : goal.known-row_at-requires
 known-row_at-requires t c = c.requires
 

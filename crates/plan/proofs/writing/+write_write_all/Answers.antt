@@ -18,19 +18,6 @@ use Rattle.plan.proofs.writing.put_bins.Reads as put-bins-reads
 use Rattle.plan.proofs.writing.put_values.Reads as put-values-reads
 use Rattle.plan.proofs.writing.+write_write_all.Goals as goal
 
--- LOST write-at : ℕ → In 2 write-kinds.ps
--- write-at t = and 2 write-kinds.ps (is 2 write-kinds.ps decreases-write t) write.Pre
-
--- LOST write-below : ℕ → In 2 write-kinds.ps
--- write-below t = and 2 write-kinds.ps (falls 2 write-kinds.ps ◌<◌ decreases-write t) write.Pre
-
--- LOST write-all-at : ℕ → In 2 write-all-kinds.ps
--- write-all-at t = and 2 write-all-kinds.ps (is 2 write-all-kinds.ps decreases-write_all t) write-all.Pre
-
--- LOST write-all-below : ℕ → In 2 write-all-kinds.ps
--- write-all-below t =
---     and 2 write-all-kinds.ps (falls 2 write-all-kinds.ps ◌<◌ decreases-write_all t) write-all.Pre
-
 pub write-field_at-requires : goal.write-field_at-requires
 write-field_at-requires t c = c.requires.inside
 

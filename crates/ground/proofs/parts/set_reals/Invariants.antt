@@ -1,0 +1,15 @@
+-- `parts::set_reals` meets its contract: what is written and what is still to come are the whole run.
+use mathlib.Core.Path.{◌≡◌, refl, sym, ◌∙◌}
+use Prim.Native.Nat.{◌+◌, ◌-◌, ◌≤◌}
+use native.Mathlib.Omega.{arith}
+use lib.ListN.{length, drop, get_or, length-set}
+use lib.Seq.{sets}
+use lib.Ieee.{nan}
+use Rattle.doubles.proofs.Runs.{sets-out, sets-next, sets-done, ended}
+use Rattle.ground.proofs.parts.set_reals.Given as goal
+
+abbrev pub invariant-loop-i : goal.invariant-loop-i
+invariant-loop-i l = (l.i ≤ l.n) × (length l.reals ≡ length l.initial.reals) × (sets l.reals (l.at + l.i) (drop l.i l.part) ≡ sets l.initial.reals l.at l.part)
+
+abbrev pub decreases-loop-i : goal.decreases-loop-i
+decreases-loop-i l = l.n - l.i

@@ -1,0 +1,17 @@
+-- The axes judged so far, with those from `at` and `place` on, stay the answer for all; what room is left holds the rest.
+use mathlib.Core.Path.{◌≡◌, sym, ap, ◌∙◌}
+use mathlib.Core.Bool.{Bool, ◌&&◌}
+use mathlib.Core.List.{◌∷◌}
+use Prim.Native.Nat.{◌+◌, ◌-◌, ◌*◌, ◌≤◌}
+use native.Mathlib.Omega.{arith}
+use lib.ListN.{length}
+use Rattle.lent.specs.Judged.{axes_fit}
+use Rattle.lent.proofs.Judges.{room_next, fit_on, fit-out}
+use Rattle.judges.proofs.judging.axes_fit_there.Given as goal
+
+abbrev pub invariant-loop-done : goal.invariant-loop-done
+invariant-loop-done l = (l.done ≤ l.g.axes) × (l.at + (l.g.axes - l.done) * (6 * l.g.most + 1) ≤ length l.reals) × (l.place + (l.g.axes - l.done) * (3 * l.g.most + 2) ≤ length l.counts)
+    × ((l.ok && axes_fit (l.bins ∷ l.values) l.g.most l.reals l.counts (l.g.axes - l.done) l.at l.place) ≡ axes_fit (l.bins ∷ l.values) l.g.most l.reals l.counts l.g.axes l.g.reals l.g.counts)
+
+abbrev pub decreases-loop-done : goal.decreases-loop-done
+decreases-loop-done l = l.g.axes - l.done

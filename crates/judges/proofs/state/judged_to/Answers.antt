@@ -1,0 +1,35 @@
+-- Four tests for room in the definition's order; the first two put the source's grid within its slices, so it can be judged.
+use mathlib.Core.Path.{sym, ◌∙◌}
+use native.Mathlib.Omega.{arith}
+use borrow.Author.Tests.{lt-ltb, le-ltb, not-true, not-false}
+use lib.ListN.{length}
+use Rattle.lent.specs.State.{judged_to}
+use Rattle.lent.proofs.Laid.{root-laid}
+use Rattle.judges.proofs.state.judged_to.Goals as goal
+
+pub returns-then-reals-needs : goal.returns-then-reals-needs
+unfolding judged_to
+returns-then-reals-needs c = rw (lt-ltb _ _ c.if-reals-needs.true)
+
+pub returns-then-counts-needs : goal.returns-then-counts-needs
+unfolding judged_to
+returns-then-counts-needs c = rw (le-ltb _ _ c.if-reals-needs.false, lt-ltb _ _ c.if-counts-needs.true)
+
+pub returns-then-places-needs : goal.returns-then-places-needs
+unfolding judged_to
+returns-then-places-needs c = rw (le-ltb _ _ c.if-reals-needs.false, le-ltb _ _ c.if-counts-needs.false, lt-ltb _ _ c.if-places-needs.true)
+
+pub returns-then-tallies-needs : goal.returns-then-tallies-needs
+unfolding judged_to
+returns-then-tallies-needs c = rw (le-ltb _ _ c.if-reals-needs.false, le-ltb _ _ c.if-counts-needs.false, le-ltb _ _ c.if-places-needs.false, lt-ltb _ _ c.if-tallies-needs.true)
+
+pub grid_fits-requires : goal.grid_fits-requires
+grid_fits-requires c = root-laid c.args.table.now c.args.needs (length c.args.reals.now) (length c.args.counts.now) (λ i. omega (arith, c.shared_slice_known-1.given i)) c.requires c.if-reals-needs.false c.if-counts-needs.false
+
+pub returns-then-not-grid_fits : goal.returns-then-not-grid_fits
+unfolding judged_to
+returns-then-not-grid_fits c = rw (le-ltb _ _ c.if-reals-needs.false, le-ltb _ _ c.if-counts-needs.false, le-ltb _ _ c.if-places-needs.false, le-ltb _ _ c.if-tallies-needs.false, sym c.grid_fits.ensures ∙ c.if-not-grid_fits.true)
+
+pub returns : goal.returns
+unfolding judged_to
+returns c = rw (le-ltb _ _ c.if-reals-needs.false, le-ltb _ _ c.if-counts-needs.false, le-ltb _ _ c.if-places-needs.false, le-ltb _ _ c.if-tallies-needs.false, sym c.grid_fits.ensures ∙ c.if-not-grid_fits.false)
