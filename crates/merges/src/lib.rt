@@ -1,5 +1,6 @@
 // Merges: what stands against the merge of two grids in lent memory, and the merge.
 #![tactic(auto)]
+
 mod bins;
 mod joining;
 mod matching;

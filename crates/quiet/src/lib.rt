@@ -4,6 +4,7 @@
 // A state is refused, here and in the other crates of calls, by 12 where its table is no plan's, 10 where its slices are too short for that
 // plan, and 12 where it is not well formed, in this order: `12, 10, 12` below.
 #![tactic(auto)]
+
 mod along;
 mod copying;
 mod descent;

@@ -1,5 +1,6 @@
 // Draws and trainings: a sample drawn from a grid in lent memory, a sample that joins it with its evaluation, and both in a batch.
 #![tactic(auto)]
+
 mod absorbing;
 mod acceptance;
 mod adding;

@@ -140,21 +140,21 @@ module _ (g : AxesAt) (rule : Rule) (values : List ℕ) (rate : Float) (s : Memo
   unfolding axis_reals axis_counts
   fits = judged ∙ fit-known (rule.bins ∷ values) g.most s.reals s.counts g.axes g.reals g.counts h.most h.axes h.upto h.room h.places
 
-  pub axes-unfit : not ok ≡ true → finding true false s ≡ axes_own g rule values rate s
+  pub axes-unfit : ok ≡ false → finding true false s ≡ axes_own g rule values rate s
   unfolding axes_own
   axes-unfit n = rw (failed fits n)
 
-  pub axes-ready : not ok ≡ false → Stands s.reals s.counts g × Within g.most rule values
+  pub axes-ready : ok ≡ true → Stands s.reals s.counts g × Within g.most rule values
   unfolding AllUpto
   axes-ready n =
-      let standing = fit-stands g.most s.reals s.counts (rule.bins ∷ values) g.axes g.reals g.counts h.upto h.room h.places (sym fits ∙ not-false ok n) in
+      let standing = fit-stands g.most s.reals s.counts (rule.bins ∷ values) g.axes g.reals g.counts h.upto h.room h.places (sym fits ∙ n) in
       ((h.axes, h.most, standing), within_all g.most rule values (h.upto 0 (omega arith)).1 (λ i k. (h.upto (suc i) (omega arith)).1))
 
-  pub axes-done : (a b r : Found) (t u : Memory) → not ok ≡ false → found a t ≡ update_all_at rule values rate g.most g.axes g.reals g.counts s
+  pub axes-done : (a b r : Found) (t u : Memory) → ok ≡ true → found a t ≡ update_all_at rule values rate g.most g.axes g.reals g.counts s
       → found b u ≡ account_updated (g.reals - 14) (g.counts - 7) t → (r.eight ≡ (a.eight || b.eight)) × (r.nine ≡ (a.nine || b.nine)) → found r u ≡ axes_own g rule values rate s
   unfolding axes_own
   axes-done a b r t u n e k m =
-      rw (sym fits ∙ not-false ok n)
+      rw (sym fits ∙ n)
       (both_found a b r s t u (update_all_at rule values rate g.most g.axes g.reals g.counts) (account_updated (g.reals - 14) (g.counts - 7)) m e k)
 
 module _ (table : List ℕ) (w : ℕ) (g : AxesAt) (rule : Rule) (p : g ≡ axes_place table w) (e : rule ≡ rule_at table w) (R C : ℕ) (laid : AxesLaid table R C w) where

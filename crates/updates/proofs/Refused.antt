@@ -26,11 +26,11 @@ module _ (fault known : ℕ) (bins_rate axes_rate : Float) (d : fault ≡ known)
   fault-refuses z = rw (sym d, ne_eqb fault 0 z)
 
   module _ (z : fault ≡ 0) (a b : Bool) (e : a ≡ rate_fits bins_rate) (f : b ≡ rate_fits axes_rate) where
-    pub rate-refuses : not (a && b) ≡ true → 3 ≡ refused_for known bins_rate axes_rate
+    pub rate-refuses : (a && b) ≡ false → 3 ≡ refused_for known bins_rate axes_rate
     unfolding refused_for
     rate-refuses h = rw (sym d, eq-eqb fault 0 z, failed (ap₂ ◌&&◌ e f) h)
 
-    pub none-refuses : not (a && b) ≡ false → 0 ≡ refused_for known bins_rate axes_rate
+    pub none-refuses : (a && b) ≡ true → 0 ≡ refused_for known bins_rate axes_rate
     unfolding refused_for
     none-refuses h = rw (sym d, eq-eqb fault 0 z, passed (ap₂ ◌&&◌ e f) h)
 
@@ -47,7 +47,7 @@ module _ (table : List ℕ) (bins_rate axes_rate : Float) (R C : ℕ) (s : Memor
       let o = renewed_over table bins_rate axes_rate (front_of needs s) in
       ladder (eqb fault 0) (rate_fits bins_rate && rate_fits axes_rate) fault (state_end o.answer (in_front needs o.state s)) d z
 
-none : (x y : Bool) (fault n : ℕ) → eqb fault 0 ≡ x → n ≡ cond (not x) fault (cond (not y) 3 0) → n ≡ 0 → (fault ≡ 0) × (not y ≡ false)
+none : (x y : Bool) (fault n : ℕ) → eqb fault 0 ≡ x → n ≡ cond (not x) fault (cond (not y) 3 0) → n ≡ 0 → (fault ≡ 0) × (y ≡ true)
 none false y fault n e d z = let h : fault ≡ 0 = sym d ∙ z in (h, absurd (told (sym e ∙ eq-eqb fault 0 h)))
   where
     told : false ≡ true → ⊥
@@ -55,14 +55,14 @@ none false y fault n e d z = let h : fault ≡ 0 = sym d ∙ z in (h, absurd (to
 none true false fault n e d z = absurd (omega (arith, sym d ∙ z))
 none true true fault n e d z = (eqb-true fault 0 e, refl)
 
-pub nothing-refuses : (fault n : ℕ) (bins_rate axes_rate : Float) → n ≡ refused_for fault bins_rate axes_rate → n ≡ 0 → (fault ≡ 0) × (not (rate_fits bins_rate && rate_fits axes_rate) ≡ false)
+pub nothing-refuses : (fault n : ℕ) (bins_rate axes_rate : Float) → n ≡ refused_for fault bins_rate axes_rate → n ≡ 0 → (fault ≡ 0) × ((rate_fits bins_rate && rate_fits axes_rate) ≡ true)
 unfolding refused_for
 nothing-refuses fault n bins_rate axes_rate d z = none (eqb fault 0) (rate_fits bins_rate && rate_fits axes_rate) fault n refl d z
 
 -- where nothing refuses: the room of the plan's part in the state and in its spare, and rates that fit
 pub record Allowed (table : List ℕ) (bins_rate axes_rate : Float) (s to : Memory) (needs : Needs) : Type 0 where
   pub fault : judged_to table s.reals s.counts (length to.reals) (length to.counts) needs ≡ 0
-  pub rates : not (rate_fits bins_rate && rate_fits axes_rate) ≡ false
+  pub rates : (rate_fits bins_rate && rate_fits axes_rate) ≡ true
   pub room : Ready table s to needs
 
 pub told-refusal : (table : List ℕ) (bins_rate axes_rate : Float) (s to : Memory) (needs : Needs) → sizes_of table ≡ plan.gives needs → (n : ℕ)

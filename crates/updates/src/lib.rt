@@ -1,5 +1,6 @@
 // The update of a grid in lent memory, worked out on a spare.
 #![tactic(auto)]
+
 mod adapting;
 mod parts;
 mod renewal;

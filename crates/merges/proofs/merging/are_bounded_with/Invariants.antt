@@ -1,0 +1,18 @@
+-- `merging::are_bounded_with` meets its contract: what was found and what is left of both stretches stay the answer for the whole; no sum overflows.
+use native.Mathlib.Omega.{arith}
+use mathlib.Core.Path.{◌≡◌, refl, sym, ap, ◌∙◌}
+use mathlib.Core.Bool.{◌&&◌}
+use Prim.Native.Nat.{◌+◌, ◌-◌}
+use Rattle.lent.specs.Layout.{stretch}
+use Prim.Native.Nat.{ℕ, ◌^◌, ◌≤◌}
+use borrow.Author.Tests.{leb-true}
+use lib.Dec.{leb}
+use lib.ListN.{get_or}
+use Rattle.lent.proofs.Scans.{left_all, pair-next, pair-out, bounded_with, all_bounded_with, bounded-none, bounded-more, joined-sum, bounded_at}
+use Rattle.merges.proofs.merging.are_bounded_with.Given as goal
+
+abbrev pub invariant-loop-k : goal.invariant-loop-k
+invariant-loop-k l = left_all 0 bounded_with all_bounded_with bounded-none bounded-more l.counts l.start l.theirs l.from l.n l.k l.ok ≡ all_bounded_with (stretch l.start l.n l.counts) (stretch l.from l.n l.theirs)
+
+abbrev pub decreases-loop-k : goal.decreases-loop-k
+decreases-loop-k l = l.n - l.k

@@ -1,0 +1,16 @@
+-- What is left to merge on the memory now is all of it on the memory after the grid's own accumulator.
+use mathlib.Core.Path.{◌≡◌, refl, sym, ◌∙◌}
+use Prim.Native.Nat.{◌+◌, ◌-◌, ◌≤◌}
+use native.Mathlib.Omega.{arith}
+use lib.ListN.{length, get_or}
+use Rattle.lent.specs.Memory.{memory}
+use Rattle.lent.specs.United.{united_bins}
+use Rattle.lent.proofs.Unites.{bins-next, bins-done, own-united}
+use Rattle.merges.proofs.Places.{bin-there, bin-united}
+use Rattle.merges.proofs.uniting.merge_own.Given as goal
+
+abbrev pub invariant-loop-i : goal.invariant-loop-i
+invariant-loop-i l = (l.i ≤ l.n) × (length l.reals ≡ length l.initial.reals) × (length l.counts ≡ length l.initial.counts) × (united_bins l.table l.other (memory l.theirs l.tallies) l.w l.v l.i (l.n - l.i) (memory l.reals l.counts) ≡ united_bins l.table l.other (memory l.theirs l.tallies) l.w l.v 0 l.n (memory l.initial.reals l.initial.counts))
+
+abbrev pub decreases-loop-i : goal.decreases-loop-i
+decreases-loop-i l = l.n - l.i

@@ -1,0 +1,40 @@
+-- What is left to scan, with what was found before.
+use mathlib.Core.Path.{◌≡◌, refl, sym, ap, ◌∙◌}
+use mathlib.Core.Bool.{Bool, ◌&&◌}
+use Prim.Native.Nat.{ℕ, ◌+◌, ◌-◌, ◌≤◌}
+use native.Mathlib.Omega.{arith}
+use lib.Ieee.{nan}
+use Rattle.doubles.specs.Finite.{finite_of}
+use Rattle.doubles.specs.Total.{all_finite}
+use Rattle.lent.specs.Sampled.{entries}
+use Rattle.lent.proofs.Trains.{scan-on, scan-out}
+use Rattle.samples.proofs.training.are_finite.Goals as goal
+
+pub loop-i-init : goal.loop-i-init
+loop-i-init c = (omega arith, refl)
+
+pub offset_bounds-ws-i : goal.offset_bounds-ws-i
+offset_bounds-ws-i c = omega (arith, c.requires, c.loop-i-test.true)
+
+pub bounds-ws-i : goal.bounds-ws-i
+bounds-ws-i c = omega (arith, c.requires, c.loop-i-test.true)
+
+pub overflow_add-i : goal.overflow_add-i
+overflow_add-i c = omega (arith, c.requires, c.loop-i-test.true)
+
+pub loop-i-smaller : goal.loop-i-smaller
+loop-i-smaller c = omega (arith, c.loop-i-test.true)
+
+pub loop-i-preserved : goal.loop-i-preserved
+unfolding all_finite
+loop-i-preserved c = let i = c.loop-i.i in
+    let ok = c.loop-i.ok in (
+      omega (arith, c.loop-i-test.true),
+      ap (λ (b : Bool). (ok && b) && all_finite (entries nan c.args.ws.now (i + 1) (c.args.n - (i + 1)))) c.finite-ok.ensures
+          ∙ scan-on finite_of all_finite refl (λ x xs. refl) c.args.ws.now i c.args.n ok c.loop-i-test.true ∙ c.loop-i.invariant.1,
+    )
+
+pub returns : goal.returns
+unfolding all_finite
+returns c = let e : c.args.n - 0 ≡ c.args.n = omega arith in
+    sym (scan-out finite_of all_finite refl (λ x xs. refl) c.args.ws.now c.loop-i.i c.args.n c.loop-i.ok c.loop-i-test.false) ∙ c.loop-i.invariant.1 ∙ ap (λ (k : ℕ). all_finite (entries nan c.args.ws.now 0 k)) e

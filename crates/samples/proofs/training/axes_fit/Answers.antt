@@ -1,0 +1,122 @@
+-- The bins that are left to judge, with what was found before, and those that are written with those that are left.
+use mathlib.Core.Path.{◌≡◌, refl, sym, ap, ◌∙◌}
+use mathlib.Core.Bool.{Bool, ◌&&◌}
+use mathlib.Core.List.{List, ◌++◌}
+use Prim.Native.Nat.{ℕ, ◌+◌, ◌-◌, ◌*◌, ◌≤◌}
+use native.Mathlib.Omega.{arith}
+use lib.ListN.{length, take, get_or, length-set}
+use Rattle.lent.specs.Memory.{memory}
+use Rattle.lent.specs.Trained.{cells_fit}
+use Rattle.lent.proofs.Standing.{next}
+use Rattle.lent.proofs.Draws.{asked-part}
+use Rattle.lent.proofs.Spots.{begun, spots_left, Left, spots-all, left-all, unit-here, cell-here, left-judged, fits_on, fits-none, noted-on, noted-all}
+use Rattle.samples.proofs.training.axes_fit.Goals as goal
+
+pub loop-done-init : goal.loop-done-init
+loop-done-init c = (omega arith, left-all c.args.g.most c.args.g.axes c.args.xs.now c.args.g.reals c.args.g.counts (memory c.args.reals.now c.args.counts.now) c.requires.0.0.2 c.requires.0.1 c.requires.0.2, refl, c.requires.1, refl)
+
+pub offset_bounds-counts-place : goal.offset_bounds-counts-place
+offset_bounds-counts-place c = let n = next c.args.g.most c.args.reals.now c.args.counts.now c.args.g.axes c.loop-done.done c.loop-done.at c.loop-done.place c.loop-done-test.true c.loop-done.invariant.1.standing in
+    omega arith
+
+pub bounds-counts-place : goal.bounds-counts-place
+bounds-counts-place c = let n = next c.args.g.most c.args.reals.now c.args.counts.now c.args.g.axes c.loop-done.done c.loop-done.at c.loop-done.place c.loop-done-test.true c.loop-done.invariant.1.standing in
+    omega arith
+
+pub overflow_add-end : goal.overflow_add-end
+overflow_add-end c = let n = next c.args.g.most c.args.reals.now c.args.counts.now c.args.g.axes c.loop-done.done c.loop-done.at c.loop-done.place c.loop-done-test.true c.loop-done.invariant.1.standing in
+    omega arith
+
+pub overflow_add-end-in-loop-done : goal.overflow_add-end-in-loop-done
+overflow_add-end-in-loop-done c = let n = next c.args.g.most c.args.reals.now c.args.counts.now c.args.g.axes c.loop-done.done c.loop-done.at c.loop-done.place c.loop-done-test.true c.loop-done.invariant.1.standing in
+    omega arith
+
+pub offset_bounds-reals-at : goal.offset_bounds-reals-at
+offset_bounds-reals-at c = let n = next c.args.g.most c.args.reals.now c.args.counts.now c.args.g.axes c.loop-done.done c.loop-done.at c.loop-done.place c.loop-done-test.true c.loop-done.invariant.1.standing in
+    omega arith
+
+pub slice_bounds-bin_near-count : goal.slice_bounds-bin_near-count
+slice_bounds-bin_near-count c = let n = next c.args.g.most c.args.reals.now c.args.counts.now c.args.g.axes c.loop-done.done c.loop-done.at c.loop-done.place c.loop-done-test.true c.loop-done.invariant.1.standing in
+    omega arith
+
+pub slice_bounds-bin_near-start : goal.slice_bounds-bin_near-start
+slice_bounds-bin_near-start c = let n = next c.args.g.most c.args.reals.now c.args.counts.now c.args.g.axes c.loop-done.done c.loop-done.at c.loop-done.place c.loop-done-test.true c.loop-done.invariant.1.standing in
+    omega arith
+
+pub slice_bounds-bin_near-end : goal.slice_bounds-bin_near-end
+slice_bounds-bin_near-end c = let n = next c.args.g.most c.args.reals.now c.args.counts.now c.args.g.axes c.loop-done.done c.loop-done.at c.loop-done.place c.loop-done-test.true c.loop-done.invariant.1.standing in
+    omega arith
+
+pub offset_bounds-xs-done : goal.offset_bounds-xs-done
+offset_bounds-xs-done c = omega (arith, c.loop-done-test.true, c.requires.0.0.0)
+
+pub bounds-xs-done : goal.bounds-xs-done
+bounds-xs-done c = omega (arith, c.loop-done-test.true, c.requires.0.0.0)
+
+pub offset_bounds-spots-done : goal.offset_bounds-spots-done
+offset_bounds-spots-done c = omega (arith, c.loop-done-test.true, c.requires.0.0.0)
+
+pub bounds-spots-done : goal.bounds-spots-done
+bounds-spots-done c = omega (arith, c.loop-done-test.true, c.requires.0.0.0)
+
+pub bin_near-bin-requires : goal.bin_near-bin-requires
+bin_near-bin-requires c = let n = next c.args.g.most c.args.reals.now c.args.counts.now c.args.g.axes c.loop-done.done c.loop-done.at c.loop-done.place c.loop-done-test.true c.loop-done.invariant.1.standing in
+    (asked-part c.loop-done.at (get_or c.args.counts.now c.loop-done.place 0) c.args.reals.now n.edges, unit-here c.args.g.most c.args.g.axes c.args.xs.now c.loop-done.done c.loop-done.at c.loop-done.place (memory c.args.reals.now c.args.counts.now) c.loop-done-test.true c.loop-done.invariant.1)
+
+pub offset_bounds-spots-done-in-loop-done : goal.offset_bounds-spots-done-in-loop-done
+offset_bounds-spots-done-in-loop-done c = omega (arith, c.loop-done-test.true, c.requires.0.0.0)
+
+pub bounds-spots-done-in-loop-done : goal.bounds-spots-done-in-loop-done
+bounds-spots-done-in-loop-done c = omega (arith, c.loop-done-test.true, c.requires.0.0.0)
+
+pub cell_fits-ok-requires : goal.cell_fits-ok-requires
+cell_fits-ok-requires c = (c.requires.0.0.1, cell-here c.args.g.most c.args.g.axes c.args.xs.now c.loop-done.done c.loop-done.at c.loop-done.place (memory c.args.reals.now c.args.counts.now) c.loop-done-test.true c.loop-done.invariant.1 c.bin_near-bin.result c.bin_near-bin.ensures)
+
+pub overflow_mul-at : goal.overflow_mul-at
+overflow_mul-at c = let n = next c.args.g.most c.args.reals.now c.args.counts.now c.args.g.axes c.loop-done.done c.loop-done.at c.loop-done.place c.loop-done-test.true c.loop-done.invariant.1.standing in
+    omega arith
+
+pub overflow_add-at : goal.overflow_add-at
+overflow_add-at c = let n = next c.args.g.most c.args.reals.now c.args.counts.now c.args.g.axes c.loop-done.done c.loop-done.at c.loop-done.place c.loop-done-test.true c.loop-done.invariant.1.standing in
+    omega arith
+
+pub overflow_add-at-in-loop-done : goal.overflow_add-at-in-loop-done
+overflow_add-at-in-loop-done c = let n = next c.args.g.most c.args.reals.now c.args.counts.now c.args.g.axes c.loop-done.done c.loop-done.at c.loop-done.place c.loop-done-test.true c.loop-done.invariant.1.standing in
+    omega arith
+
+pub overflow_mul-place : goal.overflow_mul-place
+overflow_mul-place c = let n = next c.args.g.most c.args.reals.now c.args.counts.now c.args.g.axes c.loop-done.done c.loop-done.at c.loop-done.place c.loop-done-test.true c.loop-done.invariant.1.standing in
+    omega arith
+
+pub overflow_add-place : goal.overflow_add-place
+overflow_add-place c = let n = next c.args.g.most c.args.reals.now c.args.counts.now c.args.g.axes c.loop-done.done c.loop-done.at c.loop-done.place c.loop-done-test.true c.loop-done.invariant.1.standing in
+    omega arith
+
+pub overflow_add-place-in-loop-done : goal.overflow_add-place-in-loop-done
+overflow_add-place-in-loop-done c = let n = next c.args.g.most c.args.reals.now c.args.counts.now c.args.g.axes c.loop-done.done c.loop-done.at c.loop-done.place c.loop-done-test.true c.loop-done.invariant.1.standing in
+    omega arith
+
+pub overflow_add-done : goal.overflow_add-done
+overflow_add-done c = omega (arith, c.loop-done-test.true, c.requires.0.0.0)
+
+pub loop-done-smaller : goal.loop-done-smaller
+loop-done-smaller c = omega (arith, c.loop-done-test.true)
+
+pub loop-done-preserved : goal.loop-done-preserved
+loop-done-preserved c = let at = c.loop-done.at + (6 * c.args.g.most + 1) in
+    let place = c.loop-done.place + (3 * c.args.g.most + 2) in (
+      omega (arith, c.loop-done-test.true),
+      left-judged c.args.g.most c.args.g.axes c.args.xs.now c.loop-done.done c.loop-done.at c.loop-done.place (memory c.args.reals.now c.args.counts.now) c.loop-done-test.true c.loop-done.invariant.1 c.bin_near-bin.result c.bin_near-bin.ensures,
+      ap (λ (b : Bool). (c.loop-done.ok && b) && cells_fit c.args.g.most c.args.v (spots_left c.args.g.most c.args.g.axes c.args.xs.now (c.loop-done.done + 1) at place (memory c.args.reals.now c.args.counts.now)) at place (memory c.args.reals.now c.args.counts.now)) c.cell_fits-ok.ensures
+          ∙ fits_on c.args.g.most c.args.g.axes c.args.xs.now c.loop-done.done c.loop-done.at c.loop-done.place (memory c.args.reals.now c.args.counts.now) c.loop-done-test.true c.loop-done.invariant.1 c.bin_near-bin.result c.bin_near-bin.ensures c.args.v c.loop-done.ok ∙ c.loop-done.invariant.2,
+      simp length-set c.loop-done.invariant.3,
+      noted-on c.args.g.most c.args.g.axes c.args.xs.now c.loop-done.done c.loop-done.at c.loop-done.place (memory c.args.reals.now c.args.counts.now) c.loop-done-test.true c.loop-done.invariant.1 c.bin_near-bin.result c.bin_near-bin.ensures c.loop-done.spots (omega (arith, c.loop-done.invariant.3, c.requires.0.0.0, c.loop-done-test.true)) ∙ c.loop-done.invariant.4,
+    )
+
+pub returns : goal.returns
+returns c = let all = spots-all c.args.g.most c.args.g.axes c.args.xs.now c.args.g.reals c.args.g.counts (memory c.args.reals.now c.args.counts.now) in (
+  sym (fits-none c.args.g.most c.args.g.axes c.args.xs.now c.loop-done.done c.loop-done.at c.loop-done.place (memory c.args.reals.now c.args.counts.now) c.args.v c.loop-done.ok (omega (arith, c.loop-done-test.false))) ∙ c.loop-done.invariant.2
+      ∙ ap (λ (is : List ℕ). cells_fit c.args.g.most c.args.v is c.args.g.reals c.args.g.counts (memory c.args.reals.now c.args.counts.now)) all,
+  begun c.loop-done.spots _ c.args.g.axes (omega (arith, c.loop-done.invariant.3, c.requires.0.0.0))
+      (noted-all c.args.g.most c.args.g.axes c.args.xs.now c.loop-done.done c.loop-done.at c.loop-done.place (memory c.args.reals.now c.args.counts.now) c.loop-done.spots _ c.loop-done.invariant.0 (omega (arith, c.loop-done-test.false)) c.loop-done.invariant.4 ∙ all),
+)

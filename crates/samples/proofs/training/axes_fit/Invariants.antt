@@ -1,0 +1,23 @@
+-- The bins that are left to judge, with what was found before, and those that are written with those that are left.
+use mathlib.Core.Path.{◌≡◌, refl, sym, ap, ◌∙◌}
+use mathlib.Core.Bool.{Bool, ◌&&◌}
+use mathlib.Core.List.{List, ◌++◌}
+use Prim.Native.Nat.{ℕ, ◌+◌, ◌-◌, ◌*◌, ◌≤◌}
+use native.Mathlib.Omega.{arith}
+use lib.ListN.{length, take, get_or, length-set}
+use Rattle.lent.specs.Memory.{memory}
+use Rattle.lent.specs.Trained.{cells_fit}
+use Rattle.lent.proofs.Standing.{next}
+use Rattle.lent.proofs.Draws.{asked-part}
+use Rattle.lent.proofs.Spots.{begun, spots_left, Left, spots-all, left-all, unit-here, cell-here, left-judged, fits_on, fits-none, noted-on, noted-all}
+use Rattle.samples.proofs.training.axes_fit.Given as goal
+
+abbrev pub invariant-loop-done : goal.invariant-loop-done
+invariant-loop-done l = (l.done ≤ l.g.axes) × Left l.g.most l.g.axes l.xs l.done l.at l.place (memory l.reals l.counts)
+    × ((l.ok && cells_fit l.g.most l.v (spots_left l.g.most l.g.axes l.xs l.done l.at l.place (memory l.reals l.counts)) l.at l.place (memory l.reals l.counts))
+    ≡ cells_fit l.g.most l.v (spots_left l.g.most l.g.axes l.xs 0 l.g.reals l.g.counts (memory l.reals l.counts)) l.g.reals l.g.counts (memory l.reals l.counts))
+    × (length l.spots ≡ 8)
+    × (take l.done l.spots ++ spots_left l.g.most l.g.axes l.xs l.done l.at l.place (memory l.reals l.counts) ≡ spots_left l.g.most l.g.axes l.xs 0 l.g.reals l.g.counts (memory l.reals l.counts))
+
+abbrev pub decreases-loop-done : goal.decreases-loop-done
+decreases-loop-done l = l.g.axes - l.done

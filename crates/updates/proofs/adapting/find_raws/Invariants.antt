@@ -1,0 +1,17 @@
+-- `adapting::find_raws` meets its contract: the raw probabilities written with those of the bins left are those of all.
+use mathlib.Core.Path.{◌≡◌, sym, ap, ◌∙◌}
+use mathlib.Core.List.{◌++◌}
+use Prim.Native.Nat.{◌-◌, ◌≤◌}
+use native.Mathlib.Omega.{arith}
+use lib.ListN.{length, take, length-set}
+use Rattle.model.specs.Update.{raw_of}
+use Rattle.lent.specs.Memory.{memory}
+use Rattle.updates.specs.Own.{bin_own, bins_raws}
+use Rattle.updates.proofs.Own.{raws-next, raws-done}
+use Rattle.updates.proofs.adapting.find_raws.Given as goal
+
+abbrev pub invariant-loop-i : goal.invariant-loop-i
+invariant-loop-i l = (l.i ≤ l.n) × (length l.raws ≡ l.n) × (take l.i l.raws ++ bins_raws l.b (memory l.reals l.counts) l.i (l.n - l.i) ≡ bins_raws l.b (memory l.reals l.counts) 0 l.n)
+
+abbrev pub decreases-loop-i : goal.decreases-loop-i
+decreases-loop-i l = l.n - l.i

@@ -1,0 +1,8 @@
+-- `adapting::lay_chances` meets its contract: raw probabilities, what is made of them, and where they are laid, by one law.
+use Rattle.lent.specs.Memory.{memory}
+use Rattle.updates.proofs.Own.{chances-laid}
+use borrow.Author.Rules.{rules}
+use Rattle.updates.proofs.adapting.lay_chances.Goals as goal
+
+pub returns : goal.returns
+returns c = chances-laid c.args.b (memory c.args.reals.now c.args.counts.now) c.find_raws.new.raws c.adapt-fit.new.ps c.put_reals.new.reals c.adapt-fit.result c.find_raws.ensures c.adapt-fit.ensures c.put_reals.ensures

@@ -1,0 +1,11 @@
+-- A refusal is an 8 and leaves memory; else what is stored is the update of the record that the definition reads.
+use Rattle.lent.specs.Memory.{memory}
+use Rattle.lent.proofs.Adapts.{account-stepped, account-refused}
+use borrow.Author.Rules.{rules}
+use Rattle.updates.proofs.adapting.update_account.Goals as goal
+
+pub returns-in-Record : goal.returns-in-Record
+returns-in-Record c = account-stepped c.args.r c.args.c (memory c.args.reals.now c.args.counts.now) c.update_iter.result c.load.result c.load.ensures c.update_iter.ensures _ _ _ c.in-Record.is c.store.ensures
+
+pub returns-in-Refused : goal.returns-in-Refused
+returns-in-Refused c = account-refused c.args.r c.args.c (memory c.args.reals.now c.args.counts.now) c.update_iter.result c.load.result c.load.ensures c.update_iter.ensures _ c.in-Refused.is
