@@ -3,6 +3,7 @@
 // A run is a value that says what is due. A turn takes what is due from the front of some bytes, and the caller gives the rest
 // again, with more behind it. Each call's promise is an equation with its definition in specs/.
 #![tactic(auto)]
+
 mod fields;
 mod numbers;
 mod planning;

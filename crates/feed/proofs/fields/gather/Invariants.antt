@@ -1,0 +1,13 @@
+-- What is gathered, with the row from here on behind it, is the whole row.
+use Rattle.std.proofs.Common.{◌≡◌, ◌-◌, ◌≤◌, ◌++◌, length, take, refl, ap, ◌∙◌, arith, length-set}
+use Rattle.doubles.proofs.Truth.{failed, passed}
+use Rattle.feed.specs.Fields.{row_from}
+use Rattle.feed.proofs.Rows.{sample-whole, row-stop, row-full, row_next}
+use Rattle.feed.proofs.fields.gather.Given as goal
+
+abbrev pub invariant-loop-many : goal.invariant-loop-many
+invariant-loop-many l = (l.many ≤ length l.evaluations) × (length l.evaluations ≡ length l.initial.evaluations) × (l.at ≤ length l.bytes)
+    × (take l.many l.evaluations ++ row_from l.bytes l.at (length l.initial.evaluations - l.many) ≡ row_from l.bytes 0 (length l.initial.evaluations))
+
+abbrev pub decreases-loop-many : goal.decreases-loop-many
+decreases-loop-many l = length l.evaluations - l.many
