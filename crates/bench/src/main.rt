@@ -1,6 +1,7 @@
 // Runs one of the library's inner loops as often as standard input says, `KIND COUNT`, and prints a word made of all results,
 // so that no part of the work can be left out. bench/run times it beside the same loop of the Rust.
 #![tactic(auto)]
+
 mod edges;
 mod grids;
 mod kernels;
@@ -8,7 +9,8 @@ mod plans;
 mod records;
 mod request;
 
-use libc::{STDIN_FILENO, STDOUT_FILENO};
+use input::read_full;
+use std::io;
 use stream::MonteCarloRng;
 
 // The exclusive or of the first words of new(0, 0).
@@ -45,11 +47,11 @@ fn run(kind: u8, count: u64) -> u64 {
     }
 }
 
-fn main() {
+fn main(rt: HostRuntime) -> io::Result<()> {
     let mut text = [0u8; 64];
-    let got = io::read_full(STDIN_FILENO, &mut text);
+    let got = read_full(&mut rt.stdin(), &mut text)?;
     let kind = request::kind(&text[..got]);
     let count = request::count(&text[..got]);
-    io::print_hex(STDOUT_FILENO, run(kind, count), 16);
-    io::write_all(STDOUT_FILENO, b"\n");
+    let word = run(kind, count);
+    println!(rt; "{word:016x}")
 }

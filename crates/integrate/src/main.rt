@@ -2,6 +2,7 @@
 //
 // The work is `feed::turn`; this program reads, writes, and keeps the bytes that a turn has not taken.
 #![tactic(auto)]
+
 mod lines;
 
 ghost use Rattle.std.specs.Prelude.{◌≡◌, true, false, ◌&&◌, ◌+◌, ◌-◌, ◌≤◌, ◌<◌, eqb, length, take, drop};
@@ -10,7 +11,7 @@ ghost use Rattle.feed.specs.Said.{is_over_of};
 ghost use Rattle.integrate.specs.Pouring.{place, goes_on, Turns, Stepped, TakenIn};
 
 use feed::{Run, Turned, beginning, is_over, turn};
-use libc::{STDIN_FILENO, STDOUT_FILENO};
+use std::io::Read;
 
 // A table of 16,832 words holds any plan; 128 bins in 64 grids need at most 2,816 reals and 1,344 counts (`rooms-hold` in feed's
 // proofs/Rooms.antt). The rooms are lent as references to arrays, so that no proof has to follow their lengths.
@@ -21,7 +22,7 @@ type Reals = [f64; 2816];
 type Counts = [u64; 1344];
 
 // A run after turns on some bytes: how many they took, whether what they told could be written, and whether another turn follows.
-#[derive(Drop)]
+#[derive(Clone, Copy)]
 struct Poured {
     run: Run,
     taken: usize,
@@ -30,7 +31,7 @@ struct Poured {
 }
 
 // A run after a read: how many bytes at the front of the text are still to be taken, and whether there is more to read.
-#[derive(Drop)]
+#[derive(Clone, Copy)]
 struct Fed {
     run: Run,
     held: usize,
@@ -52,10 +53,10 @@ fn keep(text: &mut [u8], from: usize, to: usize) -> usize
 }
 
 // Writes what a turn tells; and whether that could be written.
-fn tell(told: feed::Told) -> bool {
+fn tell(rt: &HostRuntime, told: feed::Told) -> bool {
     let mut out = [0u8; 128];
     let put = lines::put_told(told, &mut out);
-    io::write_all(STDOUT_FILENO, &out[..put])
+    rt.write_all(&out[..put]).is_ok()
 }
 
 // Whether another turn follows on the bytes that are left: one that took nothing waits for more of them.
@@ -71,6 +72,7 @@ fn goes_on(turned: Turned, written: bool) -> bool
 
 // One turn on the bytes from a place on, and its line.
 fn step(
+    rt: &HostRuntime,
     run: Run,
     bytes: &[u8],
     from: usize,
@@ -97,7 +99,7 @@ fn step(
         spare_counts,
     );
     let told = turned.told;
-    let written = tell(told);
+    let written = tell(rt, told);
     let goes = goes_on(turned, written);
     let after = turned.run;
     Poured {
@@ -110,6 +112,7 @@ fn step(
 
 // Turn by turn, as far as these bytes go.
 fn pour(
+    rt: &HostRuntime,
     run: Run,
     bytes: &[u8],
     last: bool,
@@ -129,6 +132,7 @@ fn pour(
     let mut taken = 0;
     loop {
         let poured = step(
+            rt,
             now,
             bytes,
             taken,
@@ -151,6 +155,7 @@ fn pour(
 // The turns on the first `full` bytes of the text, of which `held` were there before; what they leave is kept. Where the run goes on these
 // are fewer than 131,072.
 fn take_in(
+    rt: &HostRuntime,
     run: Run,
     text: &mut [u8],
     held: usize,
@@ -165,7 +170,7 @@ fn take_in(
         text.new result.held result.goes result.run table.new (memory reals.new counts.new) }
     ensures held_bound { result.goes ≡ true → result.held < 131072 }
 {
-    let poured = pour(run, &text[..full], full == held, table, reals, counts);
+    let poured = pour(rt, run, &text[..full], full == held, table, reals, counts);
     let after = poured.run;
     let rest = keep(text, poured.taken, full);
     Fed {
@@ -178,6 +183,7 @@ fn take_in(
 // One read behind the bytes that are held, and the turns on all of them. There is room for it: a read into nothing would look like the
 // input's end. A read that fails ends it.
 fn feed_once(
+    rt: &HostRuntime,
     run: Run,
     text: &mut [u8],
     held: usize,
@@ -188,21 +194,19 @@ fn feed_once(
     requires { held < length text.old }
     ensures { result.goes ≡ true → result.held < 131072 }
 {
-    let got = libc::read(STDIN_FILENO, &mut text[held..]);
-    if got < 0 {
-        return Fed {
+    match rt.stdin().read(&mut text[held..]) {
+        Ok(got) => take_in(rt, run, text, held, held + got, table, reals, counts),
+        Err(_) => Fed {
             run,
             held,
             goes: false,
-        };
+        },
     }
-    let full = held + io::count(got, &text[held..]);
-    take_in(run, text, held, full, table, reals, counts)
 }
 
 // Read by read, to the input's end, a refusal, or a read or a write that fails. The reads are counted down from a number that no run uses
 // up, since a proved loop has to end and nothing says that an input does.
-fn integrate(text: &mut [u8])
+fn integrate(rt: &HostRuntime, text: &mut [u8])
     requires { 131072 ≤ length text.old }
 {
     let mut table = [0u64; 16832];
@@ -212,7 +216,7 @@ fn integrate(text: &mut [u8])
     let mut held = 0;
     let mut left = u64::MAX;
     while 0 < left {
-        let fed = feed_once(run, text, held, &mut table, &mut reals, &mut counts);
+        let fed = feed_once(rt, run, text, held, &mut table, &mut reals, &mut counts);
         if !fed.goes {
             return;
         }
@@ -224,12 +228,12 @@ fn integrate(text: &mut [u8])
 }
 
 // The text comes as a reference to an array, so that the proof sees its length and not its zeros.
-fn run(text: &mut [u8; 131072]) {
-    integrate(text);
+fn run(rt: &HostRuntime, text: &mut [u8; 131072]) {
+    integrate(rt, text);
 }
 
 // 131,072 bytes decide any plan, so that a text full of them is never waited on.
-fn main() {
+fn main(rt: HostRuntime) {
     let mut text = [0u8; 131072];
-    run(&mut text);
+    run(&rt, &mut text);
 }

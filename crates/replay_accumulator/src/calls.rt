@@ -14,7 +14,7 @@ const BEFORE: [usize; 10] = [0, 24, 43, 22, 22, 22, 22, 22, 43, 22];
 const BEHIND: [usize; 10] = [0, 21, 21, 22, 22, 3, 21, 21, 42, 6];
 
 // How many records agreed, of how many.
-#[derive(Drop)]
+#[derive(Clone, Copy)]
 pub struct Replayed {
     pub agreed: u64,
     pub all: u64,

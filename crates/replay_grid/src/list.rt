@@ -7,7 +7,7 @@ use std::num::wrapping_add_usize;
 use stream::MonteCarloRng;
 
 // A call's end: whether it agrees with the list, and the stream behind it.
-#[derive(Drop)]
+#[derive(Clone, Copy)]
 pub struct Called {
     pub agrees: bool,
     pub stream: MonteCarloRng,

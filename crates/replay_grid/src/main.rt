@@ -2,6 +2,7 @@
 //
 // The list is that of `oracle/target/release/answers grid 3 150`.
 #![tactic(auto)]
+
 mod calls;
 mod list;
 mod memory;
@@ -9,26 +10,28 @@ mod reads;
 mod tally;
 mod writes;
 
-ghost use Rattle.std.specs.Prelude.{◌*◌, ◌≤◌, length};
+ghost use Rattle.std.specs.Prelude.{◌*◌, ◌≤◌, length, IfOk};
 
-use libc::STDIN_FILENO;
+use input::read_full;
+use std::io;
 
 // The list read into `text`; how many words it has.
-fn read(text: &mut [u8]) -> usize
-    ensures { result * 17 ≤ length text.new }
+fn read(rt: &HostRuntime, text: &mut [u8]) -> io::Result<usize>
+    ensures { IfOk result (λ words. words * 17 ≤ length text.new) }
 {
-    io::read_full(STDIN_FILENO, text) / 17
+    let got = read_full(&mut rt.stdin(), text)?;
+    Ok(got / 17)
 }
 
 // The list read, its calls made, and a line for each kind of them. The text comes as a reference to an array, so that the proof sees its
 // length and not its zeros.
-fn run(text: &mut [u8; 2097152]) {
-    let words = read(text);
+fn run(rt: &HostRuntime, text: &mut [u8; 2097152]) -> io::Result<()> {
+    let words = read(rt, text)?;
     let tally = calls::replay(text, words);
-    tally::print(&tally);
+    tally::print(rt, &tally)
 }
 
-fn main() {
+fn main(rt: HostRuntime) -> io::Result<()> {
     let mut text = [0u8; 2097152];
-    run(&mut text);
+    run(&rt, &mut text)
 }

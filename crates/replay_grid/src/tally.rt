@@ -1,7 +1,7 @@
 // How many calls of each kind agreed, of how many, and their lines.
 ghost use Rattle.std.specs.Prelude.{◌<◌};
 
-use libc::STDOUT_FILENO;
+use std::io;
 use std::num::wrapping_add_u64;
 
 // For each kind how many agreed, then how many there are.
@@ -26,39 +26,39 @@ pub fn count(tally: Tally, kind: usize, agrees: bool) -> Tally
 }
 
 // A part of the names.
-fn print_part(names: &[u8], from: usize, end: usize) {
+fn print_part(rt: &HostRuntime, names: &[u8], from: usize, end: usize) -> io::Result<()> {
     if from <= end {
         if end <= names.len() {
-            io::write_all(STDOUT_FILENO, &names[from..end]);
+            return rt.write_all(&names[from..end]);
         }
     }
+    Ok(())
 }
 
 // The name of a kind of calls.
-fn print_name(kind: usize)
+fn print_name(rt: &HostRuntime, kind: usize) -> io::Result<()>
     requires { kind < 13 }
 {
     print_part(
+        rt,
         b"fresh: draw: probe: summary: live_estimate: live_estimate_of_bin: train: update: clone_without_samples: is_mergeable: merge: cells set: draw and train: ",
         BEGINS[kind],
         BEGINS[kind + 1],
-    );
+    )
 }
 
 // So many of so many agree.
-fn print_numbers(agreed: u64, all: u64) {
-    io::print_decimal(STDOUT_FILENO, agreed);
-    io::write_all(STDOUT_FILENO, b" of ");
-    io::print_decimal(STDOUT_FILENO, all);
-    io::write_all(STDOUT_FILENO, b" agree\n");
+fn print_numbers(rt: &HostRuntime, agreed: u64, all: u64) -> io::Result<()> {
+    println!(rt; "{agreed} of {all} agree")
 }
 
 // A line for each kind: how many calls of it agree; of kind 0, how many plans are laid.
-pub fn print(tally: &Tally) {
+pub fn print(rt: &HostRuntime, tally: &Tally) -> io::Result<()> {
     let mut kind = 0;
     while kind < 13 {
-        print_name(kind);
-        print_numbers(tally[2 * kind], tally[2 * kind + 1]);
+        print_name(rt, kind)?;
+        print_numbers(rt, tally[2 * kind], tally[2 * kind + 1])?;
         kind += 1;
     }
+    Ok(())
 }

@@ -4,7 +4,7 @@ ghost use Rattle.std.specs.Prelude.{◌≡◌, ◌+◌, ◌*◌, ◌<◌, ◌≤
 use crate::codes;
 
 // How many cases agreed, of how many.
-#[derive(Drop)]
+#[derive(Clone, Copy)]
 pub struct Replayed {
     pub agreed: u64,
     pub all: u64,
@@ -12,7 +12,7 @@ pub struct Replayed {
 
 // A section's head: its rule, whether the whole plan is read, how many fields stand in a row, how many bytes the base has,
 // how many cases there are; and the words where the base and the codes begin.
-#[derive(Drop)]
+#[derive(Clone, Copy)]
 struct Section {
     rule: u64,
     whole: bool,

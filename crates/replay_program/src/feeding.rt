@@ -15,7 +15,7 @@ type Counts = [u64; 1344];
 
 // A run between turns: how many bytes they took, the place among the lines, whether the bytes behind the cut are there too, and whether
 // another turn follows.
-#[derive(Drop)]
+#[derive(Clone, Copy)]
 struct Fed {
     run: Run,
     taken: usize,

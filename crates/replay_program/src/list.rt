@@ -36,7 +36,7 @@ pub fn load(list: &[u8], room: &mut Room) {
 }
 
 // Where an input's lines begin in the list, and where they end.
-#[derive(Drop)]
+#[derive(Clone, Copy)]
 pub struct Lines {
     pub from: usize,
     pub end: usize,
@@ -88,7 +88,7 @@ fn is_line(list: &[u8], at: usize, s: Summary) -> bool {
 }
 
 // A place among an input's lines, and whether all told up to it agrees with the list.
-#[derive(Drop)]
+#[derive(Clone, Copy)]
 pub struct Held {
     pub at: usize,
     pub agrees: bool,

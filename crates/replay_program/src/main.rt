@@ -2,14 +2,16 @@
 //
 // The list is that of `oracle/target/release/answers program 3 160`.
 #![tactic(auto)]
+
 mod feeding;
 mod list;
 mod tally;
 
-ghost use Rattle.std.specs.Prelude.{◌*◌, ◌≤◌, length};
+ghost use Rattle.std.specs.Prelude.{◌*◌, ◌≤◌, length, IfOk};
 
-use libc::STDIN_FILENO;
+use input::read_full;
 use list::below;
+use std::io;
 use tally::Tally;
 
 // Whether the input at the list's begin agrees.
@@ -36,21 +38,22 @@ fn replay(list: &[u8], words: usize) -> Tally
 }
 
 // The list read into `text`; how many words it has.
-fn read(text: &mut [u8]) -> usize
-    ensures { result * 17 ≤ length text.new }
+fn read(rt: &HostRuntime, text: &mut [u8]) -> io::Result<usize>
+    ensures { IfOk result (λ words. words * 17 ≤ length text.new) }
 {
-    io::read_full(STDIN_FILENO, text) / 17
+    let got = read_full(&mut rt.stdin(), text)?;
+    Ok(got / 17)
 }
 
 // The list read and replayed, and the tally's lines. The text comes as a reference to an array, so that the proof sees its length and not
 // its zeros.
-fn run(text: &mut [u8; 1048576]) {
-    let words = read(text);
+fn run(rt: &HostRuntime, text: &mut [u8; 1048576]) -> io::Result<()> {
+    let words = read(rt, text)?;
     let tally = replay(text, words);
-    tally::print(&tally);
+    tally::print(rt, &tally)
 }
 
-fn main() {
+fn main(rt: HostRuntime) -> io::Result<()> {
     let mut text = [0u8; 1048576];
-    run(&mut text);
+    run(&rt, &mut text)
 }

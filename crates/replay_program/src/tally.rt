@@ -1,7 +1,7 @@
 // How many inputs agree, of how many, and how many end in each refusal.
 ghost use Rattle.std.specs.Prelude.{◌<◌};
 
-use libc::STDOUT_FILENO;
+use std::io;
 use std::num::wrapping_add_u64;
 
 // How many inputs end in each number, 0 for no refusal; then how many agree, and how many there are.
@@ -24,31 +24,25 @@ pub fn count(tally: Tally, number: usize, agrees: bool) -> Tally
 }
 
 // How many inputs end in a refusal of this number, where there are any; 0 stands for none.
-fn print_ending(number: u64, many: u64) {
+fn print_ending(rt: &HostRuntime, number: u64, many: u64) -> io::Result<()> {
     if 0 < many {
-        io::write_all(STDOUT_FILENO, b"ends in ");
-        io::print_decimal(STDOUT_FILENO, number);
-        io::write_all(STDOUT_FILENO, b": ");
-        io::print_decimal(STDOUT_FILENO, many);
-        io::write_all(STDOUT_FILENO, b"\n");
+        println!(rt; "ends in {number}: {many}")?;
     }
+    Ok(())
 }
 
 // How many inputs agree, of how many.
-fn print_agreed(agreed: u64, all: u64) {
-    io::write_all(STDOUT_FILENO, b"inputs: ");
-    io::print_decimal(STDOUT_FILENO, agreed);
-    io::write_all(STDOUT_FILENO, b" of ");
-    io::print_decimal(STDOUT_FILENO, all);
-    io::write_all(STDOUT_FILENO, b" agree\n");
+fn print_agreed(rt: &HostRuntime, agreed: u64, all: u64) -> io::Result<()> {
+    println!(rt; "inputs: {agreed} of {all} agree")
 }
 
 // A line for all, and one for each number.
-pub fn print(tally: &Tally) {
-    print_agreed(tally[13], tally[14]);
+pub fn print(rt: &HostRuntime, tally: &Tally) -> io::Result<()> {
+    print_agreed(rt, tally[13], tally[14])?;
     let mut number = 0;
     while number < 13 {
-        print_ending(number as u64, tally[number]);
+        print_ending(rt, number as u64, tally[number])?;
         number += 1;
     }
+    Ok(())
 }

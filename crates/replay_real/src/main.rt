@@ -2,11 +2,13 @@
 // hexadecimal digits: x, a (or zeros) and the answer. The program writes each line that it does not agree
 // with, and at the end how many lines of each kind it compared and how many differ. The list is that of list.py beside it.
 #![tactic(auto)]
+
 ghost use Rattle.std.specs.Prelude.{◌≤◌};
 
-use libc::{STDIN_FILENO, STDOUT_FILENO};
+use input::read_full;
+use std::io;
 
-#[derive(Drop)]
+#[derive(Clone, Copy)]
 struct Tally {
     root: u64,
     ln: u64,
@@ -118,47 +120,45 @@ fn counted(t: Tally, op: u8) -> Tally {
 }
 
 // The tally after a line, which is shown where it differs.
-fn judged(t: Tally, line: &[u8; 53]) -> Tally {
+fn judged(rt: &HostRuntime, t: Tally, line: &[u8; 53]) -> io::Result<Tally> {
     let op = line[0];
     let mut r = counted(t, op);
     if !agrees(op, word(line, 2), word(line, 19), word(line, 36)) {
-        io::write_all(STDOUT_FILENO, line);
+        rt.write_all(line)?;
         r.differ = more(t.differ);
     }
-    r
+    Ok(r)
 }
 
 // A label and a number on a line.
-fn show(label: &[u8], n: u64) {
-    io::write_all(STDOUT_FILENO, label);
-    io::print_decimal(STDOUT_FILENO, n);
-    io::write_all(STDOUT_FILENO, b"\n");
+fn show(rt: &HostRuntime, label: &str, n: u64) -> io::Result<()> {
+    println!(rt; "{label}{n}")
 }
 
-#[derive(Drop)]
+#[derive(Clone, Copy)]
 struct Turn {
     tally: Tally,
     ended: bool,
 }
 
 // One line read and judged, or the end of the input.
-fn turned(t: Tally) -> Turn {
+fn turned(rt: &HostRuntime, t: Tally) -> io::Result<Turn> {
     let mut line = [0u8; 53];
-    if io::read_full(STDIN_FILENO, &mut line) < 53 {
-        return Turn {
+    if read_full(&mut rt.stdin(), &mut line)? < 53 {
+        return Ok(Turn {
             tally: t,
             ended: true,
-        };
+        });
     }
-    let r = judged(t, &line);
-    Turn {
+    let r = judged(rt, t, &line)?;
+    Ok(Turn {
         tally: r,
         ended: false,
-    }
+    })
 }
 
 // A proved loop has to end, and nothing says that the input does: so it counts its turns down.
-fn replayed() -> Tally {
+fn replayed(rt: &HostRuntime) -> io::Result<Tally> {
     let mut t = Tally {
         root: 0,
         ln: 0,
@@ -169,23 +169,23 @@ fn replayed() -> Tally {
     };
     let mut turns: u64 = 1000000;
     while turns > 0 {
-        let step = turned(t);
+        let step = turned(rt, t)?;
         if step.ended {
-            return t;
+            return Ok(t);
         }
         let r = step.tally;
         t = r;
         turns -= 1;
     }
-    t
+    Ok(t)
 }
 
-fn main() {
-    let t = replayed();
-    show(b"roots ", t.root);
-    show(b"logarithms ", t.ln);
-    show(b"powers ", t.power);
-    show(b"within 1e-12 of a library ", t.library);
-    show(b"finite, norm, inv, whole, count ", t.plain);
-    show(b"differ ", t.differ);
+fn main(rt: HostRuntime) -> io::Result<()> {
+    let t = replayed(&rt)?;
+    show(&rt, "roots ", t.root)?;
+    show(&rt, "logarithms ", t.ln)?;
+    show(&rt, "powers ", t.power)?;
+    show(&rt, "within 1e-12 of a library ", t.library)?;
+    show(&rt, "finite, norm, inv, whole, count ", t.plain)?;
+    show(&rt, "differ ", t.differ)
 }

@@ -6,7 +6,7 @@ use std::num::{wrapping_add_u64, wrapping_add_usize};
 use stream::{Made, MonteCarloRng, unit_of};
 
 // How many records agreed, of how many.
-#[derive(Drop)]
+#[derive(Clone, Copy)]
 pub struct Replayed {
     pub agreed: u64,
     pub all: u64,

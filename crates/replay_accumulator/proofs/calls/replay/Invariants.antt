@@ -1,0 +1,10 @@
+-- Every record takes words of the list, so that the loop ends and no sum wraps.
+use Rattle.std.proofs.Common.{◌-◌, arith, rules}
+use Rattle.answers.specs.List.{words_of}
+use Rattle.replay_accumulator.proofs.calls.replay.Given as goal
+
+abbrev pub invariant-loop-at : goal.invariant-loop-at
+invariant-loop-at l = Unit {0}
+
+abbrev pub decreases-loop-at : goal.decreases-loop-at
+decreases-loop-at l = l.end - l.at

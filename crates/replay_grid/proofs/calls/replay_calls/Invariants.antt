@@ -1,0 +1,9 @@
+-- Every call takes words of the list, so that the loop ends and no sum wraps.
+use Rattle.std.proofs.Common.{◌-◌, arith, rules}
+use Rattle.replay_grid.proofs.calls.replay_calls.Given as goal
+
+abbrev pub invariant-loop-at : goal.invariant-loop-at
+invariant-loop-at l = Unit {0}
+
+abbrev pub decreases-loop-at : goal.decreases-loop-at
+decreases-loop-at l = l.end - l.at

@@ -1,0 +1,9 @@
+-- Every input takes words of the list, so that the loop ends and no sum wraps.
+use Rattle.std.proofs.Common.{◌-◌, arith, rules}
+use Rattle.replay_program.proofs.replay.Given as goal
+
+abbrev pub invariant-loop-at : goal.invariant-loop-at
+invariant-loop-at l = Unit {0}
+
+abbrev pub decreases-loop-at : goal.decreases-loop-at
+decreases-loop-at l = l.words - l.at
