@@ -17,13 +17,11 @@ step-poured-requires c = omega arith
 
 pub returns-then-not-poured : goal.returns-then-not-poured
 returns-then-not-poured c = let i = c.loop-spare_reals.invariant in
-    let s = c.step-poured.ensures in (
-      s.within,
-      (
-        λ w. i.1 _ (ends s (not-true _ c.if-not-poured.true) w),
-        λ w d. turns-short (λ n. (c.shared_slice_known-1.given n).fits) (i.1 _ (ends s (not-true _ c.if-not-poured.true) w)) d,
-      ),
-    )
+    let s = c.step-poured.ensures in record {
+      taken_in_bounds = s.within;
+      turns = λ w. i.1 _ (ends s (not-true _ c.if-not-poured.true) w);
+      bytes_len_bound = λ w d. turns-short (λ n. (c.type_inv.bytes n).fits) (i.1 _ (ends s (not-true _ c.if-not-poured.true) w)) d;
+    }
 
 pub loop-spare_reals-smaller : goal.loop-spare_reals-smaller
 loop-spare_reals-smaller c = let s = c.step-poured.ensures in

@@ -9,13 +9,10 @@ use Rattle.integrate.proofs.Turning.{stepped}
 use borrow.Author.Rules.{rules}
 use Rattle.integrate.proofs.step.Goals as goal
 
--- LOST add-t16 : tie.Need-overflow-add-t16
--- add-t16 c = omega (arith, c.before.before.before.before.before.before.before.before.before.before.before.before.requires, c.before.before.before.before.before.before.before.before.before.before.before.before.well-formed.1.0, simp (length-drop, length-take) at c.before.before.before.before.turn.ensures.1)
-
 pub returns : goal.returns
 returns c = let e : length c.args.spare_reals.now ≡ 2816 = omega (arith, c.turn-arg-5-1.given) in
     let f : length c.args.spare_counts.now ≡ 1344 = omega (arith, c.turn-arg-6-1.given) in
     stepped c.args.bytes.now c.args.last 2816 1344
     (place c.args.run c.args.from c.args.table.now (memory c.args.reals.now c.args.counts.now)) (said c.turn-turned.result) c.turn-turned.new.table
-    (memory c.turn-turned.new.reals c.turn-turned.new.counts) c.tell-written.result c.goes_on-goes.result (rw (e, f) at c.turn-turned.ensures.0)
-    c.turn-turned.ensures.1 c.requires c.goes_on-goes.ensures
+    (memory c.turn-turned.new.reals c.turn-turned.new.counts) c.tell-written.result c.goes_on-goes.result (rw (e, f) at c.turn-turned.ensures.counts_after)
+    c.turn-turned.ensures.taken_in_bounds c.requires c.goes_on-goes.ensures

@@ -5,12 +5,6 @@ use Rattle.integrate.proofs.Placing.{behind}
 use borrow.Author.Rules.{rules}
 use Rattle.integrate.proofs.lines.put_line.Goals as goal
 
--- LOST slice-aggregate-put-bytes : tie.Need-slice-aggregate-put-bytes
--- slice-aggregate-put-bytes c = search rules
-
--- LOST slice-aggregate-put-bytes-2 : tie.Need-slice-aggregate-put-bytes-2
--- slice-aggregate-put-bytes-2 c = search rules
-
 pub returns : goal.returns
 unfolding line_of
 returns c = (

@@ -5,15 +5,6 @@ use Rattle.integrate.proofs.Placing.{behind}
 use borrow.Author.Rules.{rules}
 use Rattle.integrate.proofs.lines.put_refusal.Goals as goal
 
--- LOST slice-aggregate-put-bytes : tie.Need-slice-aggregate-put-bytes
--- slice-aggregate-put-bytes c = search rules
-
--- LOST slice-aggregate-put-bytes-2 : tie.Need-slice-aggregate-put-bytes-2
--- slice-aggregate-put-bytes-2 c = search rules
-
--- LOST slice-aggregate-put-bytes-3 : tie.Need-slice-aggregate-put-bytes-3
--- slice-aggregate-put-bytes-3 c = search rules
-
 pub returns : goal.returns
 unfolding refusal_of
 returns c = (
