@@ -1,4 +1,6 @@
 // The root of a double from any guess, judged in whole numbers.
+#![tactic(auto)]
+
 mod digits;
 
 ghost use Rattle.std.specs.Prelude.{◌≡◌, T};

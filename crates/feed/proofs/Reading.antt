@@ -4,7 +4,6 @@ use Rattle.doubles.proofs.Truth.{both}
 use Rattle.plan.specs.Bounds.{Bytes}
 use Rattle.plan.proofs.Here.{pick}
 use Rattle.plan.proofs.Tables.{Words}
-use Rattle.feed.specs.declared.Phase.TheVariants as phase
 use Rattle.feed.specs.Said.{is_over_of}
 use Rattle.feed.specs.Fields.{is_sample, row_from}
 use Rattle.feed.specs.Turns.{TurnEnd, turn_of}

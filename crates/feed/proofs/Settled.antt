@@ -1,6 +1,6 @@
 -- Reading a plan off bytes with others behind them: what was settled stays. A refusal other than 1 is settled, and so is a plan with
 -- something behind it.
-use Rattle.std.proofs.Common.{◌≡◌, ℕ, zero, suc, ◌+◌, ◌-◌, ◌*◌, ◌/◌, ◌<◌, ◌≤◌, Bool, true, false, cond, not, eqb, ltb, leb, List, ◌∷◌, ◌++◌, length, get_or, sym, refl, ap, ◌∙◌, subst, arith, length-append, ltb-false, ltb-true, eq-eqb, eqb-true, le-leb, leb-true}
+use Rattle.std.proofs.Common.{◌≡◌, ℕ, zero, suc, ◌+◌, ◌*◌, ◌/◌, ◌<◌, ◌≤◌, Bool, true, false, cond, not, eqb, ltb, leb, List, ◌∷◌, ◌++◌, length, get_or, sym, refl, ap, ◌∙◌, subst, arith, length-append, ltb-false, ltb-true, eq-eqb, eqb-true, le-leb, leb-true}
 use borrow.Author.Tests.{eqb-false}
 use lib.ListN.{get_or-append, get_or-eq_default}
 use Rattle.plan.specs.declared.Place.{Place}

@@ -1,6 +1,7 @@
 // Grids in lent memory: the library's public calls, each handed on from the crate that has it, and the records that they take and give.
 // specs/ says what the three demands on them are, on the model's grids and on lent memory; proofs/ has each as a theorem.
 #![tactic(auto)]
+
 pub use lent::{Batched, Coordinates, Drawing, Drawn, Region, Sample};
 pub use merges::{is_mergeable, merge};
 pub use quiet::{

@@ -36,8 +36,6 @@ use Rattle.lent.proofs.Renewals.{within_all}
 use Rattle.lent.proofs.Updates.{standing-ready, read_axes, updates-below, updates-above, updated-axes, updates-holding}
 use Rattle.lent.proofs.FoundedOwn.{Within, within_same, within_on, stored-within}
 use Rattle.lent.proofs.Turns.{Turned, no-either, child_after, children_after}
-use Rattle.plan.specs.Plan.{axes}
-use Rattle.plan.specs.Needs.{after}
 
 -- ---- an accumulator
 

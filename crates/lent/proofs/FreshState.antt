@@ -24,7 +24,7 @@ use Rattle.plan.specs.Needs.{after, untaken, needs_of}
 use Rattle.plan.proofs.Plans.{plan-was-plan, read-passes}
 use Rattle.plan.proofs.Records.{passed-stands}
 use Rattle.model.specs.Axes.{AxesPlan, fresh_axis, fresh_axes}
-use Rattle.model.specs.Grid.{Grid, axes, bins, grid, fresh_bin, fresh_bins, fresh_head, fresh_grid}
+use Rattle.model.specs.Grid.{Grid, axes, fresh_bin, fresh_bins, fresh_head, fresh_grid}
 use Rattle.model.specs.Sound.{sound, formed_axis_list, kept_axis_list, formed_grid, formed_bins, formed_child, kept_grid, kept_bins, kept_child}
 use Rattle.lent.specs.Memory.{Memory}
 use Rattle.lent.specs.Tree.{axes_plan_at, child_in, AxesLaid, Laid}

@@ -16,7 +16,7 @@ use Rattle.plan.specs.Paper as plan
 use Rattle.plan.specs.Calls.{sizes_of}
 use Rattle.plan.proofs.Tables.{Words}
 use Rattle.model.specs.Sound.{sound}
-use Rattle.doubles.specs.Paper.{Paper, gives, refuses}
+use Rattle.doubles.specs.Paper.{Paper, refuses}
 use Rattle.lent.specs.Memory.{record_at}
 use Rattle.lent.specs.Tree.{axes_grid_at, head_at, Laid}
 use Rattle.lent.specs.State.{root_of, own_of, judged_by, judged_to, fault_by, state_fault, fault_to_by, fault_to, both_judged, second_by, first_by, pair_fault}

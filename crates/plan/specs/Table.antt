@@ -1,5 +1,5 @@
 -- The table that a plan is written to. Grids stand in plan order, a parent before its children; a grid is one run.
-use Rattle.std.specs.Prelude.{ℕ, ◌+◌, ◌-◌, cond, List, [], ◌∷◌, ◌++◌, get_or, eqb}
+use Rattle.std.specs.Prelude.{ℕ, ◌-◌, cond, List, [], ◌∷◌, ◌++◌, get_or, eqb}
 use Rattle.plan.specs.declared.Place.{Place}
 use Rattle.plan.specs.declared.Tally.{Tally}
 use Rattle.plan.specs.declared.AxesPlan.{AxesPlan}

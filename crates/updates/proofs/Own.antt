@@ -4,7 +4,7 @@ use mathlib.Core.Bool.{Bool, true, false, not, ◌&&◌, ◌||◌, or-false, and
 use mathlib.Core.List.{List, ◌∷◌, ◌++◌, append-nil}
 use Prim.Native.Nat.{ℕ, zero, suc, ◌+◌, ◌-◌, ◌*◌, ◌≤◌, ◌<◌}
 use native.Mathlib.Omega.{arith}
-use borrow.Author.Tests.{ne_eqb, not-false}
+use borrow.Author.Tests.{ne_eqb}
 use lib.ListN.{length, get_or, take, drop, set}
 use lib.Seq.{take_all}
 use lib.Ieee.{Float, nan, eq}

@@ -2,7 +2,6 @@
 use native.Mathlib.Omega.{arith}
 use borrow.Author.Tests.{lt-ltb, le-ltb}
 use Rattle.answers.specs.List.{digit_of}
-use borrow.Author.Rules.{rules}
 use Rattle.answers.proofs.digit.Goals as goal
 
 pub returns-then-glyph-lt48 : goal.returns-then-glyph-lt48

@@ -3,7 +3,6 @@ use mathlib.Core.Path.{◌≡◌, refl, sym, ◌∙◌}
 use mathlib.Core.Bool.{true}
 use lib.Ieee.{Float, nan, inf, fin, is_nan, binary64, of_bits, div}
 use lib.Ieee.Bits.{nan_bits_is}
-use borrow.Author.Rules.{rules}
 use Rattle.answers.proofs.double.Goals as goal
 
 -- there is one NaN

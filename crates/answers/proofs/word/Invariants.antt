@@ -1,12 +1,8 @@
 -- The digits read so far, followed by those left, spell the word; k digits make less than 2^(4k), so nothing overflows.
-use native.Mathlib.Omega.{arith}
-use native.Mathlib.Nat.{add-zero}
-use mathlib.Core.Path.{◌≡◌, sym, ap, ◌∙◌}
-use Prim.Native.Nat.{ℕ, ◌+◌, ◌-◌, ◌*◌, ◌^◌, ◌≤◌, ◌<◌}
+use mathlib.Core.Path.{◌≡◌}
+use Prim.Native.Nat.{◌+◌, ◌-◌, ◌*◌, ◌^◌, ◌≤◌, ◌<◌}
 use lib.ListN.{length, take, drop}
-use borrow.Author.Tests.{le-leb, lt-leb}
-use Rattle.answers.specs.List.{value_of, words_of, word_of}
-use Rattle.answers.proofs.Digits.{value_on, digits-below, digits-fit}
+use Rattle.answers.specs.List.{value_of}
 use Rattle.answers.proofs.word.Given as goal
 
 abbrev pub invariant-loop-done : goal.invariant-loop-done

@@ -1,5 +1,4 @@
 -- The words that are left to draw fall, and the index below `count` has room for one more.
-use borrow.Author.Rules.{rules}
 use Prim.Native.Nat.{◌-◌, ◌≤◌}
 use Rattle.bench.proofs.stream_words.Given as goal
 

@@ -4,7 +4,6 @@ use Prim.Native.Nat.{ℕ, ◌+◌, ◌*◌, ◌/◌, ◌^◌, ◌≤◌, ◌<◌
 use native.Mathlib.Omega.{arith}
 use lib.Dec.{T}
 use lib.Ieee.{binary64, fits}
-use borrow.Author.Rules.{rules}
 use Rattle.doubles.specs.Split.{Split}
 use Rattle.doubles.proofs.Bits.{no_nan, no-nan-bits, splits}
 use Rattle.careful.proofs.Roots.{root-bits}

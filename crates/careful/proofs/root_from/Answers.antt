@@ -7,7 +7,6 @@ use mathlib.Core.Bool.{true, false, true≢false, false≢true}
 use lib.IntN.{pos}
 use lib.Ieee.{Float, nan, inf, fin, binary64, up, down, of_bits, le, div}
 use lib.Ieee.Positive.{positive}
-use borrow.Author.Rules.{rules}
 use borrow.Author.Tests.{lt-ltb}
 use Rattle.doubles.specs.Numbers.{zero64}
 use Rattle.careful.specs.Root.{root_of}

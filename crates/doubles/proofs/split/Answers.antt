@@ -1,5 +1,4 @@
 -- `split` is its definition, branch by branch. Assumes nothing.
-use borrow.Author.Rules.{rules}
 use borrow.Author.Tests.{lt-ltb, le-ltb}
 use Rattle.doubles.specs.Split.{split_of}
 use Rattle.doubles.proofs.split.Goals as goal

@@ -1,5 +1,5 @@
 -- The phase decides.
-use Rattle.std.proofs.Common.{sym, ap, rules}
+use Rattle.std.proofs.Common.{sym, ap}
 use Rattle.feed.specs.Said.{is_over_in, is_over_of}
 use Rattle.feed.proofs.is_over.Goals as goal
 

@@ -1,5 +1,5 @@
 -- What is due decides, and no turn takes more bytes than there are.
-use Rattle.std.proofs.Common.{ap, arith, rules}
+use Rattle.std.proofs.Common.{ap, arith}
 use Rattle.feed.specs.Said.{Said}
 use Rattle.lent.specs.Memory.{memory}
 use Rattle.feed.specs.Turns.{turn_end, turn_by}

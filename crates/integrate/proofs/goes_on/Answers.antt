@@ -1,5 +1,4 @@
 -- `goes_on`: its two tests are those of the definition.
-use borrow.Author.Rules.{rules}
 use borrow.Author.Tests.{eq-eqb, ne_eqb}
 use Rattle.integrate.specs.Pouring.{goes_on}
 use Rattle.integrate.proofs.goes_on.Goals as goal

@@ -1,10 +1,7 @@
 -- `integrate`: the bytes held lie within the text, and the reads that are left fall.
-use Prim.Native.Nat.{◌<◌}
-use mathlib.Core.Path.{◌≡◌, refl}
+use mathlib.Core.Path.{refl}
 use native.Mathlib.Omega.{arith}
-use borrow.Author.Rules.{rules}
 use borrow.Author.Tests.{not-false}
-use lib.ListN.{length}
 use Rattle.integrate.proofs.integrate.Goals as goal
 
 pub loop-left-init : goal.loop-left-init

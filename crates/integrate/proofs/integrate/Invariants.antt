@@ -1,9 +1,6 @@
 -- `integrate`: the bytes held lie within the text, and the reads that are left fall.
 use Prim.Native.Nat.{◌<◌}
-use mathlib.Core.Path.{◌≡◌, refl}
-use native.Mathlib.Omega.{arith}
-use borrow.Author.Rules.{rules}
-use borrow.Author.Tests.{not-false}
+use mathlib.Core.Path.{◌≡◌}
 use lib.ListN.{length}
 use Rattle.integrate.proofs.integrate.Given as goal
 

@@ -1,8 +1,8 @@
 -- `keep` moves the bytes one by one; the invariant: those done stand at the front, and those from there on are as they were.
-use Prim.Native.Nat.{◌+◌, ◌-◌, ◌≤◌}
+use Prim.Native.Nat.{◌-◌}
 use mathlib.Core.Path.{◌≡◌, refl}
 use native.Mathlib.Omega.{arith}
-use lib.ListN.{length, take, drop, length-set}
+use lib.ListN.{length-set}
 use Rattle.integrate.proofs.Placing.{move-behind, move-next}
 use Rattle.integrate.proofs.keep.Goals as goal
 

@@ -1,9 +1,7 @@
 -- `keep` moves the bytes one by one; the invariant: those done stand at the front, and those from there on are as they were.
 use Prim.Native.Nat.{◌+◌, ◌-◌, ◌≤◌}
-use mathlib.Core.Path.{◌≡◌, refl}
-use native.Mathlib.Omega.{arith}
-use lib.ListN.{length, take, drop, length-set}
-use Rattle.integrate.proofs.Placing.{move-behind, move-next}
+use mathlib.Core.Path.{◌≡◌}
+use lib.ListN.{length, take, drop}
 use Rattle.integrate.proofs.keep.Given as goal
 
 abbrev pub invariant-loop-done : goal.invariant-loop-done

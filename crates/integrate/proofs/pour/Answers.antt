@@ -1,10 +1,6 @@
 -- `pour`: each turn that goes on takes a byte at least, so that the bytes left fall.
-use Prim.Native.Nat.{◌-◌, ◌≤◌}
 use native.Mathlib.Omega.{arith}
 use borrow.Author.Tests.{not-true, not-false}
-use lib.ListN.{length}
-use Rattle.lent.specs.Memory.{memory}
-use Rattle.integrate.specs.Pouring.{Place, place, Turns}
 use Rattle.integrate.proofs.Full.{turns-short}
 use Rattle.integrate.proofs.Turning.{ends, onward}
 use Rattle.integrate.proofs.pour.Goals as goal

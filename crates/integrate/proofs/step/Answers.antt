@@ -1,12 +1,11 @@
 -- `step`: the place behind the turn lies within the bytes, and where it goes on the turn took some.
 use mathlib.Core.Path.{◌≡◌}
 use native.Mathlib.Omega.{arith}
-use lib.ListN.{length, length-drop, length-take}
+use lib.ListN.{length}
 use Rattle.lent.specs.Memory.{memory}
 use Rattle.feed.specs.Said.{said}
 use Rattle.integrate.specs.Pouring.{place}
 use Rattle.integrate.proofs.Turning.{stepped}
-use borrow.Author.Rules.{rules}
 use Rattle.integrate.proofs.step.Goals as goal
 
 pub returns : goal.returns

@@ -6,7 +6,6 @@ use Rattle.lent.specs.State.{root_of, pair_fault}
 use Rattle.lent.specs.Calls.{mergeable_of}
 use Rattle.lent.proofs.States.{pair-clear, stopped, went_on}
 use Rattle.lent.proofs.Matches.{mergeable-kept, mergeable-else}
-use borrow.Author.Rules.{rules}
 use Rattle.merges.proofs.is_mergeable.Goals as goal
 
 pub returns-then-refused-ne0 : goal.returns-then-refused-ne0

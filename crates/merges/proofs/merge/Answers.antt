@@ -11,7 +11,6 @@ use Rattle.lent.specs.United.{united_grid}
 use Rattle.lent.specs.Calls.{state_end, united_by, merge_into_of}
 use Rattle.lent.proofs.States.{pair-clear, stopped, went_on}
 use Rattle.lent.proofs.Unites.{merge-refused, merge-given}
-use borrow.Author.Rules.{rules}
 use Rattle.merges.proofs.merge.Goals as goal
 
 pub returns-then-refused-ne0 : goal.returns-then-refused-ne0

@@ -1,5 +1,5 @@
 -- `count` is the cast where that is exact, else std's nearest double. Assumes nothing.
-use Rattle.std.proofs.Common.{refl, le→leb, rules}
+use Rattle.std.proofs.Common.{refl, le→leb}
 use lib.Ieee.{in_float}
 use Rattle.doubles.specs.Count.{count_of}
 use Rattle.plain.proofs.count.Goals as goal

@@ -5,7 +5,6 @@ use mathlib.Core.Bool.{true, false}
 use lib.Dec.{T}
 use lib.Ieee.{Float, binary64, fits, minus, of_bits, div}
 use lib.Ieee.Positive.{positive}
-use borrow.Author.Rules.{rules}
 use Rattle.doubles.specs.Numbers.{zero64}
 use Rattle.doubles.specs.Split.{Split}
 use Rattle.doubles.proofs.Truth.{was, failed, passed}

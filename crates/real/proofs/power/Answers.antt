@@ -8,7 +8,6 @@ use lib.IntN.{ℤ, pos, negsuc, neg_ℤ}
 use lib.Dec.{T, lt→ltb}
 use lib.Ieee.{Float, nan, inf, fin, binary64, minus, of_bits, of_int, le, neg, add, sub, mul, div}
 use lib.Ieee.Positive.{positive}
-use borrow.Author.Rules.{rules}
 use Rattle.doubles.specs.Numbers.{zero64, half64}
 use Rattle.doubles.specs.Bound.{Within}
 use Rattle.doubles.specs.Count.{count_of}

@@ -1,11 +1,9 @@
 -- `recut::gather` meets its contract: what is gathered, and what the rest of both lists will give, stay the whole.
-use mathlib.Core.Path.{◌≡◌, refl, sym, ◌∙◌}
-use mathlib.Core.List.{◌++◌}
-use Prim.Native.Nat.{zero-le, ◌-◌, ◌≤◌}
-use borrow.Author.Tests.{ltb-true, ltb-false}
-use lib.ListN.{length, take, drop, length-set}
+use mathlib.Core.Path.{refl, sym, ◌∙◌}
+use Prim.Native.Nat.{zero-le, ◌≤◌}
+use borrow.Author.Tests.{ltb-true}
+use lib.ListN.{length, length-set}
 use lib.Ieee.{nan, binary64, add}
-use Rattle.recut.specs.Pairs.{pairwise}
 use Rattle.recut.specs.Gather.{gathered_of}
 use Rattle.recut.proofs.Pairs.{pairs_next, pairs-done, pairs-out}
 use native.Mathlib.Omega.{arith}

@@ -1,13 +1,10 @@
 -- `recut::gather_counts` meets its contract: what is joined, and what the rest of both lists will give, stay the whole.
-use mathlib.Core.Path.{◌≡◌, refl, sym, ◌∙◌}
+use mathlib.Core.Path.{◌≡◌}
 use mathlib.Core.List.{◌++◌}
-use Prim.Native.Nat.{zero-le, ◌-◌, ◌≤◌}
-use borrow.Author.Tests.{ltb-true, ltb-false}
-use lib.ListN.{length, take, drop, length-set}
+use Prim.Native.Nat.{◌-◌, ◌≤◌}
+use lib.ListN.{length, take, drop}
 use Rattle.recut.specs.Pairs.{pairwise}
-use Rattle.recut.specs.Gather.{joined_count, joined_counts}
-use Rattle.recut.proofs.Pairs.{pairs_next, pairs-done, pairs-out}
-use native.Mathlib.Omega.{arith}
+use Rattle.recut.specs.Gather.{joined_count}
 use Rattle.recut.proofs.gather_counts.Given as goal
 
 abbrev pub invariant-loop-i : goal.invariant-loop-i

@@ -1,10 +1,8 @@
 -- `recut::reaches` meets its contract: the whole reaches the least where the rest of the counters reaches the rest of it.
-use mathlib.Core.Path.{◌≡◌, refl, sym, ◌∙◌}
-use Prim.Native.Nat.{zero-le, ◌-◌, ◌≤◌}
+use mathlib.Core.Path.{◌≡◌}
+use Prim.Native.Nat.{◌-◌, ◌≤◌}
 use lib.ListN.{length, drop}
 use Rattle.recut.specs.Gather.{reaches_of}
-use Rattle.recut.proofs.Counts.{reaches-next, reaches-now, reaches_end}
-use native.Mathlib.Omega.{arith}
 use Rattle.recut.proofs.reaches.Given as goal
 
 abbrev pub invariant-loop-i : goal.invariant-loop-i

@@ -1,5 +1,5 @@
 -- Every input takes words of the list, so that the loop ends and no sum wraps.
-use Rattle.std.proofs.Common.{◌-◌, arith, rules}
+use Rattle.std.proofs.Common.{◌-◌}
 use Rattle.replay_program.proofs.replay.Given as goal
 
 abbrev pub invariant-loop-at : goal.invariant-loop-at

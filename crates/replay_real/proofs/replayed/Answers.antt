@@ -1,5 +1,5 @@
 -- `replayed` counts its turns down. Assumes nothing.
-use Rattle.std.proofs.Common.{◌≤◌, arith, rules}
+use Rattle.std.proofs.Common.{arith}
 use Rattle.replay_real.proofs.replayed.Goals as goal
 
 pub loop-turns-init : goal.loop-turns-init

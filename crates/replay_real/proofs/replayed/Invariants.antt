@@ -1,5 +1,5 @@
 -- `replayed` counts its turns down. Assumes nothing.
-use Rattle.std.proofs.Common.{◌≤◌, arith, rules}
+use Rattle.std.proofs.Common.{◌≤◌}
 use Rattle.replay_real.proofs.replayed.Given as goal
 
 abbrev pub invariant-loop-turns : goal.invariant-loop-turns

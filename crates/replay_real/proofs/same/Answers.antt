@@ -1,5 +1,5 @@
 -- `same`: what equals itself is no NaN. Assumes nothing.
-use Rattle.std.proofs.Common.{◌≡◌, false, not, T, sym, ◌∙◌, true≢false, rules}
+use Rattle.std.proofs.Common.{◌≡◌, false, not, T, sym, ◌∙◌, true≢false}
 use lib.Ieee.{Float, nan, inf, fin, ne, is_nan}
 use lib.Ieee.Compare.{nan_differs}
 use Rattle.replay_real.proofs.same.Goals as goal

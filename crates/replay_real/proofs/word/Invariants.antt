@@ -1,5 +1,5 @@
 -- `word` reads 16 bytes, which the line has from `at` on. Assumes nothing.
-use Rattle.std.proofs.Common.{◌-◌, ◌≤◌, arith, rules}
+use Rattle.std.proofs.Common.{◌-◌, ◌≤◌}
 use Rattle.replay_real.proofs.word.Given as goal
 
 abbrev pub invariant-loop-i : goal.invariant-loop-i

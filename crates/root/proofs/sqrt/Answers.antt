@@ -1,5 +1,5 @@
 -- `sqrt`: a guess that passes the test is the root; else the judge answers. Assumes nothing.
-use Rattle.std.proofs.Common.{◌≡◌, true, T, refl, rules}
+use Rattle.std.proofs.Common.{◌≡◌, true, T, refl}
 use lib.Ieee.{binary64, fits, lt}
 use Rattle.doubles.specs.Numbers.{zero64}
 use Rattle.doubles.proofs.Truth.{was, passed}

@@ -3,7 +3,7 @@ use mathlib.Core.Path.{sym, ap, ap₂, ◌∙◌}
 use Prim.Native.Nat.{ℕ}
 use native.Mathlib.Omega.{arith}
 use Rattle.doubles.specs.Paper.{gives}
-use Rattle.model.specs.Draw.{Drawing, draw_grid}
+use Rattle.model.specs.Draw.{draw_grid}
 use Rattle.lent.specs.declared.Drawing as laid
 use Rattle.lent.specs.State.{root_of, state_fault}
 use Rattle.lent.specs.Calls.{drawn_as, draw_of}

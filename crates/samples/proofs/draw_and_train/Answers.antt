@@ -3,7 +3,6 @@ use mathlib.Core.Path.{sym, ◌∙◌}
 use Rattle.lent.specs.Memory.{memory}
 use Rattle.lent.proofs.Batches.{batch-refused, batch-runs}
 use native.Mathlib.Omega.{arith}
-use borrow.Author.Rules.{rules}
 use Rattle.samples.proofs.draw_and_train.Goals as goal
 
 pub shape_of-reals-then-refused-ne0 : goal.shape_of-reals-then-refused-ne0

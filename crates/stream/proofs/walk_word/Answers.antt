@@ -1,6 +1,6 @@
 -- The walk over the bits from `bit` on, from where it stands, stays the walk over all 64.
 use Rattle.stream.proofs.Walks.{walk-on}
-use Rattle.std.proofs.Common.{◌≡◌, ◌+◌, ◌-◌, ◌≤◌, sym, refl, ap, ◌∙◌, arith, rules}
+use Rattle.std.proofs.Common.{◌≡◌, ◌+◌, ◌-◌, sym, refl, ap, ◌∙◌, arith}
 use Rattle.stream.specs.Jumps.{walk_bits}
 use Rattle.stream.proofs.walk_word.Goals as goal
 

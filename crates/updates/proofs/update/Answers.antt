@@ -5,7 +5,6 @@ use Rattle.lent.specs.Memory.{memory}
 use Rattle.lent.specs.Calls.{state_end}
 use Rattle.lent.proofs.States.{sizes-planned}
 use Rattle.lent.proofs.Spares.{update-planned, update-strayed}
-use borrow.Author.Rules.{rules}
 use Rattle.updates.proofs.update.Goals as goal
 
 pub update_state-requires : goal.update_state-requires

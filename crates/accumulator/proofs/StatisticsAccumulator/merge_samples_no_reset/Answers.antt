@@ -3,9 +3,6 @@ use Rattle.doubles.proofs.Truth.{failed, passed}
 use Rattle.accumulator.proofs.Counts.{counts_of_lem}
 use Rattle.accumulator.specs.Calls.{paper_changed, merge_of}
 use mathlib.Core.Path.{sym}
-use Rattle.accumulator.proofs.StatisticsAccumulator.merge_samples_no_reset.Statement.{
-  statement,
-}
 use Rattle.accumulator.proofs.StatisticsAccumulator.merge_samples_no_reset.Goals as goal
 
 pub returns-then-not-is_well_formed : goal.returns-then-not-is_well_formed

@@ -1,6 +1,5 @@
 -- What the iteration comes to names the refusal, or is what the record after it is made of.
 use mathlib.Core.Path.{◌≡◌, sym, ◌∙◌}
-use mathlib.Core.Logic.{inl, inr}
 use Rattle.accumulator.specs.Update.{enough}
 use Rattle.accumulator.specs.Calls.{paper_updated, update_of}
 use Rattle.accumulator.specs.Ended.{ended_of}

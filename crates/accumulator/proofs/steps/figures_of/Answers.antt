@@ -1,12 +1,10 @@
 -- The number is the refusal's on either way to it, and the figures are asked for only where there are some.
 use mathlib.Core.Path.{◌≡◌, sym, ◌∙◌, ap}
-use mathlib.Core.Logic.{inl, inr}
 use mathlib.Core.Bool.{Bool, true, false}
-use borrow.Author.Tests.{not-false, eqb-true}
+use borrow.Author.Tests.{eqb-true}
 use lib.Dec.{eqb}
 use lib.Ieee.{binary64, add}
 use Rattle.doubles.specs.Count.{count_of}
-use Rattle.accumulator.specs.declared.StatisticsAccumulator.{StatisticsAccumulator}
 use Rattle.accumulator.specs.Record.{bounded_counts}
 use Rattle.accumulator.specs.Update.{enough, figures_of, figures_for}
 use Rattle.accumulator.specs.Ended.{tallied_of, refusal_of, ended_of}

@@ -5,7 +5,6 @@ use Rattle.accumulator.proofs.Counts.{within}
 use Rattle.accumulator.proofs.Processed.{judged-before}
 use Rattle.accumulator.specs.Record.{raised}
 use Rattle.accumulator.specs.Update.{enough, updated_of}
-use borrow.Author.Rules.{rules}
 use Rattle.accumulator.proofs.steps.moved.Goals as goal
 
 pub overflow_add-r : goal.overflow_add-r

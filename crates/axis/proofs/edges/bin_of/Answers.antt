@@ -3,8 +3,8 @@ use lib.Ieee.{nan, lt}
 use lib.ListN.{get_or}
 use Rattle.axis.proofs.Lists.{kept_small}
 use native.Mathlib.Omega.{arith}
-use mathlib.Core.Path.{◌≡◌, refl, sym, ap, ◌∙◌}
-use Prim.Native.Nat.{ℕ, ◌+◌, ◌-◌, ◌/◌, ◌<◌}
+use mathlib.Core.Path.{refl, sym, ap, ◌∙◌}
+use Prim.Native.Nat.{ℕ, ◌+◌, ◌-◌, ◌/◌}
 use lib.ListN.{length}
 use Rattle.axis.specs.Edges.{bins_of}
 use Rattle.axis.specs.Search.{searched, search_of}

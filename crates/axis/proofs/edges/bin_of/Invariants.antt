@@ -1,14 +1,8 @@
 -- The search from `base` over `size` bins stays the whole search; each halving is one step of it, and the size falls.
-use lib.Ieee.{nan, lt}
-use lib.ListN.{get_or}
-use Rattle.axis.proofs.Lists.{kept_small}
-use native.Mathlib.Omega.{arith}
-use mathlib.Core.Path.{◌≡◌, refl, sym, ap, ◌∙◌}
-use Prim.Native.Nat.{ℕ, ◌+◌, ◌-◌, ◌/◌, ◌<◌}
+use mathlib.Core.Path.{◌≡◌}
+use Prim.Native.Nat.{◌+◌, ◌<◌}
 use lib.ListN.{length}
-use Rattle.axis.specs.Edges.{bins_of}
 use Rattle.axis.specs.Search.{searched, search_of}
-use Rattle.axis.proofs.Searches.{search-on, search-out}
 use Rattle.axis.proofs.edges.bin_of.Given as goal
 
 abbrev pub invariant-loop-size : goal.invariant-loop-size

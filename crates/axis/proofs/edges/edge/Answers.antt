@@ -4,7 +4,6 @@ use mathlib.Core.Path.{sym}
 use lib.ListN.{get_or-eq_default}
 use lib.Ieee.{div, of_bits}
 use native.Mathlib.Omega.{arith}
-use borrow.Author.Rules.{rules}
 use Rattle.axis.proofs.edges.edge.Goals as goal
 
 pub offset_bounds-edges-i : goal.offset_bounds-edges-i

@@ -1,16 +1,10 @@
 -- The edges written, with the even ones still to come, are all of them; each write makes the next, and the places left fall.
-use native.Mathlib.Omega.{arith}
-use mathlib.Core.Path.{◌≡◌, refl, sym, ap, ap₂, ◌∙◌}
-use mathlib.Core.List.{◌++◌, append-nil}
-use native.Mathlib.Numerals.{unary_clauses}
-use Prim.Native.Nat.{◌+◌, ◌-◌, ◌≤◌}
-use lib.ListN.{length, take, set, length-set}
-use lib.Seq.{take_all}
-use lib.Ieee.{Float, nan, binary64, div}
+use mathlib.Core.Path.{◌≡◌}
+use mathlib.Core.List.{◌++◌}
+use Prim.Native.Nat.{◌-◌, ◌≤◌}
+use lib.ListN.{length, take}
 use Rattle.doubles.specs.Count.{count_of}
 use Rattle.axis.specs.Edges.{bins_of, even_from}
-use Rattle.axis.proofs.Lists.{write-next}
-use Rattle.axis.proofs.Fresh.{even-next}
 use Rattle.axis.proofs.edges.lay_even.Given as goal
 
 abbrev pub invariant-loop-i : goal.invariant-loop-i

@@ -9,7 +9,6 @@ use Rattle.doubles.specs.Count.{count_of}
 use Rattle.doubles.proofs.Truth.{both}
 use Rattle.axis.specs.Edges.{bins_of, width_of}
 use Rattle.axis.proofs.Points.{guessed}
-use borrow.Author.Rules.{rules}
 use Rattle.axis.proofs.edges.spot_near.Goals as goal
 use Rattle.axis.proofs.edges.spot_near.Goals.{Then-guess-last}
 

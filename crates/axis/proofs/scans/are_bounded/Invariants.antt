@@ -1,11 +1,9 @@
 -- The answer so far and that for the counts not yet read make the answer for all; the places left fall.
-use native.Mathlib.Omega.{arith}
-use mathlib.Core.Path.{◌≡◌, refl, sym, ◌∙◌}
+use mathlib.Core.Path.{◌≡◌}
 use mathlib.Core.Bool.{◌&&◌}
 use Prim.Native.Nat.{◌-◌}
 use lib.ListN.{length, drop}
 use Rattle.axis.specs.Scans.{all_bounded}
-use Rattle.axis.proofs.Lists.{bounded-on, bounded-out}
 use Rattle.axis.proofs.scans.are_bounded.Given as goal
 
 abbrev pub invariant-loop-k : goal.invariant-loop-k

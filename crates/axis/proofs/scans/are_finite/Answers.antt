@@ -1,9 +1,9 @@
 -- `ok`, and all finite from place k on, is the answer at every turn; past the end nothing is left.
 use native.Mathlib.Omega.{arith}
-use mathlib.Core.Path.{◌≡◌, refl, sym, ap, ◌∙◌}
+use mathlib.Core.Path.{refl, sym, ap, ◌∙◌}
 use mathlib.Core.Bool.{Bool, ◌&&◌}
-use Prim.Native.Nat.{◌+◌, ◌-◌}
-use lib.ListN.{length, drop}
+use Prim.Native.Nat.{◌+◌}
+use lib.ListN.{drop}
 use Rattle.doubles.specs.Total.{all_finite}
 use Rattle.axis.proofs.Lists.{finite-on, finite-out}
 use Rattle.axis.proofs.scans.are_finite.Goals as goal

@@ -1,11 +1,9 @@
 -- `ok`, and all finite from place k on, is the answer at every turn; past the end nothing is left.
-use native.Mathlib.Omega.{arith}
-use mathlib.Core.Path.{◌≡◌, refl, sym, ap, ◌∙◌}
-use mathlib.Core.Bool.{Bool, ◌&&◌}
-use Prim.Native.Nat.{◌+◌, ◌-◌}
+use mathlib.Core.Path.{◌≡◌}
+use mathlib.Core.Bool.{◌&&◌}
+use Prim.Native.Nat.{◌-◌}
 use lib.ListN.{length, drop}
 use Rattle.doubles.specs.Total.{all_finite}
-use Rattle.axis.proofs.Lists.{finite-on, finite-out}
 use Rattle.axis.proofs.scans.are_finite.Given as goal
 
 abbrev pub invariant-loop-k : goal.invariant-loop-k

@@ -1,10 +1,6 @@
 -- `ok`, and rising from edge k - 1 on, is the answer at every turn, which compares one more pair of neighbours.
 use native.Mathlib.Omega.{arith}
-use mathlib.Core.Path.{◌≡◌, refl, sym, ◌∙◌}
-use mathlib.Core.Bool.{◌&&◌}
-use Prim.Native.Nat.{◌-◌, ◌≤◌}
-use lib.ListN.{length, drop}
-use Rattle.axis.specs.Edges.{rising}
+use mathlib.Core.Path.{refl, sym, ◌∙◌}
 use Rattle.axis.proofs.Lists.{rising-on, rising-out}
 use Rattle.axis.proofs.scans.is_rising.Goals as goal
 

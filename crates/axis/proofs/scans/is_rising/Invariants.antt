@@ -1,11 +1,9 @@
 -- `ok`, and rising from edge k - 1 on, is the answer at every turn, which compares one more pair of neighbours.
-use native.Mathlib.Omega.{arith}
-use mathlib.Core.Path.{◌≡◌, refl, sym, ◌∙◌}
+use mathlib.Core.Path.{◌≡◌}
 use mathlib.Core.Bool.{◌&&◌}
 use Prim.Native.Nat.{◌-◌, ◌≤◌}
 use lib.ListN.{length, drop}
 use Rattle.axis.specs.Edges.{rising}
-use Rattle.axis.proofs.Lists.{rising-on, rising-out}
 use Rattle.axis.proofs.scans.is_rising.Given as goal
 
 abbrev pub invariant-loop-k : goal.invariant-loop-k

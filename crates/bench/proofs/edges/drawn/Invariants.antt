@@ -1,5 +1,4 @@
 -- The room keeps its 65 edges, and the draws that are left fall.
-use borrow.Author.Rules.{rules}
 use Prim.Native.Nat.{◌-◌, ◌≤◌}
 use lib.ListN.{length}
 use mathlib.Core.Path.{◌≡◌}

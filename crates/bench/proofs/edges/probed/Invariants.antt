@@ -1,5 +1,4 @@
 -- The index stays within `count`, so that it does not overflow and the probes left fall; the room stays 65 edges long.
-use borrow.Author.Rules.{rules}
 use Prim.Native.Nat.{◌-◌, ◌≤◌}
 use lib.ListN.{length}
 use mathlib.Core.Path.{◌≡◌}

@@ -1,5 +1,4 @@
 -- The counter stays within its bound.
-use borrow.Author.Rules.{rules}
 use Prim.Native.Nat.{◌-◌, ◌≤◌}
 use Rattle.bench.proofs.grids.drawn.Given as goal
 

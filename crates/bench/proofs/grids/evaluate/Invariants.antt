@@ -1,5 +1,4 @@
 -- The places that are left fall.
-use borrow.Author.Rules.{rules}
 use Prim.Native.Nat.{◌-◌, ◌≤◌}
 use Rattle.bench.proofs.grids.evaluate.Given as goal
 

@@ -1,5 +1,4 @@
 -- The index is at most `count`, so the logarithms that are left fall.
-use borrow.Author.Rules.{rules}
 use Prim.Native.Nat.{◌-◌, ◌≤◌}
 use Rattle.bench.proofs.kernels.logged.Given as goal
 

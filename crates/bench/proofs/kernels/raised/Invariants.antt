@@ -1,5 +1,4 @@
 -- Each power takes one from what is left of `count`, which bounds the index.
-use borrow.Author.Rules.{rules}
 use Prim.Native.Nat.{◌-◌, ◌≤◌}
 use Rattle.bench.proofs.kernels.raised.Given as goal
 

@@ -1,5 +1,4 @@
 -- The roots that are left fall, and the index never passes `count`.
-use borrow.Author.Rules.{rules}
 use Prim.Native.Nat.{◌-◌, ◌≤◌}
 use Rattle.bench.proofs.kernels.rooted.Given as goal
 

@@ -1,9 +1,7 @@
 -- The writes keep the length.
-use borrow.Author.Rules.{rules}
 use native.Mathlib.Omega.{arith}
-use Prim.Native.Nat.{◌-◌, ◌≤◌}
-use lib.ListN.{length, length-set}
-use mathlib.Core.Path.{◌≡◌, refl}
+use lib.ListN.{length-set}
+use mathlib.Core.Path.{refl}
 use Rattle.bench.proofs.plans.write_tree.Goals as goal
 
 pub loop-i-init : goal.loop-i-init

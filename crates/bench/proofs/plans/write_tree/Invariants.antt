@@ -1,9 +1,7 @@
 -- The writes keep the length.
-use borrow.Author.Rules.{rules}
-use native.Mathlib.Omega.{arith}
 use Prim.Native.Nat.{◌-◌, ◌≤◌}
-use lib.ListN.{length, length-set}
-use mathlib.Core.Path.{◌≡◌, refl}
+use lib.ListN.{length}
+use mathlib.Core.Path.{◌≡◌}
 use Rattle.bench.proofs.plans.write_tree.Given as goal
 
 abbrev pub invariant-loop-i : goal.invariant-loop-i

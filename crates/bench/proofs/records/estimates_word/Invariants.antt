@@ -1,5 +1,4 @@
 -- The estimates that are left fall.
-use borrow.Author.Rules.{rules}
 use Prim.Native.Nat.{◌-◌, ◌≤◌}
 use Rattle.bench.proofs.records.estimates_word.Given as goal
 

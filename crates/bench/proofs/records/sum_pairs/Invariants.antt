@@ -1,5 +1,4 @@
 -- The pairs that are left fall.
-use borrow.Author.Rules.{rules}
 use Prim.Native.Nat.{◌-◌, ◌≤◌}
 use Rattle.bench.proofs.records.sum_pairs.Given as goal
 

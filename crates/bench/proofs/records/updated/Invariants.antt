@@ -1,5 +1,4 @@
 -- The counter stays within its bound, and the remainders within the lists.
-use borrow.Author.Rules.{rules}
 use Prim.Native.Nat.{◌-◌, ◌≤◌}
 use Rattle.bench.proofs.records.updated.Given as goal
 

@@ -1,5 +1,4 @@
 -- The index never passes the text's end; a space that is found lies before it, so the place behind it is within the text.
-use borrow.Author.Rules.{rules}
 use Prim.Native.Nat.{◌-◌, ◌≤◌}
 use lib.ListN.{length}
 use Rattle.bench.proofs.request.behind_space.Given as goal

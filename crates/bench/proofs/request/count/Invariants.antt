@@ -1,5 +1,4 @@
 -- A value that takes another digit has at most 17 of them, so that it fits a word; the bytes left fall.
-use borrow.Author.Rules.{rules}
 use Prim.Native.Nat.{◌-◌, ◌≤◌}
 use lib.ListN.{length}
 use Rattle.bench.proofs.request.count.Given as goal

@@ -4,7 +4,6 @@ use Prim.Native.Nat.{ℕ, ◌+◌, ◌-◌, ◌*◌, ◌/◌, ◌^◌, ◌≤◌
 use native.Mathlib.Omega.{arith}
 use mathlib.Core.Bool.{Bool, ◌&&◌, true≢false}
 use lib.Dec.{leb, ltb}
-use borrow.Author.Rules.{rules}
 use borrow.Author.Tests.{leb-true, ltb-true, le-leb, lt-ltb}
 use Rattle.careful.specs.Digits.{Words, NearRoot, Tells}
 use Rattle.doubles.proofs.Truth.{both}

@@ -3,7 +3,6 @@ use mathlib.Core.Path.{◌≡◌, sym, subst}
 use mathlib.Core.Bool.{Bool, true, not}
 use lib.Dec.{T}
 use lib.Ieee.{Float, is_nan, le}
-use borrow.Author.Rules.{rules}
 use Rattle.doubles.proofs.Order.{le_left}
 use Rattle.careful.proofs.digits.leading.Goals as goal
 

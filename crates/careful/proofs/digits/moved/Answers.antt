@@ -4,7 +4,6 @@ use mathlib.Core.Path.{◌≡◌}
 use Prim.Native.Nat.{ℕ, suc, ◌+◌, ◌-◌, ◌*◌, ◌^◌, ◌≤◌, ◌<◌}
 use native.Mathlib.Nat.{lt_of_not-le}
 use native.Mathlib.Omega.{arith}
-use borrow.Author.Rules.{rules}
 use Rattle.careful.specs.Digits.{Words, NearRoot, Wrong, Closer}
 use Rattle.careful.proofs.Judge.{near_of, near-root, too-low, too-high}
 use Rattle.careful.proofs.digits.moved.Goals as goal

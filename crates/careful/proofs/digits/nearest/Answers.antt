@@ -1,7 +1,5 @@
 -- `nearest` stops where the judge accepts, and each step on the way comes closer to the nearest. Assumes nothing.
-use Prim.Native.Nat.{◌+◌, ◌-◌, ◌^◌, ◌≤◌, ◌<◌}
 use native.Mathlib.Omega.{arith}
-use borrow.Author.Tests.{not-true, not-false}
 use Rattle.careful.proofs.Judge.{near_of, near-root}
 use Rattle.careful.proofs.digits.nearest.Goals as goal
 

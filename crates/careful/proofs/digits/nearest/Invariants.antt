@@ -1,8 +1,6 @@
 -- `nearest` stops where the judge accepts, and each step on the way comes closer to the nearest. Assumes nothing.
 use Prim.Native.Nat.{◌+◌, ◌-◌, ◌^◌, ◌≤◌, ◌<◌}
-use native.Mathlib.Omega.{arith}
-use borrow.Author.Tests.{not-true, not-false}
-use Rattle.careful.proofs.Judge.{near_of, near-root}
+use Rattle.careful.proofs.Judge.{near_of}
 use Rattle.careful.proofs.digits.nearest.Given as goal
 
 abbrev pub invariant-loop-q : goal.invariant-loop-q

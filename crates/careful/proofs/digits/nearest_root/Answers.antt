@@ -1,7 +1,6 @@
 -- `nearest_root`: the judge takes any guess. Assumes nothing.
 use Prim.Native.Nat.{◌+◌, ◌*◌}
 use native.Mathlib.Omega.{arith}
-use borrow.Author.Rules.{rules}
 use Rattle.careful.specs.Digits.{Radicand}
 use Rattle.careful.proofs.Roots.{radicand}
 use Rattle.careful.proofs.digits.nearest_root.Goals as goal

@@ -1,5 +1,5 @@
 -- What is gathered, with the row from here on behind it, is the whole row.
-use Rattle.std.proofs.Common.{◌≡◌, ◌-◌, ◌≤◌, ◌++◌, length, take, refl, ap, ◌∙◌, arith, length-set}
+use Rattle.std.proofs.Common.{◌≡◌, ◌-◌, length, refl, ap, ◌∙◌, arith, length-set}
 use Rattle.doubles.proofs.Truth.{failed, passed}
 use Rattle.feed.specs.Fields.{row_from}
 use Rattle.feed.proofs.Rows.{sample-whole, row-stop, row-full, row_next}

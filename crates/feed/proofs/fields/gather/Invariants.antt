@@ -1,8 +1,6 @@
 -- What is gathered, with the row from here on behind it, is the whole row.
-use Rattle.std.proofs.Common.{◌≡◌, ◌-◌, ◌≤◌, ◌++◌, length, take, refl, ap, ◌∙◌, arith, length-set}
-use Rattle.doubles.proofs.Truth.{failed, passed}
+use Rattle.std.proofs.Common.{◌≡◌, ◌-◌, ◌≤◌, ◌++◌, length, take}
 use Rattle.feed.specs.Fields.{row_from}
-use Rattle.feed.proofs.Rows.{sample-whole, row-stop, row-full, row_next}
 use Rattle.feed.proofs.fields.gather.Given as goal
 
 abbrev pub invariant-loop-many : goal.invariant-loop-many

@@ -1,5 +1,5 @@
 -- The three tests in order.
-use Rattle.std.proofs.Common.{◌+◌, length, get_or, rules, eq-eqb, ne_eqb, le-leb}
+use Rattle.std.proofs.Common.{◌+◌, length, get_or, eq-eqb, ne_eqb, le-leb}
 use borrow.Author.Tests.{lt-leb}
 use Rattle.feed.specs.Fields.{is_sample}
 use Rattle.feed.proofs.fields.is_sample.Goals as goal

@@ -1,5 +1,5 @@
 -- The ladder, rung by rung.
-use Rattle.std.proofs.Common.{◌+◌, length, get_or, sym, ◌∙◌, rules, le-ltb, lt-ltb, eq-eqb, ne_eqb}
+use Rattle.std.proofs.Common.{◌+◌, length, get_or, sym, ◌∙◌, le-ltb, lt-ltb, eq-eqb, ne_eqb}
 use Rattle.plan.specs.Numbers.{number_at}
 use Rattle.feed.specs.Fields.{standing_of}
 use Rattle.feed.proofs.fields.stands.Goals as goal

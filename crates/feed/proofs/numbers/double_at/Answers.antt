@@ -1,5 +1,5 @@
 -- The bits are the number of eight bytes.
-use Rattle.std.proofs.Common.{ap, ◌∙◌, rules}
+use Rattle.std.proofs.Common.{ap, ◌∙◌}
 use lib.Ieee.{binary64, of_bits}
 use Rattle.feed.specs.Fields.{double_at}
 use Rattle.feed.proofs.numbers.double_at.Goals as goal

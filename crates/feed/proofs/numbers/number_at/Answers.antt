@@ -1,6 +1,5 @@
 -- From the highest byte down, the value is the number that the bytes from `left` on spell.
-use Rattle.std.proofs.Common.{◌≡◌, ℕ, ◌+◌, ◌-◌, ◌*◌, ◌≤◌, ap, ◌∙◌, arith, rules}
-use Rattle.plan.specs.Numbers.{number_at}
+use Rattle.std.proofs.Common.{ℕ, ◌+◌, ◌-◌, ◌*◌, ap, ◌∙◌, arith}
 use Rattle.feed.proofs.Spelling.{number-none, number-all, number_more, room-for-more}
 use Rattle.feed.proofs.numbers.number_at.Goals as goal
 

@@ -1,7 +1,6 @@
 -- From the highest byte down, the value is the number that the bytes from `left` on spell.
-use Rattle.std.proofs.Common.{◌≡◌, ℕ, ◌+◌, ◌-◌, ◌*◌, ◌≤◌, ap, ◌∙◌, arith, rules}
+use Rattle.std.proofs.Common.{◌≡◌, ◌+◌, ◌-◌, ◌≤◌}
 use Rattle.plan.specs.Numbers.{number_at}
-use Rattle.feed.proofs.Spelling.{number-none, number-all, number_more, room-for-more}
 use Rattle.feed.proofs.numbers.number_at.Given as goal
 
 abbrev pub invariant-loop-left : goal.invariant-loop-left

@@ -1,5 +1,5 @@
 -- The ladder, rung by rung; of a fresh grid what it answers.
-use Rattle.std.proofs.Common.{sym, ap, ◌∙◌, length-take-le, rules}
+use Rattle.std.proofs.Common.{sym, ap, ◌∙◌, length-take-le}
 use Rattle.feed.specs.Said.{Said, refusing_at}
 use Rattle.plan.specs.Paper.{paper_read}
 use Rattle.lent.specs.Calls.{fresh_end}

@@ -1,5 +1,5 @@
 -- What was measured decides, and a plan ends within the bytes.
-use Rattle.std.proofs.Common.{arith, rules}
+use Rattle.std.proofs.Common.{arith}
 use Rattle.feed.proofs.Rungs.{found_inside, plan-unread, plan-found}
 use Rattle.feed.proofs.planning.read_plan.Goals as goal
 

@@ -1,7 +1,7 @@
 -- The test, then the refusal.
 use Rattle.feed.specs.Said.{Said, refusing_at}
 use Rattle.feed.specs.Turns.{unread_of}
-use Rattle.std.proofs.Common.{ap, ◌∙◌, rules}
+use Rattle.std.proofs.Common.{ap, ◌∙◌}
 use Rattle.feed.proofs.planning.unread.Goals as goal
 
 pub returns-then-all-number : goal.returns-then-all-number

@@ -1,5 +1,5 @@
 -- Waiting, with nothing due any more.
-use Rattle.std.proofs.Common.{ap, ◌∙◌, rules}
+use Rattle.std.proofs.Common.{ap, ◌∙◌}
 use Rattle.feed.specs.Said.{waiting, ending}
 use Rattle.feed.proofs.saying.ends.Goals as goal
 

@@ -1,7 +1,6 @@
 -- The two sums are those of words.
 use Rattle.feed.specs.Said.{paper_told, going}
 use Rattle.stream.specs.Words.{plus}
-use Rattle.std.proofs.Common.{rules}
 use Rattle.feed.proofs.saying.goes_on.Goals as goal
 
 pub returns : goal.returns

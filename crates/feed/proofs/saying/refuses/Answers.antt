@@ -1,6 +1,5 @@
 -- The fields one by one.
 use Rattle.feed.specs.Said.{paper_told, refusing_at}
-use Rattle.std.proofs.Common.{rules}
 use Rattle.feed.proofs.saying.refuses.Goals as goal
 
 pub returns : goal.returns

@@ -1,5 +1,5 @@
 -- How the field stands decides.
-use Rattle.std.proofs.Common.{sym, ap, ◌∙◌, rules}
+use Rattle.std.proofs.Common.{sym, ap, ◌∙◌}
 use Rattle.feed.specs.Said.{Said}
 use Rattle.feed.proofs.Rungs.{refused-here}
 use Rattle.lent.specs.Memory.{memory}

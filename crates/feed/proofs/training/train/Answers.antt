@@ -1,5 +1,5 @@
 -- The batch decides, and trains no more than its evaluations.
-use Rattle.std.proofs.Common.{ap, arith, rules}
+use Rattle.std.proofs.Common.{ap, arith}
 use Rattle.lent.specs.Batched.{BatchEnd, batch_end}
 use Rattle.lent.specs.Memory.{memory}
 use Rattle.feed.proofs.Batches.{batch-done}

@@ -1,5 +1,5 @@
 -- What was gathered is the row.
-use Rattle.std.proofs.Common.{List, sym, ap, ◌∙◌, arith, length-take-le, rules}
+use Rattle.std.proofs.Common.{List, sym, ap, ◌∙◌, arith, length-take-le}
 use lib.Ieee.{Float}
 use Rattle.lent.specs.Memory.{memory}
 use Rattle.feed.specs.Fields.{row_from}

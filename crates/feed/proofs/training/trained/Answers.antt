@@ -1,6 +1,5 @@
 -- A refusal, or all trained.
 use Rattle.feed.proofs.Rungs.{trained-refused, trained-done}
-use Rattle.std.proofs.Common.{rules}
 use Rattle.feed.proofs.training.trained.Goals as goal
 
 pub returns-then-batched-ne0 : goal.returns-then-batched-ne0

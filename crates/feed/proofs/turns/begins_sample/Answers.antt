@@ -1,5 +1,5 @@
 -- A list reads as 0 past its end.
-use Rattle.std.proofs.Common.{arith, rules}
+use Rattle.std.proofs.Common.{arith}
 use lib.ListN.{get_or-eq_default}
 use Rattle.feed.proofs.turns.begins_sample.Goals as goal
 

@@ -1,5 +1,5 @@
 -- What `new` answers, by its two numbers.
-use Rattle.std.proofs.Common.{sym, rules}
+use Rattle.std.proofs.Common.{sym}
 use Rattle.feed.proofs.Rungs.{refused-here, made-refused, made-stream}
 use Rattle.feed.proofs.turns.make_stream.Goals as goal
 

@@ -1,5 +1,5 @@
 -- The ladder, rung by rung.
-use Rattle.std.proofs.Common.{sym, ◌∙◌, rules}
+use Rattle.std.proofs.Common.{sym, ◌∙◌}
 use Rattle.feed.proofs.Rungs.{samples-end, samples-row, samples-update}
 use Rattle.feed.proofs.turns.read_samples.Goals as goal
 

@@ -1,5 +1,5 @@
 -- How the field stands decides, and a whole one has its bytes.
-use Rattle.std.proofs.Common.{sym, ◌∙◌, rules}
+use Rattle.std.proofs.Common.{sym, ◌∙◌}
 use Rattle.feed.proofs.Rungs.{refused-here}
 use Rattle.feed.proofs.Standings.{whole-there}
 use Rattle.feed.specs.Turns.{stream_by, stream_turn}

@@ -1,5 +1,5 @@
 -- How the field stands decides, and a whole one has its bytes.
-use Rattle.std.proofs.Common.{sym, ap, ◌∙◌, rules}
+use Rattle.std.proofs.Common.{sym, ap, ◌∙◌}
 use Rattle.feed.specs.Said.{Said}
 use Rattle.feed.proofs.Rungs.{refused-here}
 use Rattle.feed.proofs.Standings.{whole-there}

@@ -1,6 +1,5 @@
 -- What `summary` answers.
 use Rattle.feed.proofs.Rungs.{refused-here, report-refused, report-line}
-use Rattle.std.proofs.Common.{rules}
 use Rattle.feed.proofs.updating.report.Goals as goal
 
 pub returns-in-Refused : goal.returns-in-Refused

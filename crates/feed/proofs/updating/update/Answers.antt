@@ -2,7 +2,6 @@
 use Rattle.lent.specs.Calls.{state_end}
 use Rattle.lent.specs.Memory.{memory}
 use Rattle.feed.proofs.Rungs.{refused-here, renew-refused, renew-reports}
-use Rattle.std.proofs.Common.{rules}
 use Rattle.feed.proofs.updating.update.Goals as goal
 
 pub returns-then-refused-ne0 : goal.returns-then-refused-ne0

@@ -1,10 +1,8 @@
 -- `clearing::clear_counts` meets its contract: the cells written and the zeros still to come are all zeros.
-use mathlib.Core.Path.{◌≡◌, refl, sym, ◌∙◌}
+use mathlib.Core.Path.{◌≡◌}
 use mathlib.Core.List.{List, ◌++◌}
-use Prim.Native.Nat.{ℕ, zero-le, ◌-◌, ◌≤◌}
-use native.Mathlib.Omega.{arith}
-use lib.ListN.{length, take, drop, replicate, length-set, drop_of_length-le}
-use Rattle.recut.proofs.Writes.{rest-next, rest-done}
+use Prim.Native.Nat.{ℕ, ◌-◌, ◌≤◌}
+use lib.ListN.{length, take, drop, replicate}
 use Rattle.ground.proofs.clearing.clear_counts.Given as goal
 
 -- zeros for what is left

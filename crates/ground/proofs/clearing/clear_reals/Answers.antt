@@ -1,10 +1,9 @@
 -- `clearing::clear_reals` meets its contract: the cells written and the zeros still to come are all zeros.
-use mathlib.Core.Path.{◌≡◌, refl, sym, ◌∙◌}
-use mathlib.Core.List.{List, ◌++◌}
-use Prim.Native.Nat.{zero-le, ◌-◌, ◌≤◌}
+use mathlib.Core.Path.{refl, sym, ◌∙◌}
+use Prim.Native.Nat.{zero-le}
 use native.Mathlib.Omega.{arith}
-use lib.ListN.{length, take, drop, replicate, length-set, drop_of_length-le}
-use lib.Ieee.{Float, nan}
+use lib.ListN.{length-set, drop_of_length-le}
+use lib.Ieee.{nan}
 use Rattle.doubles.specs.Numbers.{zero64}
 use Rattle.recut.proofs.Writes.{rest-next, rest-done}
 use Rattle.ground.proofs.clearing.clear_reals.Invariants.{zeros}

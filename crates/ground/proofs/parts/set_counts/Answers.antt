@@ -1,9 +1,8 @@
 -- `parts::set_counts` meets its contract: what is written and what is still to come are the whole run.
 use mathlib.Core.Path.{◌≡◌, refl, sym, ◌∙◌}
-use Prim.Native.Nat.{◌+◌, ◌-◌, ◌≤◌}
+use Prim.Native.Nat.{◌+◌}
 use native.Mathlib.Omega.{arith}
-use lib.ListN.{length, drop, get_or, length-set}
-use lib.Seq.{sets}
+use lib.ListN.{length, get_or, length-set}
 use Rattle.doubles.proofs.Runs.{sets-out, sets-next, sets-done, ended}
 use Rattle.ground.proofs.parts.set_counts.Goals as goal
 

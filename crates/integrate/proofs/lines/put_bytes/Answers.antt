@@ -1,5 +1,5 @@
 -- `put_bytes` puts the bytes one by one; the invariant: so far those before `from`, then as many bytes as are done.
-use Prim.Native.Nat.{ℕ, ◌+◌, ◌-◌, ◌≤◌}
+use Prim.Native.Nat.{ℕ, ◌+◌}
 use mathlib.Core.Path.{◌≡◌, refl, ap, ◌∙◌}
 use mathlib.Core.List.{◌++◌, append-nil}
 use native.Mathlib.Omega.{arith}

@@ -1,11 +1,8 @@
 -- `put_bytes` puts the bytes one by one; the invariant: so far those before `from`, then as many bytes as are done.
-use Prim.Native.Nat.{ℕ, ◌+◌, ◌-◌, ◌≤◌}
-use mathlib.Core.Path.{◌≡◌, refl, ap, ◌∙◌}
-use mathlib.Core.List.{◌++◌, append-nil}
-use native.Mathlib.Omega.{arith}
-use lib.ListN.{length, take, length-set}
-use lib.Seq.{take-length}
-use Rattle.integrate.proofs.Placing.{put_next}
+use Prim.Native.Nat.{◌+◌, ◌-◌, ◌≤◌}
+use mathlib.Core.Path.{◌≡◌}
+use mathlib.Core.List.{◌++◌}
+use lib.ListN.{length, take}
 use Rattle.integrate.proofs.lines.put_bytes.Given as goal
 
 abbrev pub invariant-loop-done : goal.invariant-loop-done

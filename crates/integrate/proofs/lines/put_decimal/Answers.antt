@@ -2,7 +2,6 @@
 use mathlib.Core.Path.{◌∙◌}
 use native.Mathlib.Omega.{arith}
 use Rattle.integrate.proofs.Decimal.{decimal-few, decimal-is}
-use borrow.Author.Rules.{rules}
 use Rattle.integrate.proofs.lines.put_decimal.Goals as goal
 
 pub put_bytes-requires : goal.put_bytes-requires

@@ -7,7 +7,6 @@ use Rattle.integrate.specs.Lines.{double_of}
 use Rattle.integrate.proofs.Decimal.{hex-many}
 use Rattle.integrate.proofs.Placing.{blank-behind}
 use Rattle.io.specs.Digits.{last_digits}
-use borrow.Author.Rules.{rules}
 use Rattle.integrate.proofs.lines.put_double.Goals as goal
 
 pub put_bytes-requires : goal.put_bytes-requires

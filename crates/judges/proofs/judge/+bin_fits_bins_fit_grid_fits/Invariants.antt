@@ -1,26 +1,9 @@
 -- A bins grid asks one level lower, so the calls end; the bins judged so far, with those left, stay the answer for all.
-use mathlib.Core.Path.{◌≡◌, sym, ap, ap₂, ◌∙◌}
-use mathlib.Core.Bool.{Bool, ◌&&◌}
-use Prim.Native.Nat.{ℕ, ◌+◌, ◌-◌, ◌*◌, ◌≤◌}
-use native.Mathlib.Omega.{arith}
-use lib.ListN.{length, get_or}
-use Rattle.model.specs.Sound.{sound}
-use Rattle.lent.specs.Tree.{bin_in, bins_in, head_at, grid_at}
+use mathlib.Core.Path.{◌≡◌}
+use mathlib.Core.Bool.{◌&&◌}
+use Prim.Native.Nat.{◌+◌, ◌-◌, ◌*◌, ◌≤◌}
+use Rattle.lent.specs.Tree.{bins_in, grid_at}
 use Rattle.lent.specs.Judged.{sound_bins}
-use Rattle.lent.proofs.Laid.{laid-axes, laid-bins, laid-head}
-use Rattle.lent.proofs.Sounds.{sound-bins, bins-on, bins-out, child-none, child-grid, node-axes, node-bins}
-use Prim.Native.Nat.{ℕ, ◌<◌}
-use borrow.Fn.Kinds.{In}
-use borrow.Fn.PlainCycle.{Measures, is, falls, and}
-use Rattle.judges.proofs.judge.bin_fits.Reads as bin_fits
-use Rattle.judges.proofs.judge.bin_fits.Kinds as bin-fits-kinds
-use Rattle.judges.proofs.judge.bins_fit.Reads as bins-fit
-use Rattle.judges.proofs.judge.bins_fit.Kinds as bins-fit-kinds
-use Rattle.judges.proofs.judge.grid_fits.Reads as grid-fits
-use Rattle.judges.proofs.judge.grid_fits.Kinds as grid-fits-kinds
-use Rattle.judges.proofs.judge.is_sound.Reads as is-sound-reads
-use Rattle.judges.proofs.judge.axes_grid_fits.Reads as axes-grid-fits-reads
-use Rattle.judges.proofs.judge.is_chance.Reads as is-chance-reads
 use Rattle.judges.proofs.judge.+bin_fits_bins_fit_grid_fits.Given as goal
 
 abbrev pub decreases-bin_fits : goal.decreases-bin_fits

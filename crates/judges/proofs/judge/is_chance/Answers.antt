@@ -1,6 +1,5 @@
 -- Finite, which `plain::finite` tells, and above 0: the definition's two tests.
 use Rattle.model.specs.Sound.{chance}
-use borrow.Author.Rules.{rules}
 use Rattle.judges.proofs.judge.is_chance.Goals as goal
 
 pub returns : goal.returns

@@ -1,10 +1,6 @@
 -- What was found before and what is left stay the answer for the whole.
-use mathlib.Core.Path.{◌≡◌, refl, sym, ◌∙◌}
-use mathlib.Core.Bool.{◌&&◌}
-use Prim.Native.Nat.{◌-◌, ◌≤◌}
+use mathlib.Core.Path.{refl, sym, ◌∙◌}
 use native.Mathlib.Omega.{arith}
-use lib.Dec.{leb}
-use lib.ListN.{length, drop}
 use Rattle.lent.specs.Judged.{all_upto}
 use Rattle.lent.proofs.Rooms.{upto-on, upto-out}
 use Rattle.judges.proofs.judging.are_upto.Goals as goal

@@ -1,12 +1,10 @@
 -- What was found before and what is left stay the answer for the whole.
-use mathlib.Core.Path.{◌≡◌, refl, sym, ◌∙◌}
+use mathlib.Core.Path.{◌≡◌}
 use mathlib.Core.Bool.{◌&&◌}
 use Prim.Native.Nat.{◌-◌, ◌≤◌}
-use native.Mathlib.Omega.{arith}
 use lib.Dec.{leb}
 use lib.ListN.{length, drop}
 use Rattle.lent.specs.Judged.{all_upto}
-use Rattle.lent.proofs.Rooms.{upto-on, upto-out}
 use Rattle.judges.proofs.judging.are_upto.Given as goal
 
 abbrev pub invariant-loop-i : goal.invariant-loop-i

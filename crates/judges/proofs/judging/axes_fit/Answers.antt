@@ -7,7 +7,6 @@ use Rattle.doubles.proofs.Truth.{both, failed, passed}
 use Rattle.lent.specs.Layout.{axis_reals, axis_counts, roomy_axes}
 use Rattle.lent.specs.Judged.{all_upto, axes_fit_of}
 use Rattle.lent.proofs.Rooms.{axes-had, upto-had}
-use borrow.Author.Rules.{rules}
 use Rattle.judges.proofs.judging.axes_fit.Goals as goal
 use Rattle.judges.proofs.judging.axes_fit.Goals.{Else-not-room-are_upto}
 

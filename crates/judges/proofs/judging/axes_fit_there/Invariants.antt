@@ -1,12 +1,10 @@
 -- The axes judged so far, with those from `at` and `place` on, stay the answer for all; what room is left holds the rest.
-use mathlib.Core.Path.{◌≡◌, sym, ap, ◌∙◌}
-use mathlib.Core.Bool.{Bool, ◌&&◌}
+use mathlib.Core.Path.{◌≡◌}
+use mathlib.Core.Bool.{◌&&◌}
 use mathlib.Core.List.{◌∷◌}
 use Prim.Native.Nat.{◌+◌, ◌-◌, ◌*◌, ◌≤◌}
-use native.Mathlib.Omega.{arith}
 use lib.ListN.{length}
 use Rattle.lent.specs.Judged.{axes_fit}
-use Rattle.lent.proofs.Judges.{room_next, fit_on, fit-out}
 use Rattle.judges.proofs.judging.axes_fit_there.Given as goal
 
 abbrev pub invariant-loop-done : goal.invariant-loop-done

@@ -1,11 +1,9 @@
 -- A bin number that is listed is from 1 to `most`, so that the axis has room for what both scans read.
 use mathlib.Core.List.{◌∷◌}
-use borrow.Author.Tests.{not-true, not-false}
 use lib.ListN.{get_or}
 use Rattle.lent.specs.Judged.{axis_fits}
 use Rattle.lent.proofs.Judges.{listed-upto}
 use mathlib.Core.Path.{sym, ◌∙◌}
-use borrow.Author.Rules.{rules}
 use Rattle.judges.proofs.judging.axis_fits.Goals as goal
 
 pub returns-then-not-is_listed : goal.returns-then-not-is_listed

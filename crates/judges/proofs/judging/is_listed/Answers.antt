@@ -1,10 +1,6 @@
 -- Found so far, or listed from value i on, stays the answer; it begins with the comparison with `bins`.
-use mathlib.Core.Path.{◌≡◌, refl, sym, ◌∙◌}
-use mathlib.Core.Bool.{◌||◌}
-use Prim.Native.Nat.{◌-◌, ◌≤◌}
+use mathlib.Core.Path.{refl, sym, ◌∙◌}
 use native.Mathlib.Omega.{arith}
-use lib.ListN.{length, drop}
-use lib.Dec.{eqb}
 use Rattle.model.specs.Sound.{listed}
 use Rattle.lent.proofs.Judges.{listed-on, listed-out}
 use Rattle.judges.proofs.judging.is_listed.Goals as goal

@@ -1,7 +1,7 @@
 -- Each test is the code's branch; the plans are known, so their grids lie in the room that passed.
 use mathlib.Core.Path.{sym, ◌∙◌}
 use native.Mathlib.Omega.{arith}
-use borrow.Author.Tests.{lt-ltb, le-ltb, not-true, not-false}
+use borrow.Author.Tests.{lt-ltb, le-ltb}
 use lib.ListN.{length}
 use Rattle.lent.specs.State.{both_judged}
 use Rattle.lent.proofs.Laid.{root-laid}

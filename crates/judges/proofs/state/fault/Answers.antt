@@ -1,7 +1,6 @@
 -- The table's sizes decide: of a plan `judged` has the answer, and a table that is no plan's is 12.
 use mathlib.Core.Path.{sym}
 use Rattle.lent.proofs.States.{fault-planned, sizes-planned, fault-strayed}
-use borrow.Author.Rules.{rules}
 use Rattle.judges.proofs.state.fault.Goals as goal
 
 pub judged-requires : goal.judged-requires

@@ -1,7 +1,6 @@
 -- A plan's own answer is what its needs come to; any other table is refused.
 use mathlib.Core.Path.{sym}
 use Rattle.lent.proofs.States.{sizes-planned, fault-to-planned, fault-to-strayed}
-use borrow.Author.Rules.{rules}
 use Rattle.judges.proofs.state.fault_to.Goals as goal
 
 pub judged_to-requires : goal.judged_to-requires

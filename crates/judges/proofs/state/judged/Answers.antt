@@ -1,7 +1,7 @@
 -- Slices as long as the plan needs hold its grid (`root-laid`), so it can be judged; each test is the definition's.
 use mathlib.Core.Path.{sym, ◌∙◌}
 use native.Mathlib.Omega.{arith}
-use borrow.Author.Tests.{lt-ltb, le-ltb, not-true, not-false}
+use borrow.Author.Tests.{lt-ltb, le-ltb}
 use lib.ListN.{length}
 use Rattle.lent.specs.State.{judged_by}
 use Rattle.lent.proofs.Laid.{root-laid}

@@ -1,7 +1,7 @@
 -- Four tests for room in the definition's order; the first two put the source's grid within its slices, so it can be judged.
 use mathlib.Core.Path.{sym, ◌∙◌}
 use native.Mathlib.Omega.{arith}
-use borrow.Author.Tests.{lt-ltb, le-ltb, not-true, not-false}
+use borrow.Author.Tests.{lt-ltb, le-ltb}
 use lib.ListN.{length}
 use Rattle.lent.specs.State.{judged_to}
 use Rattle.lent.proofs.Laid.{root-laid}

@@ -1,7 +1,6 @@
 -- Only the first table decides: 12 where it is no plan's, else what `second_fault` says with its needs known.
 use mathlib.Core.Path.{sym}
 use Rattle.lent.proofs.States.{sizes-planned, first-planned, first-strayed}
-use borrow.Author.Rules.{rules}
 use Rattle.judges.proofs.state.pair_fault.Goals as goal
 
 pub second_fault-requires : goal.second_fault-requires

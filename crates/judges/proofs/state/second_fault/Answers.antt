@@ -1,7 +1,6 @@
 -- The other table's sizes decide: with both plans known `both_judged` answers, else it is 12.
 use mathlib.Core.Path.{sym}
 use Rattle.lent.proofs.States.{sizes-planned, second-planned, second-strayed}
-use borrow.Author.Rules.{rules}
 use Rattle.judges.proofs.state.second_fault.Goals as goal
 
 pub both_judged-requires : goal.both_judged-requires

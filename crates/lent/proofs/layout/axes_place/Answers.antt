@@ -2,7 +2,6 @@
 use mathlib.Core.Path.{sym, ◌∙◌}
 use Rattle.doubles.proofs.Truth.{passed, failed}
 use Rattle.lent.proofs.Places.{there, not_there, fits-known}
-use borrow.Author.Rules.{rules}
 use Rattle.lent.proofs.layout.axes_place.Goals as goal
 
 pub returns-then-not-holds_place : goal.returns-then-not-holds_place

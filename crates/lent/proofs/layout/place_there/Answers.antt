@@ -1,6 +1,5 @@
 -- The run's words, read one by one.
 use Rattle.lent.specs.Tree.{axes_place}
-use borrow.Author.Rules.{rules}
 use Rattle.lent.proofs.layout.place_there.Goals as goal
 
 pub returns : goal.returns

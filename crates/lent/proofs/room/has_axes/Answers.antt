@@ -3,7 +3,6 @@ use native.Mathlib.Omega.{arith}
 use borrow.Author.Tests.{le-leb, lt-leb}
 use Rattle.lent.specs.Layout.{axis_reals, axis_counts, roomy_axes}
 use Rattle.lent.proofs.Rooms.{few-axes}
-use borrow.Author.Rules.{rules}
 use Rattle.lent.proofs.room.has_axes.Goals as goal
 
 pub returns-then-most-gt1024 : goal.returns-then-most-gt1024

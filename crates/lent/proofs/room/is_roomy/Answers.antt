@@ -1,6 +1,5 @@
 -- Room for one axis is room for axes that are one.
 use Rattle.lent.specs.Laid.{roomy}
-use borrow.Author.Rules.{rules}
 use Rattle.lent.proofs.room.is_roomy.Goals as goal
 
 pub returns : goal.returns

@@ -1,7 +1,6 @@
 -- `joining::add_counts` meets its contract: the part comes back joined.
 use Rattle.recut.specs.Gather.{joined_count, joined_counts}
 use Rattle.lent.proofs.Joins.{joined}
-use borrow.Author.Rules.{rules}
 use Rattle.merges.proofs.joining.add_counts.Goals as goal
 
 pub returns : goal.returns

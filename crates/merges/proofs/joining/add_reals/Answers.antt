@@ -2,7 +2,6 @@
 use lib.Ieee.{binary64, add}
 use Rattle.recut.specs.Gather.{gathered_of}
 use Rattle.lent.proofs.Joins.{joined}
-use borrow.Author.Rules.{rules}
 use Rattle.merges.proofs.joining.add_reals.Goals as goal
 
 pub returns : goal.returns

@@ -1,13 +1,9 @@
 -- `joining::raise` meets its contract: what is raised, and what the rest of both lists will give, stay the whole.
-use mathlib.Core.Path.{◌≡◌, refl, sym, ◌∙◌}
+use mathlib.Core.Path.{◌≡◌}
 use mathlib.Core.List.{◌++◌}
-use Prim.Native.Nat.{zero-le, ◌-◌, ◌≤◌}
-use native.Mathlib.Omega.{arith}
-use borrow.Author.Tests.{ltb-true, ltb-false}
-use lib.ListN.{length, take, drop, length-set}
-use lib.Ieee.{nan}
+use Prim.Native.Nat.{◌-◌, ◌≤◌}
+use lib.ListN.{length, take, drop}
 use Rattle.recut.specs.Pairs.{pairwise}
-use Rattle.recut.proofs.Pairs.{pairs_next, pairs-done, pairs-out}
 use Rattle.lent.specs.Merged.{higher_of}
 use Rattle.merges.proofs.joining.raise.Given as goal
 

@@ -1,7 +1,6 @@
 -- `joining::raise_reals` meets its contract: the part comes back joined.
 use Rattle.lent.specs.Merged.{higher_of}
 use Rattle.lent.proofs.Joins.{joined}
-use borrow.Author.Rules.{rules}
 use Rattle.merges.proofs.joining.raise_reals.Goals as goal
 
 pub returns : goal.returns

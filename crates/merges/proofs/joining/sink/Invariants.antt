@@ -1,13 +1,9 @@
 -- `joining::sink` meets its contract: what is lowered, and what the rest of both lists will give, stay the whole.
-use mathlib.Core.Path.{◌≡◌, refl, sym, ◌∙◌}
+use mathlib.Core.Path.{◌≡◌}
 use mathlib.Core.List.{◌++◌}
-use Prim.Native.Nat.{zero-le, ◌-◌, ◌≤◌}
-use native.Mathlib.Omega.{arith}
-use borrow.Author.Tests.{ltb-true, ltb-false}
-use lib.ListN.{length, take, drop, length-set}
-use lib.Ieee.{nan}
+use Prim.Native.Nat.{◌-◌, ◌≤◌}
+use lib.ListN.{length, take, drop}
 use Rattle.recut.specs.Pairs.{pairwise}
-use Rattle.recut.proofs.Pairs.{pairs_next, pairs-done, pairs-out}
 use Rattle.lent.specs.Merged.{lower_of}
 use Rattle.merges.proofs.joining.sink.Given as goal
 

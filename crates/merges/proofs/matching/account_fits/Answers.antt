@@ -4,7 +4,6 @@ use Rattle.accumulator.specs.declared.StatisticsAccumulator.{StatisticsAccumulat
 use Rattle.accumulator.specs.Record.{well_formed}
 use Rattle.accumulator.specs.Steps.{merged_of}
 use Rattle.lent.proofs.Matches.{account-taken, account-refused}
-use borrow.Author.Rules.{rules}
 use Rattle.merges.proofs.matching.account_fits.Goals as goal
 
 pub returns-in-Record : goal.returns-in-Record

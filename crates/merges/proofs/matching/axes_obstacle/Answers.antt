@@ -10,7 +10,6 @@ use Rattle.lent.specs.Memory.{record_at}
 use Rattle.lent.proofs.Merges.{same_at, equal_at, fit_at}
 use mathlib.Core.Path.{◌≡◌, sym, ◌∙◌}
 use native.Mathlib.Omega.{arith}
-use borrow.Author.Tests.{not-true, not-false}
 use Rattle.lent.proofs.Matches.{axes-asked, shapes-differ, floors-differ, edges-differ, own-passes, axes-pass, none-differs, sound-kept, stands_at}
 use borrow.Author.Rules.{rules}
 use Rattle.merges.proofs.matching.axes_obstacle.Goals as goal

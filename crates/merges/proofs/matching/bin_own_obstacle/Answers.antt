@@ -3,7 +3,6 @@ use mathlib.Core.Path.{◌∙◌}
 use native.Mathlib.Omega.{arith}
 use lib.ListN.{length}
 use Rattle.merges.proofs.Places.{bin-there, bin-own, bins-told}
-use borrow.Author.Rules.{rules}
 use Rattle.merges.proofs.matching.bin_own_obstacle.Goals as goal
 
 pub account_fits-fits-requires : goal.account_fits-fits-requires

@@ -1,9 +1,8 @@
 -- `merging::are_bounded_with` meets its contract: what was found and what is left of both stretches stay the answer for the whole; no sum overflows.
 use native.Mathlib.Omega.{arith}
-use mathlib.Core.Path.{◌≡◌, refl, sym, ap, ◌∙◌}
+use mathlib.Core.Path.{refl, sym, ap, ◌∙◌}
 use mathlib.Core.Bool.{◌&&◌}
-use Prim.Native.Nat.{◌+◌, ◌-◌}
-use Rattle.lent.specs.Layout.{stretch}
+use Prim.Native.Nat.{◌+◌}
 use Prim.Native.Nat.{ℕ, ◌^◌, ◌≤◌}
 use borrow.Author.Tests.{leb-true}
 use lib.Dec.{leb}

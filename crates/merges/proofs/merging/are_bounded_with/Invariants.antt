@@ -1,14 +1,8 @@
 -- `merging::are_bounded_with` meets its contract: what was found and what is left of both stretches stay the answer for the whole; no sum overflows.
-use native.Mathlib.Omega.{arith}
-use mathlib.Core.Path.{◌≡◌, refl, sym, ap, ◌∙◌}
-use mathlib.Core.Bool.{◌&&◌}
-use Prim.Native.Nat.{◌+◌, ◌-◌}
+use mathlib.Core.Path.{◌≡◌}
+use Prim.Native.Nat.{◌-◌}
 use Rattle.lent.specs.Layout.{stretch}
-use Prim.Native.Nat.{ℕ, ◌^◌, ◌≤◌}
-use borrow.Author.Tests.{leb-true}
-use lib.Dec.{leb}
-use lib.ListN.{get_or}
-use Rattle.lent.proofs.Scans.{left_all, pair-next, pair-out, bounded_with, all_bounded_with, bounded-none, bounded-more, joined-sum, bounded_at}
+use Rattle.lent.proofs.Scans.{left_all, bounded_with, all_bounded_with, bounded-none, bounded-more}
 use Rattle.merges.proofs.merging.are_bounded_with.Given as goal
 
 abbrev pub invariant-loop-k : goal.invariant-loop-k

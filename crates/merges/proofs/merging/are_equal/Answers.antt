@@ -1,11 +1,9 @@
 -- `merging::are_equal` meets its contract: what was found and what is left of both stretches stay the answer for the whole.
 use native.Mathlib.Omega.{arith}
-use mathlib.Core.Path.{◌≡◌, refl, sym, ◌∙◌}
-use Prim.Native.Nat.{◌-◌}
-use Rattle.lent.specs.Layout.{stretch}
+use mathlib.Core.Path.{refl, sym, ◌∙◌}
 use lib.Ieee.{nan, eq}
 use Rattle.model.specs.Merge.{equal_all}
-use Rattle.lent.proofs.Scans.{left_all, pair-next, pair-out, equal-none, equal-more}
+use Rattle.lent.proofs.Scans.{pair-next, pair-out, equal-none, equal-more}
 use Rattle.merges.proofs.merging.are_equal.Goals as goal
 
 pub loop-k-init : goal.loop-k-init

@@ -1,11 +1,10 @@
 -- `merging::are_equal` meets its contract: what was found and what is left of both stretches stay the answer for the whole.
-use native.Mathlib.Omega.{arith}
-use mathlib.Core.Path.{◌≡◌, refl, sym, ◌∙◌}
+use mathlib.Core.Path.{◌≡◌}
 use Prim.Native.Nat.{◌-◌}
 use Rattle.lent.specs.Layout.{stretch}
 use lib.Ieee.{nan, eq}
 use Rattle.model.specs.Merge.{equal_all}
-use Rattle.lent.proofs.Scans.{left_all, pair-next, pair-out, equal-none, equal-more}
+use Rattle.lent.proofs.Scans.{left_all, equal-none, equal-more}
 use Rattle.merges.proofs.merging.are_equal.Given as goal
 
 abbrev pub invariant-loop-k : goal.invariant-loop-k

@@ -1,9 +1,8 @@
 -- `merging::are_finite_with` meets its contract: what was found and what is left of both stretches stay the answer for the whole.
 use native.Mathlib.Omega.{arith}
-use mathlib.Core.Path.{◌≡◌, refl, sym, ap, ◌∙◌}
+use mathlib.Core.Path.{refl, sym, ap, ◌∙◌}
 use mathlib.Core.Bool.{Bool, ◌&&◌}
-use Prim.Native.Nat.{◌+◌, ◌-◌}
-use Rattle.lent.specs.Layout.{stretch}
+use Prim.Native.Nat.{◌+◌}
 use lib.Ieee.{nan}
 use Rattle.lent.proofs.Scans.{left_all, pair-next, pair-out, finite_with, all_finite_with, finite-none, finite-more}
 use Rattle.merges.proofs.merging.are_finite_with.Goals as goal

@@ -1,11 +1,8 @@
 -- `merging::equal_edges` meets its contract: what was found and what is left of both grids stay the answer for them all.
-use native.Mathlib.Omega.{arith}
-use mathlib.Core.Path.{◌≡◌, refl, sym, ◌∙◌}
+use mathlib.Core.Path.{◌≡◌}
 use mathlib.Core.Bool.{true, ◌&&◌}
-use Rattle.lent.specs.Layout.{axis_reals, axis_counts}
 use Rattle.lent.specs.Drawn.{Stands}
-use Rattle.lent.proofs.First.{first, stands_on, one_less}
-use Rattle.lent.proofs.Merges.{same_at, equal_at, paired, pairs-on, equal_next, equal-out}
+use Rattle.lent.proofs.Merges.{same_at, equal_at}
 use Rattle.merges.proofs.merging.equal_edges.Given as goal
 
 abbrev pub invariant-loop-left : goal.invariant-loop-left

@@ -3,7 +3,6 @@ use native.Mathlib.Omega.{arith}
 use mathlib.Core.Path.{refl, sym}
 use Rattle.lent.specs.Layout.{axis_reals, axis_counts}
 use Rattle.lent.proofs.Kept.{kept-bounded, fits-columns}
-use borrow.Author.Rules.{rules}
 use Rattle.merges.proofs.merging.first_fits.Goals as goal
 
 pub bounds-counts-c : goal.bounds-counts-c

@@ -1,11 +1,9 @@
 -- `merging::merge_axes` meets its contract: what is left to merge on the memory now is all of it on the memory at entry.
-use mathlib.Core.Path.{◌≡◌, refl, sym, ◌∙◌}
-use Prim.Native.Nat.{◌≤◌}
+use mathlib.Core.Path.{refl, sym, ◌∙◌}
 use native.Mathlib.Omega.{arith}
 use lib.ListN.{length}
 use Rattle.lent.specs.Layout.{axis_reals, axis_counts}
 use Rattle.lent.specs.Memory.{memory}
-use Rattle.lent.specs.Merged.{merged_memory, Spaced}
 use Rattle.lent.proofs.First.{one_less}
 use Rattle.lent.proofs.Joins.{merged-next, merged-done}
 use Rattle.lent.proofs.Unites.{spaced-first, spaced-on}

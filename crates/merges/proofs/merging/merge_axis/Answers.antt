@@ -4,7 +4,6 @@ use native.Mathlib.Omega.{arith}
 use Rattle.lent.specs.Layout.{axis_counts}
 use Rattle.lent.specs.Memory.{memory}
 use Rattle.lent.proofs.Unites.{axis-full, axis-over, axis-joins}
-use borrow.Author.Rules.{rules}
 use Rattle.merges.proofs.merging.merge_axis.Goals as goal
 
 pub bounds-counts-place : goal.bounds-counts-place

@@ -2,7 +2,6 @@
 use native.Mathlib.Omega.{arith}
 use Rattle.lent.specs.Layout.{axis_counts}
 use Rattle.lent.specs.Merged.{merged_counts}
-use borrow.Author.Rules.{rules}
 use Rattle.merges.proofs.merging.merge_counts.Goals as goal
 
 pub add_counts-requires : goal.add_counts-requires

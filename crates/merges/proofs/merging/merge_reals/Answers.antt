@@ -2,7 +2,6 @@
 use native.Mathlib.Omega.{arith}
 use Rattle.lent.specs.Layout.{axis_reals}
 use Rattle.lent.specs.Merged.{merged_reals}
-use borrow.Author.Rules.{rules}
 use Rattle.merges.proofs.merging.merge_reals.Goals as goal
 
 pub add_reals-requires : goal.add_reals-requires

@@ -1,13 +1,10 @@
 -- `merging::merged_fit` meets its contract: what was found and what is left of both grids stay the answer for them all.
-use native.Mathlib.Omega.{arith}
-use mathlib.Core.Path.{◌≡◌, refl, sym, ◌∙◌}
+use mathlib.Core.Path.{◌≡◌}
 use mathlib.Core.Bool.{true, ◌&&◌}
-use Rattle.lent.specs.Layout.{axis_reals, axis_counts}
 use Rattle.lent.specs.Drawn.{Stands}
-use Rattle.lent.proofs.First.{first, stands_on, one_less}
 use Rattle.model.specs.Sound.{kept_axis_list}
 use Rattle.lent.specs.Drawn.{axes_at}
-use Rattle.lent.proofs.Merges.{same_at, fit_at, paired, pairs-on, kept-first, kept_on, fit_next, fit-out}
+use Rattle.lent.proofs.Merges.{same_at, fit_at}
 use Rattle.merges.proofs.merging.merged_fit.Given as goal
 
 abbrev pub invariant-loop-left : goal.invariant-loop-left

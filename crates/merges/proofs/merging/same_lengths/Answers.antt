@@ -1,11 +1,9 @@
 -- `merging::same_lengths` meets its contract: what was found and what is left of both grids stay the answer for them all.
 use native.Mathlib.Omega.{arith}
-use mathlib.Core.Path.{◌≡◌, refl, sym, ◌∙◌}
-use mathlib.Core.Bool.{◌&&◌}
+use mathlib.Core.Path.{refl, sym, ◌∙◌}
 use Rattle.lent.specs.Layout.{axis_reals, axis_counts}
-use Rattle.lent.specs.Drawn.{Stands}
 use Rattle.lent.proofs.First.{first, stands_on, one_less}
-use Rattle.lent.proofs.Merges.{same_at, same-differ, same_next, same_out}
+use Rattle.lent.proofs.Merges.{same-differ, same_next, same_out}
 use Rattle.merges.proofs.merging.same_lengths.Goals as goal
 
 pub returns-then-g-o : goal.returns-then-g-o

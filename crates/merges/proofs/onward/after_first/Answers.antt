@@ -2,7 +2,6 @@
 use mathlib.Core.Path.{refl}
 use Rattle.lent.specs.Layout.{axis_reals, axis_counts}
 use Rattle.lent.specs.Onward.{onward}
-use borrow.Author.Rules.{rules}
 use Rattle.merges.proofs.onward.after_first.Goals as goal
 
 pub returns : goal.returns

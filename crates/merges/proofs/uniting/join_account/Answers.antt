@@ -2,7 +2,6 @@
 use mathlib.Core.Path.{sym}
 use Rattle.lent.specs.Memory.{memory}
 use Rattle.lent.proofs.Unites.{record-joined, record-stays}
-use borrow.Author.Rules.{rules}
 use Rattle.merges.proofs.uniting.join_account.Goals as goal
 
 pub returns-in-Refused : goal.returns-in-Refused

@@ -1,10 +1,9 @@
 -- What is left to merge on the memory now is all of it on the memory after the grid's own accumulator.
 use mathlib.Core.Path.{◌≡◌, refl, sym, ◌∙◌}
-use Prim.Native.Nat.{◌+◌, ◌-◌, ◌≤◌}
+use Prim.Native.Nat.{◌+◌, ◌-◌}
 use native.Mathlib.Omega.{arith}
 use lib.ListN.{length, get_or}
 use Rattle.lent.specs.Memory.{memory}
-use Rattle.lent.specs.United.{united_bins}
 use Rattle.lent.proofs.Unites.{bins-next, bins-done, own-united}
 use Rattle.merges.proofs.Places.{bin-there, bin-united}
 use Rattle.merges.proofs.uniting.merge_own.Goals as goal

@@ -1,12 +1,9 @@
 -- What is left to merge on the memory now is all of it on the memory after the grid's own accumulator.
-use mathlib.Core.Path.{◌≡◌, refl, sym, ◌∙◌}
-use Prim.Native.Nat.{◌+◌, ◌-◌, ◌≤◌}
-use native.Mathlib.Omega.{arith}
-use lib.ListN.{length, get_or}
+use mathlib.Core.Path.{◌≡◌}
+use Prim.Native.Nat.{◌-◌, ◌≤◌}
+use lib.ListN.{length}
 use Rattle.lent.specs.Memory.{memory}
 use Rattle.lent.specs.United.{united_bins}
-use Rattle.lent.proofs.Unites.{bins-next, bins-done, own-united}
-use Rattle.merges.proofs.Places.{bin-there, bin-united}
 use Rattle.merges.proofs.uniting.merge_own.Given as goal
 
 abbrev pub invariant-loop-i : goal.invariant-loop-i

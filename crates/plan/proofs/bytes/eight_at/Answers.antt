@@ -1,7 +1,6 @@
 -- Two fours side by side are a number of eight bytes.
 use Rattle.plan.proofs.Numbers.{eight-bytes}
 use native.Mathlib.Omega.{arith}
-use borrow.Author.Rules.{rules}
 use Rattle.plan.proofs.bytes.eight_at.Goals as goal
 
 pub overflow_add-at : goal.overflow_add-at

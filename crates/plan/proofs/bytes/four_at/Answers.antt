@@ -1,7 +1,6 @@
 -- Two pairs side by side are a number of four bytes.
 use native.Mathlib.Omega.{arith}
 use Rattle.plan.proofs.Numbers.{four_bytes}
-use borrow.Author.Rules.{rules}
 use Rattle.plan.proofs.bytes.four_at.Goals as goal
 
 pub overflow_add-at : goal.overflow_add-at

@@ -1,7 +1,6 @@
 -- Each number is read where the definition reads it; no place wraps.
 use native.Mathlib.Omega.{arith}
 use Rattle.plan.specs.Fields.{axes_at}
-use borrow.Author.Rules.{rules}
 use Rattle.plan.proofs.fields.axes_at.Goals as goal
 
 pub overflow_add-at : goal.overflow_add-at

@@ -9,7 +9,6 @@ use borrow.Author.Tests.{ne_eqb}
 use Rattle.plan.specs.Fields.{axes_field}
 use Rattle.doubles.proofs.Truth.{failed, passed}
 use Rattle.plan.proofs.Here.{whole}
-use borrow.Author.Rules.{rules}
 use Rattle.plan.proofs.fields.axes_field.Goals as goal
 
 pub returns-then-not-is_formed : goal.returns-then-not-is_formed

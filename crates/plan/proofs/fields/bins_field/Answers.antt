@@ -5,7 +5,6 @@ use Rattle.plan.specs.Fields.{bins_field}
 use Rattle.doubles.proofs.Truth.{failed, passed}
 use Rattle.plan.proofs.Faults.{bins-fit}
 use native.Mathlib.Omega.{arith}
-use borrow.Author.Rules.{rules}
 use Rattle.plan.proofs.fields.bins_field.Goals as goal
 
 pub returns-then-not-is_formed : goal.returns-then-not-is_formed

@@ -4,7 +4,6 @@ use borrow.Author.Tests.{eq-eqb, ne_eqb, le-leb, lt-leb}
 use Rattle.plan.specs.Fields.{evolution_fault}
 use Rattle.doubles.proofs.Truth.{failed, passed}
 use Rattle.plan.proofs.Ranges.{scan-found, scan-failed}
-use borrow.Author.Rules.{rules}
 use Rattle.plan.proofs.fields.evolution_fault.Goals as goal
 
 pub returns-then-byte_at-ne2 : goal.returns-then-byte_at-ne2

@@ -1,7 +1,6 @@
 -- The tag picks the field.
 use borrow.Author.Tests.{eq-eqb, ne_eqb}
 use Rattle.plan.specs.Fields.{field_of}
-use borrow.Author.Rules.{rules}
 use Rattle.plan.proofs.fields.field_at.Goals as goal
 
 pub returns-then-tag-eq1 : goal.returns-then-tag-eq1

@@ -1,9 +1,8 @@
 -- The scan of the whole is the scan of what is left, with the largest value so far.
-use Prim.Native.Nat.{◌+◌, ◌-◌, ◌*◌}
 use native.Mathlib.Omega.{arith}
-use Rattle.plan.specs.Numbers.{number_at, values_at}
+use Rattle.plan.specs.Numbers.{values_at}
 use Rattle.doubles.proofs.Truth.{failed, passed}
-use Rattle.plan.proofs.Runs.{Scanning, scanning-from, scanning-all, scanning-out, scanning-next}
+use Rattle.plan.proofs.Runs.{scanning-from, scanning-all, scanning-out, scanning-next}
 use Rattle.plan.proofs.fields.most_in.Goals as goal
 
 pub loop-i-init : goal.loop-i-init

@@ -2,7 +2,6 @@
 use mathlib.Core.Path.{sym, ◌∙◌}
 use Rattle.plan.specs.Fields.{nothing_field}
 use native.Mathlib.Omega.{arith}
-use borrow.Author.Rules.{rules}
 use Rattle.plan.proofs.fields.nothing_field.Goals as goal
 
 pub overflow_add-result : goal.overflow_add-result

@@ -3,7 +3,6 @@ use mathlib.Core.Path.{sym, ◌∙◌}
 use native.Mathlib.Omega.{arith}
 use borrow.Author.Tests.{eq-eqb, ne_eqb}
 use Rattle.plan.specs.Fields.{values_in}
-use borrow.Author.Rules.{rules}
 use Rattle.plan.proofs.fields.values_in.Goals as goal
 
 pub overflow_add-at : goal.overflow_add-at

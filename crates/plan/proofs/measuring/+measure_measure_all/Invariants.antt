@@ -1,21 +1,8 @@
 -- The levels left fall; the answer for all children is the answer for those that are left.
-use Rattle.plan.proofs.Accepts.{step-inside}
 use Prim.Native.Nat.{◌+◌, ◌-◌}
-use mathlib.Core.Path.{sym, ◌∙◌}
-use native.Mathlib.Omega.{arith}
 use Rattle.plan.specs.Reading.{tree_of, from_bytes}
 use Rattle.plan.specs.Bounds.{Inside}
-use Rattle.plan.proofs.Here.{past-inside, deep}
-use Rattle.plan.proofs.Steps.{Walked, walked_from, walked_all, walked_next, walked_stop}
-use Rattle.plan.proofs.Measures.{measure-stop, measure-nothing, measure-axes, measure-bins}
-use Prim.Native.Nat.{ℕ, ◌<◌}
-use borrow.Fn.Kinds.{In}
-use borrow.Fn.PlainCycle.{Measures, is, falls, and}
-use Rattle.plan.proofs.measuring.measure.Reads as measure
-use Rattle.plan.proofs.measuring.measure.Kinds as measure-kinds
-use Rattle.plan.proofs.measuring.measure_all.Reads as measure-all
-use Rattle.plan.proofs.measuring.measure_all.Kinds as measure-all-kinds
-use Rattle.plan.proofs.fields.field_at.Reads as field-at-reads
+use Rattle.plan.proofs.Steps.{Walked}
 use Rattle.plan.proofs.measuring.+measure_measure_all.Given as goal
 
 abbrev pub decreases-measure : goal.decreases-measure

@@ -1,24 +1,9 @@
 -- The levels left fall; the answer for all children is the answer for those that are left.
-use Prim.Native.Nat.{◌+◌, ◌-◌, ◌*◌, ◌≤◌}
 use mathlib.Core.Path.{sym, ◌∙◌}
 use native.Mathlib.Omega.{arith}
-use Rattle.plan.specs.Reading.{tree_of}
-use Rattle.plan.specs.Walk.{child_of, from_table}
-use Rattle.plan.specs.Bounds.{Roomy}
-use Rattle.plan.proofs.Steps.{Walked, walked_from, walked_all, walked_next, walked_stop}
+use Rattle.plan.proofs.Steps.{walked_from, walked_all, walked_next, walked_stop}
 use Rattle.plan.proofs.Measures.{measure-stop, measure-nothing, measure-axes, measure-bins}
 use Rattle.plan.proofs.Rows.{past-roomy, deep-row, links-before, child-none, child-astray, child-there, known-roomy}
-use Prim.Native.Nat.{ℕ, ◌<◌}
-use borrow.Fn.Kinds.{In}
-use borrow.Fn.PlainCycle.{Measures, is, falls, and}
-use Rattle.plan.proofs.walking.known.Reads as known
-use Rattle.plan.proofs.walking.known.Kinds as known-kinds
-use Rattle.plan.proofs.walking.known_all.Reads as known-all
-use Rattle.plan.proofs.walking.known_all.Kinds as known-all-kinds
-use Rattle.plan.proofs.walking.linked.Reads as linked
-use Rattle.plan.proofs.walking.linked.Kinds as linked-kinds
-use Rattle.plan.proofs.walking.row_at.Reads as row-at-reads
-use Rattle.plan.proofs.walking.word_at.Reads as word-at-reads
 use Rattle.plan.proofs.walking.+known_known_all_linked.Goals as goal
 
 pub known-row_at-requires : goal.known-row_at-requires

@@ -7,7 +7,6 @@ use Rattle.plan.specs.Walk.{axes_at_word}
 use Rattle.doubles.proofs.Truth.{failed, passed}
 use Rattle.plan.proofs.Flags.{at_least}
 use Rattle.plan.proofs.Faults.{axes-free}
-use borrow.Author.Rules.{rules}
 use Rattle.plan.proofs.walking.axes_at_word.Goals as goal
 
 pub returns-then-not-is_placed : goal.returns-then-not-is_placed

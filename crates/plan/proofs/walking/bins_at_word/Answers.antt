@@ -4,7 +4,6 @@ use borrow.Author.Tests.{ne_eqb}
 use Rattle.plan.specs.Walk.{bins_at_word}
 use Rattle.doubles.proofs.Truth.{failed, passed}
 use Rattle.plan.proofs.Faults.{bins-fit}
-use borrow.Author.Rules.{rules}
 use Rattle.plan.proofs.walking.bins_at_word.Goals as goal
 
 pub returns-then-not-is_placed : goal.returns-then-not-is_placed

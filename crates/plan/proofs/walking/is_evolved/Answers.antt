@@ -3,7 +3,6 @@ use native.Mathlib.Omega.{arith}
 use borrow.Author.Tests.{lt-ltb, le-ltb, le-leb, lt-leb}
 use Rattle.plan.specs.Walk.{evolved}
 use Rattle.plan.proofs.Ranges.{scan-found, scan-failed, scan-most}
-use borrow.Author.Rules.{rules}
 use Rattle.plan.proofs.walking.is_evolved.Goals as goal
 
 pub returns-then-a-gt4294967295 : goal.returns-then-a-gt4294967295

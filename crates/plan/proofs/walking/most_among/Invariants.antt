@@ -1,10 +1,7 @@
 -- The scan of the whole is the scan of what is left, with the largest value so far.
 use Prim.Native.Nat.{◌+◌, ◌-◌}
-use native.Mathlib.Omega.{arith}
 use lib.ListN.{get_or}
-use Rattle.plan.specs.Numbers.{words_at}
-use Rattle.doubles.proofs.Truth.{failed, passed}
-use Rattle.plan.proofs.Runs.{Scanning, scanning-from, scanning-all, scanning-out, scanning-next}
+use Rattle.plan.proofs.Runs.{Scanning}
 use Rattle.plan.proofs.walking.most_among.Given as goal
 
 abbrev pub invariant-loop-i : goal.invariant-loop-i

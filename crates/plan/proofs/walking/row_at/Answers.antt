@@ -1,7 +1,6 @@
 -- The kind picks the record.
 use borrow.Author.Tests.{eq-eqb, ne_eqb}
 use Rattle.plan.specs.Walk.{row_of}
-use borrow.Author.Rules.{rules}
 use Rattle.plan.proofs.walking.row_at.Goals as goal
 
 pub returns-then-kind-eq1 : goal.returns-then-kind-eq1

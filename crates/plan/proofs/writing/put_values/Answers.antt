@@ -1,8 +1,7 @@
 -- What is stored and what is left to store are the whole run.
-use Prim.Native.Nat.{◌+◌, ◌-◌, ◌*◌}
 use native.Mathlib.Omega.{arith}
-use Rattle.plan.specs.Numbers.{number_at, values_at}
-use Rattle.plan.proofs.Runs.{Copying, copying-from, copying-all, copying-next}
+use Rattle.plan.specs.Numbers.{values_at}
+use Rattle.plan.proofs.Runs.{copying-from, copying-all, copying-next}
 use Rattle.plan.proofs.writing.put_values.Goals as goal
 
 pub loop-i-init : goal.loop-i-init

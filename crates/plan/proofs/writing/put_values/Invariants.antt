@@ -1,8 +1,7 @@
 -- What is stored and what is left to store are the whole run.
 use Prim.Native.Nat.{◌+◌, ◌-◌, ◌*◌}
-use native.Mathlib.Omega.{arith}
-use Rattle.plan.specs.Numbers.{number_at, values_at}
-use Rattle.plan.proofs.Runs.{Copying, copying-from, copying-all, copying-next}
+use Rattle.plan.specs.Numbers.{number_at}
+use Rattle.plan.proofs.Runs.{Copying}
 use Rattle.plan.proofs.writing.put_values.Given as goal
 
 abbrev pub invariant-loop-i : goal.invariant-loop-i

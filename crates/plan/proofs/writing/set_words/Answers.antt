@@ -1,10 +1,9 @@
 -- `writing::set_words` meets its contract: what is written and what is still to come are the whole run.
 use mathlib.Core.Path.{◌≡◌, refl, sym, ◌∙◌}
 use mathlib.Core.Logic.{inl, inr}
-use Prim.Native.Nat.{◌+◌, ◌-◌, ◌≤◌}
+use Prim.Native.Nat.{◌+◌}
 use native.Mathlib.Omega.{arith}
-use lib.ListN.{length, drop, get_or, length-set}
-use lib.Seq.{sets}
+use lib.ListN.{get_or, length-set}
 use Rattle.doubles.proofs.Runs.{sets-next, sets-done}
 use Rattle.plan.proofs.writing.set_words.Goals as goal
 

@@ -1,11 +1,8 @@
 -- `writing::set_words` meets its contract: what is written and what is still to come are the whole run.
-use mathlib.Core.Path.{◌≡◌, refl, sym, ◌∙◌}
-use mathlib.Core.Logic.{inl, inr}
+use mathlib.Core.Path.{◌≡◌}
 use Prim.Native.Nat.{◌+◌, ◌-◌, ◌≤◌}
-use native.Mathlib.Omega.{arith}
-use lib.ListN.{length, drop, get_or, length-set}
+use lib.ListN.{length, drop}
 use lib.Seq.{sets}
-use Rattle.doubles.proofs.Runs.{sets-next, sets-done}
 use Rattle.plan.proofs.writing.set_words.Given as goal
 
 abbrev pub invariant-loop-i : goal.invariant-loop-i

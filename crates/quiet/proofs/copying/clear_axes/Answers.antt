@@ -4,10 +4,8 @@ use mathlib.Core.Path.{◌≡◌, refl, sym, ◌∙◌}
 use lib.ListN.{length, get_or}
 use Rattle.lent.specs.Layout.{axis_reals, axis_counts}
 use Rattle.lent.specs.Memory.{memory}
-use Rattle.lent.specs.Drawn.{Stands}
 use Rattle.lent.specs.Laid.{Roomy}
-use Rattle.lent.specs.Cleared.{cleared_memory}
-use Rattle.lent.proofs.Same.{Same, same_refl}
+use Rattle.lent.proofs.Same.{same_refl}
 use Rattle.lent.proofs.First.{first, stands_on, one_less, counts-left, reals-left}
 use Rattle.lent.proofs.Rooms.{waitless-known}
 use Rattle.lent.proofs.Copies.{cleared-next, cleared-done, cleared-apart}

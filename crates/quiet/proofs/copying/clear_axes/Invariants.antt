@@ -1,16 +1,10 @@
 -- `copying::clear_axes` meets its contract: what is left to clear in memory as it is now makes what all of it makes of memory at entry.
-use native.Mathlib.Omega.{arith}
-use mathlib.Core.Path.{◌≡◌, refl, sym, ◌∙◌}
-use lib.ListN.{length, get_or}
-use Rattle.lent.specs.Layout.{axis_reals, axis_counts}
+use mathlib.Core.Path.{◌≡◌}
+use lib.ListN.{length}
 use Rattle.lent.specs.Memory.{memory}
 use Rattle.lent.specs.Drawn.{Stands}
-use Rattle.lent.specs.Laid.{Roomy}
 use Rattle.lent.specs.Cleared.{cleared_memory}
-use Rattle.lent.proofs.Same.{Same, same_refl}
-use Rattle.lent.proofs.First.{first, stands_on, one_less, counts-left, reals-left}
-use Rattle.lent.proofs.Rooms.{waitless-known}
-use Rattle.lent.proofs.Copies.{cleared-next, cleared-done, cleared-apart}
+use Rattle.lent.proofs.Same.{Same}
 use Rattle.quiet.proofs.copying.clear_axes.Given as goal
 
 abbrev pub invariant-loop-left : goal.invariant-loop-left

@@ -1,10 +1,9 @@
 -- What is left to clear in memory as it is now makes what all of it makes of memory at entry.
 use mathlib.Core.Path.{◌≡◌, refl, sym, ◌∙◌}
-use Prim.Native.Nat.{◌+◌, ◌-◌, ◌≤◌}
+use Prim.Native.Nat.{◌+◌, ◌-◌}
 use native.Mathlib.Omega.{arith}
-use lib.ListN.{length, get_or}
+use lib.ListN.{get_or}
 use Rattle.lent.specs.Memory.{memory}
-use Rattle.lent.specs.Cleared.{cleared_from}
 use Rattle.lent.proofs.Clones.{bins-on, bins-out, own-emptied}
 use Rattle.quiet.proofs.copying.clear_own.Goals as goal
 

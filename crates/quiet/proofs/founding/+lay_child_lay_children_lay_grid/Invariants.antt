@@ -1,23 +1,9 @@
 -- A link of 0 lays nothing; what is left to lay on memory now is all of it on memory at entry, and levels fall.
-use mathlib.Core.Path.{◌≡◌, refl, sym, ap, ◌∙◌}
-use Prim.Native.Nat.{ℕ, ◌+◌, ◌-◌, ◌*◌, ◌≤◌}
-use native.Mathlib.Omega.{arith}
-use lib.ListN.{length, get_or}
+use mathlib.Core.Path.{◌≡◌}
+use Prim.Native.Nat.{◌+◌, ◌-◌, ◌*◌, ◌≤◌}
+use lib.ListN.{length}
 use Rattle.lent.specs.Memory.{memory}
 use Rattle.lent.specs.Founded.{laid_children, laid_grid}
-use Rattle.lent.proofs.Laid.{laid-axes, laid-bins, laid-head}
-use Rattle.lent.proofs.Founds.{laid_kept, bins-kept, nothing-laid, child-laid, children-next, children-done, grid-axes, grid-bins}
-use Prim.Native.Nat.{ℕ, ◌<◌}
-use borrow.Fn.Kinds.{In}
-use borrow.Fn.PlainCycle.{Measures, is, falls, and}
-use Rattle.quiet.proofs.founding.lay_child.Reads as lay-child
-use Rattle.quiet.proofs.founding.lay_child.Kinds as lay-child-kinds
-use Rattle.quiet.proofs.founding.lay_children.Reads as lay-children
-use Rattle.quiet.proofs.founding.lay_children.Kinds as lay-children-kinds
-use Rattle.quiet.proofs.founding.lay_grid.Reads as lay-grid
-use Rattle.quiet.proofs.founding.lay_grid.Kinds as lay-grid-kinds
-use Rattle.quiet.proofs.founding.lay_axes_grid.Reads as lay-axes-grid-reads
-use Rattle.quiet.proofs.founding.lay_own.Reads as lay-own-reads
 use Rattle.quiet.proofs.founding.+lay_child_lay_children_lay_grid.Given as goal
 
 abbrev pub decreases-lay_child : goal.decreases-lay_child

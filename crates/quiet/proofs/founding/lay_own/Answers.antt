@@ -1,10 +1,9 @@
 -- The bins left to lay on memory now are all of them on memory behind the own record; each turn lays one.
 use mathlib.Core.Path.{◌≡◌, refl, sym, ◌∙◌}
-use Prim.Native.Nat.{◌+◌, ◌-◌, ◌≤◌}
+use Prim.Native.Nat.{◌+◌, ◌-◌}
 use native.Mathlib.Omega.{arith}
-use lib.ListN.{length, get_or, length-set}
+use lib.ListN.{get_or, length-set}
 use Rattle.lent.specs.Memory.{memory}
-use Rattle.lent.specs.Founded.{laid_bins}
 use Rattle.lent.proofs.Founds.{bins-next, bins-done, own-founded}
 use Rattle.quiet.proofs.founding.lay_own.Goals as goal
 

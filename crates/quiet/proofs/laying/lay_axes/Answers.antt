@@ -2,10 +2,9 @@
 use native.Mathlib.Numerals.{unary_clauses}
 use native.Mathlib.Omega.{arith}
 use Rattle.lent.specs.Layout.{axis_reals, axis_counts}
-use mathlib.Core.Path.{◌≡◌, refl, sym, ◌∙◌}
-use Prim.Native.Nat.{◌+◌, ◌-◌, ◌*◌, ◌≤◌}
-use lib.ListN.{length, replicate}
-use Rattle.lent.specs.Memory.{memory, over_axes}
+use mathlib.Core.Path.{refl, sym, ◌∙◌}
+use lib.ListN.{length}
+use Rattle.lent.specs.Memory.{memory}
 use Rattle.lent.specs.Laid.{lay_at}
 use Rattle.lent.proofs.Lays.{room_next, over-next, over_done}
 use Rattle.quiet.proofs.laying.lay_axes.Goals as goal

@@ -1,13 +1,10 @@
 -- `laying::lay_axes` meets its contract: what is left to lay on the memory now is all of it on the memory at entry.
-use native.Mathlib.Numerals.{unary_clauses}
-use native.Mathlib.Omega.{arith}
 use Rattle.lent.specs.Layout.{axis_reals, axis_counts}
-use mathlib.Core.Path.{◌≡◌, refl, sym, ◌∙◌}
+use mathlib.Core.Path.{◌≡◌}
 use Prim.Native.Nat.{◌+◌, ◌-◌, ◌*◌, ◌≤◌}
 use lib.ListN.{length, replicate}
 use Rattle.lent.specs.Memory.{memory, over_axes}
 use Rattle.lent.specs.Laid.{lay_at}
-use Rattle.lent.proofs.Lays.{room_next, over-next, over_done}
 use Rattle.quiet.proofs.laying.lay_axes.Given as goal
 
 abbrev pub invariant-loop-done : goal.invariant-loop-done

@@ -1,5 +1,4 @@
 -- `probing::is_fit` meets its contract: an open coordinate fits, a given one where it lies in [0, 1].
-use borrow.Author.Rules.{rules}
 use Rattle.quiet.proofs.probing.is_fit.Goals as goal
 
 pub returns : goal.returns

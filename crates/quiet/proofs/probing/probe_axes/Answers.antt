@@ -9,7 +9,6 @@ use Rattle.axis.specs.Calls.{paper_probed}
 use Rattle.lent.specs.Probed.{coordinates_of, probed_of}
 use Rattle.lent.proofs.Probes.{coordinates-length}
 use Rattle.lent.proofs.Reading.{length-axes}
-use borrow.Author.Rules.{rules}
 use Rattle.quiet.proofs.probing.probe_axes.Goals as goal
 
 pub returns-then-p-g : goal.returns-then-p-g

@@ -1,19 +1,12 @@
 -- `probing::weigh_axes` meets its contract: the weight so far and what is left of the axes stay the probe of them all.
 use Rattle.lent.specs.Drawn.{axes_at}
-use Rattle.lent.proofs.First.{stands_on, one_less}
 use Rattle.model.specs.Probe.{probe_all}
-use native.Mathlib.Omega.{arith}
-use mathlib.Core.Path.{◌≡◌, sym, ◌∙◌}
+use mathlib.Core.Path.{◌≡◌}
 use Prim.Native.Nat.{◌+◌, ◌≤◌}
 use Rattle.doubles.specs.Numbers.{one64}
-use Rattle.doubles.proofs.Truth.{passed}
-use Rattle.axis.specs.Calls.{paper_probed}
-use Rattle.lent.specs.Layout.{axis_reals, axis_counts}
 use Rattle.lent.specs.Drawn.{Stands}
 use Rattle.lent.specs.Probed.{coordinates_of}
-use Rattle.lent.proofs.First.{first}
-use Rattle.lent.proofs.Probes.{left_of, probed-stop, probed-next, probed-out}
-use Rattle.lent.proofs.Draws.{asked-part}
+use Rattle.lent.proofs.Probes.{left_of}
 use Rattle.quiet.proofs.probing.weigh_axes.Given as goal
 
 abbrev pub invariant-loop-left : goal.invariant-loop-left

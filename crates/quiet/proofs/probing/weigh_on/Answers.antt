@@ -1,6 +1,5 @@
 -- `probing::weigh_on` meets its contract: the search by halves finds the rule's bin on well-formed edges.
 use Rattle.axis.proofs.Searches.{search_is}
-use borrow.Author.Rules.{rules}
 use Rattle.quiet.proofs.probing.weigh_on.Goals as goal
 
 pub returns : goal.returns

@@ -3,7 +3,6 @@ use native.Mathlib.Omega.{arith}
 use mathlib.Core.Path.{◌≡◌, subst}
 use mathlib.Core.Bool.{true, false}
 use lib.Ieee.{Float, lt}
-use borrow.Author.Rules.{rules}
 use Rattle.real.proofs.Floors.{ceiling-room, ceiling-next, ceiling-same}
 use Rattle.real.proofs.exp.ceiling.Goals as goal
 

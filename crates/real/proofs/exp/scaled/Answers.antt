@@ -1,7 +1,6 @@
 -- `scaled` is the product of its two parts. Assumes nothing.
 use mathlib.Core.Path.{ap₂}
 use lib.Ieee.{Float, binary64, mul}
-use borrow.Author.Rules.{rules}
 use Rattle.real.proofs.exp.scaled.Goals as goal
 
 pub returns : goal.returns

@@ -1,11 +1,10 @@
 -- `exp::series` after n turns is the definition's p after n steps. Assumes nothing.
 use mathlib.Core.Path.{◌≡◌, refl, sym, ap, ◌∙◌}
-use Prim.Native.Nat.{ℕ, ◌+◌, ◌-◌, ◌≤◌}
+use Prim.Native.Nat.{ℕ, ◌+◌, ◌-◌}
 use native.Mathlib.Omega.{arith}
 use native.Mathlib.Numerals.{add-one}
 use lib.Dec.{lit≤}
 use lib.Ieee.{Float, binary64, add, mul, div}
-use borrow.Author.Rules.{rules}
 use Rattle.doubles.specs.Numbers.{one64}
 use Rattle.doubles.specs.Count.{count_of}
 use Rattle.real.specs.Power.{exp_of}

@@ -9,7 +9,6 @@ use lib.Dec.{lit≤}
 use lib.Pow.{pow_pos}
 use lib.Count.{count_trailing_zeros}
 use lib.Ieee.{inf, fin, binary64, minus, odd, of_fields, of_bits, top, hid}
-use borrow.Author.Rules.{rules}
 use borrow.Author.Tests.{lt-leb, ne_eqb}
 use Rattle.doubles.proofs.Signs.{minus-shift}
 use Rattle.doubles.proofs.Bits.{no-nan-bits}

@@ -4,7 +4,6 @@ use Prim.Native.Nat.{ℕ, suc, ◌+◌, ◌-◌, ◌≤◌, ◌<◌}
 use native.Mathlib.Omega.{arith}
 use lib.IntN.{ℤ, pos}
 use lib.Ieee.{binary64, minus, neg, of_int}
-use borrow.Author.Rules.{rules}
 use Rattle.doubles.proofs.Signs.{minus_pos, minus-neg, neg-of_int}
 use Rattle.real.proofs.log.exponent.Goals as goal
 

@@ -4,7 +4,6 @@ use Prim.Native.Nat.{ℕ, ◌+◌}
 use native.Mathlib.Numerals.{add-one}
 use mathlib.Core.Bool.{true, false}
 use lib.Ieee.{Float, binary64, minus, of_int, lt, mul}
-use borrow.Author.Rules.{rules}
 use Rattle.doubles.specs.Numbers.{half64}
 use Rattle.doubles.proofs.Signs.{suc-minus}
 use Rattle.real.specs.Ln.{log_of, turned_of, turn}

@@ -1,11 +1,9 @@
 -- `ok`, and chances all from i on, stays the answer for the whole list.
-use mathlib.Core.Path.{◌≡◌, refl, sym, ap, ◌∙◌}
-use mathlib.Core.Bool.{Bool, ◌&&◌}
-use Prim.Native.Nat.{◌+◌, ◌-◌}
-use native.Mathlib.Omega.{arith}
+use mathlib.Core.Path.{◌≡◌}
+use mathlib.Core.Bool.{◌&&◌}
+use Prim.Native.Nat.{◌-◌}
 use lib.ListN.{length, drop}
 use Rattle.recut.specs.Chances.{all_chances}
-use Rattle.recut.proofs.Shares.{chances-next, chances-end}
 use Rattle.recut.proofs.chances.are_chances.Given as goal
 
 abbrev pub invariant-loop-i : goal.invariant-loop-i

@@ -1,10 +1,8 @@
 -- The cells divided, followed by the shares of those left, are the shares of all; a write keeps the length.
-use mathlib.Core.Path.{◌≡◌, refl, sym, ◌∙◌}
-use mathlib.Core.List.{◌++◌, map}
-use Prim.Native.Nat.{zero-le, ◌-◌, ◌≤◌}
+use mathlib.Core.Path.{refl, sym, ◌∙◌}
+use Prim.Native.Nat.{zero-le}
 use native.Mathlib.Omega.{arith}
-use lib.ListN.{length, take, drop, length-set}
-use Rattle.recut.specs.Chances.{share_of}
+use lib.ListN.{length-set}
 use Rattle.recut.proofs.Shares.{map_next, map-end}
 use Rattle.recut.proofs.chances.divide.Goals as goal
 

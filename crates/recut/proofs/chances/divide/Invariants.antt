@@ -1,11 +1,9 @@
 -- The cells divided, followed by the shares of those left, are the shares of all; a write keeps the length.
-use mathlib.Core.Path.{◌≡◌, refl, sym, ◌∙◌}
+use mathlib.Core.Path.{◌≡◌}
 use mathlib.Core.List.{◌++◌, map}
-use Prim.Native.Nat.{zero-le, ◌-◌, ◌≤◌}
-use native.Mathlib.Omega.{arith}
-use lib.ListN.{length, take, drop, length-set}
+use Prim.Native.Nat.{◌-◌, ◌≤◌}
+use lib.ListN.{length, take, drop}
 use Rattle.recut.specs.Chances.{share_of}
-use Rattle.recut.proofs.Shares.{map_next, map-end}
 use Rattle.recut.proofs.chances.divide.Given as goal
 
 abbrev pub invariant-loop-i : goal.invariant-loop-i

@@ -1,10 +1,9 @@
 -- The highest of the list is at every turn the highest of those left, begun from `top`.
-use mathlib.Core.Path.{◌≡◌, refl, sym, ap, ◌∙◌}
-use Prim.Native.Nat.{zero-le, ◌+◌, ◌-◌, ◌≤◌}
+use mathlib.Core.Path.{refl, sym, ap, ◌∙◌}
+use Prim.Native.Nat.{zero-le, ◌+◌}
 use native.Mathlib.Omega.{arith}
-use lib.ListN.{length, drop}
+use lib.ListN.{drop}
 use lib.Ieee.{Float}
-use Rattle.doubles.specs.Numbers.{zero64}
 use Rattle.recut.specs.Chances.{highest}
 use Rattle.recut.proofs.Shares.{highest-next, highest-end}
 use Rattle.recut.proofs.chances.highest_of.Goals as goal

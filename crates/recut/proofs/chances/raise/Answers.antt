@@ -1,10 +1,8 @@
 -- The cells before i, followed by the rest as it will be raised, are the whole list raised; the cells left fall.
-use mathlib.Core.Path.{◌≡◌, refl, sym, ◌∙◌}
-use mathlib.Core.List.{◌++◌, map}
-use Prim.Native.Nat.{zero-le, ◌-◌, ◌≤◌}
+use mathlib.Core.Path.{refl, sym, ◌∙◌}
+use Prim.Native.Nat.{zero-le}
 use native.Mathlib.Omega.{arith}
-use lib.ListN.{length, take, drop, length-set}
-use Rattle.recut.specs.Chances.{raised_to}
+use lib.ListN.{length-set}
 use Rattle.recut.proofs.Shares.{map_next, map-end}
 use Rattle.recut.proofs.chances.raise.Goals as goal
 

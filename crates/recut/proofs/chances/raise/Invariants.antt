@@ -1,11 +1,9 @@
 -- The cells before i, followed by the rest as it will be raised, are the whole list raised; the cells left fall.
-use mathlib.Core.Path.{◌≡◌, refl, sym, ◌∙◌}
+use mathlib.Core.Path.{◌≡◌}
 use mathlib.Core.List.{◌++◌, map}
-use Prim.Native.Nat.{zero-le, ◌-◌, ◌≤◌}
-use native.Mathlib.Omega.{arith}
-use lib.ListN.{length, take, drop, length-set}
+use Prim.Native.Nat.{◌-◌, ◌≤◌}
+use lib.ListN.{length, take, drop}
 use Rattle.recut.specs.Chances.{raised_to}
-use Rattle.recut.proofs.Shares.{map_next, map-end}
 use Rattle.recut.proofs.chances.raise.Given as goal
 
 abbrev pub invariant-loop-i : goal.invariant-loop-i

@@ -1,13 +1,11 @@
 -- `recut::cut::cut` meets its contract: the edges cut, and those that the rest of the room will have, stay the whole.
-use mathlib.Core.Path.{◌≡◌, refl, sym, ap, ◌∙◌}
-use mathlib.Core.List.{List, ◌++◌}
+use mathlib.Core.Path.{refl, sym, ap, ◌∙◌}
+use mathlib.Core.List.{List}
 use Prim.Native.Nat.{◌-◌, ◌≤◌, ◌<◌}
-use lib.ListN.{length, take, drop, set, length-set}
+use lib.ListN.{length, set, length-set}
 use lib.Ieee.{Float}
 use Rattle.doubles.specs.Numbers.{one64}
-use Rattle.recut.specs.Cut.{edges_from}
 use Rattle.recut.proofs.Cuts.{cut-next, cut-end, cut-whole}
-use borrow.Author.Rules.{rules}
 use native.Mathlib.Omega.{arith}
 use Rattle.recut.proofs.cut.cut.Goals as goal
 

@@ -1,8 +1,6 @@
 -- `recut::cut::seek` meets its contract: the walk from the spot given is the walk from where the loop stands.
-use mathlib.Core.Path.{◌≡◌, refl, sym, ◌∙◌}
-use Prim.Native.Nat.{◌-◌, ◌<◌}
-use lib.ListN.{length, drop}
-use Rattle.recut.specs.Cut.{walk, walk_to}
+use mathlib.Core.Path.{refl, sym, ◌∙◌}
+use Rattle.recut.specs.Cut.{walk_to}
 use Rattle.recut.proofs.Walks.{walk-next, walk-stop, walk-last}
 use native.Mathlib.Omega.{arith}
 use Rattle.recut.proofs.cut.seek.Goals as goal

@@ -1,10 +1,8 @@
 -- `recut::cut::seek` meets its contract: the walk from the spot given is the walk from where the loop stands.
-use mathlib.Core.Path.{◌≡◌, refl, sym, ◌∙◌}
+use mathlib.Core.Path.{◌≡◌}
 use Prim.Native.Nat.{◌-◌, ◌<◌}
 use lib.ListN.{length, drop}
-use Rattle.recut.specs.Cut.{walk, walk_to}
-use Rattle.recut.proofs.Walks.{walk-next, walk-stop, walk-last}
-use native.Mathlib.Omega.{arith}
+use Rattle.recut.specs.Cut.{walk}
 use Rattle.recut.proofs.cut.seek.Given as goal
 
 abbrev pub invariant-loop-j : goal.invariant-loop-j

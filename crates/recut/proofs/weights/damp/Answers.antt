@@ -1,9 +1,7 @@
 -- `recut::weights::damp` meets its contract: what is damped, and the rest as it will be, stay the whole.
-use mathlib.Core.Path.{◌≡◌, refl, sym, ◌∙◌}
-use mathlib.Core.List.{◌++◌}
-use Prim.Native.Nat.{zero-le, ◌-◌, ◌≤◌}
-use lib.ListN.{length, take, drop, length-set}
-use Rattle.recut.specs.Weights.{damped}
+use mathlib.Core.Path.{refl, sym, ◌∙◌}
+use Prim.Native.Nat.{zero-le}
+use lib.ListN.{length-set}
 use Rattle.recut.proofs.Damp.{damp-next, damp-end}
 use native.Mathlib.Omega.{arith}
 use Rattle.recut.proofs.weights.damp.Goals as goal

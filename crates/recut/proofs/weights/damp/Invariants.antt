@@ -1,11 +1,9 @@
 -- `recut::weights::damp` meets its contract: what is damped, and the rest as it will be, stay the whole.
-use mathlib.Core.Path.{◌≡◌, refl, sym, ◌∙◌}
+use mathlib.Core.Path.{◌≡◌}
 use mathlib.Core.List.{◌++◌}
-use Prim.Native.Nat.{zero-le, ◌-◌, ◌≤◌}
-use lib.ListN.{length, take, drop, length-set}
+use Prim.Native.Nat.{◌-◌, ◌≤◌}
+use lib.ListN.{length, take, drop}
 use Rattle.recut.specs.Weights.{damped}
-use Rattle.recut.proofs.Damp.{damp-next, damp-end}
-use native.Mathlib.Omega.{arith}
 use Rattle.recut.proofs.weights.damp.Given as goal
 
 abbrev pub invariant-loop-i : goal.invariant-loop-i

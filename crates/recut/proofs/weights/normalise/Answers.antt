@@ -1,10 +1,8 @@
 -- `recut::weights::normalise` meets its contract: what is divided, and what the rest of both lists will give, stay the whole.
-use mathlib.Core.Path.{◌≡◌, refl, sym, ◌∙◌}
-use mathlib.Core.List.{◌++◌}
-use Prim.Native.Nat.{zero-le, ◌-◌, ◌≤◌, ◌<◌}
-use lib.ListN.{length, take, drop, length-set}
+use mathlib.Core.Path.{refl, sym, ◌∙◌}
+use Prim.Native.Nat.{zero-le, ◌<◌}
+use lib.ListN.{length, length-set}
 use lib.Ieee.{nan}
-use Rattle.recut.specs.Pairs.{pairwise}
 use Rattle.recut.specs.Weights.{per_count, normalised}
 use Rattle.recut.proofs.Pairs.{pairs_next, pairs-done}
 use native.Mathlib.Omega.{arith}

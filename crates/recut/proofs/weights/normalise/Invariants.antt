@@ -1,13 +1,10 @@
 -- `recut::weights::normalise` meets its contract: what is divided, and what the rest of both lists will give, stay the whole.
-use mathlib.Core.Path.{◌≡◌, refl, sym, ◌∙◌}
+use mathlib.Core.Path.{◌≡◌}
 use mathlib.Core.List.{◌++◌}
-use Prim.Native.Nat.{zero-le, ◌-◌, ◌≤◌, ◌<◌}
-use lib.ListN.{length, take, drop, length-set}
-use lib.Ieee.{nan}
+use Prim.Native.Nat.{◌-◌, ◌≤◌}
+use lib.ListN.{length, take, drop}
 use Rattle.recut.specs.Pairs.{pairwise}
-use Rattle.recut.specs.Weights.{per_count, normalised}
-use Rattle.recut.proofs.Pairs.{pairs_next, pairs-done}
-use native.Mathlib.Omega.{arith}
+use Rattle.recut.specs.Weights.{per_count}
 use Rattle.recut.proofs.weights.normalise.Given as goal
 
 abbrev pub invariant-loop-i : goal.invariant-loop-i

@@ -1,10 +1,9 @@
 -- `recut::weights::smoothen` meets its contract: prev and cur are the two bins before the rest as they were, so what is smoothed and what the
 -- rest will give stay the whole.
 use mathlib.Core.Path.{◌≡◌, refl, ◌∙◌}
-use mathlib.Core.List.{◌++◌}
-use Prim.Native.Nat.{suc, ◌+◌, ◌-◌, ◌≤◌, ◌<◌}
-use lib.ListN.{length, take, drop, length-set}
-use Rattle.recut.specs.Weights.{first_of, inner_of, last_of, smoothed_from}
+use Prim.Native.Nat.{suc, ◌+◌, ◌-◌, ◌<◌}
+use lib.ListN.{length, length-set}
+use Rattle.recut.specs.Weights.{first_of, inner_of, last_of}
 use Rattle.recut.proofs.Smooth.{smooth-short, smooth-start, smooth-next, smooth-end}
 use native.Mathlib.Omega.{arith}
 use Rattle.recut.proofs.weights.smoothen.Goals as goal

@@ -1,12 +1,10 @@
 -- `recut::weights::smoothen` meets its contract: prev and cur are the two bins before the rest as they were, so what is smoothed and what the
 -- rest will give stay the whole.
-use mathlib.Core.Path.{◌≡◌, refl, ◌∙◌}
+use mathlib.Core.Path.{◌≡◌}
 use mathlib.Core.List.{◌++◌}
-use Prim.Native.Nat.{suc, ◌+◌, ◌-◌, ◌≤◌, ◌<◌}
-use lib.ListN.{length, take, drop, length-set}
-use Rattle.recut.specs.Weights.{first_of, inner_of, last_of, smoothed_from}
-use Rattle.recut.proofs.Smooth.{smooth-short, smooth-start, smooth-next, smooth-end}
-use native.Mathlib.Omega.{arith}
+use Prim.Native.Nat.{◌+◌, ◌-◌, ◌≤◌}
+use lib.ListN.{length, take, drop}
+use Rattle.recut.specs.Weights.{smoothed_from}
 use Rattle.recut.proofs.weights.smoothen.Given as goal
 
 abbrev pub invariant-loop-bin : goal.invariant-loop-bin

@@ -1,9 +1,6 @@
 -- `recut::weights::total` meets its contract: the whole total is the one from the sum so far over the rest.
-use mathlib.Core.Path.{◌≡◌, refl, sym, ◌∙◌}
-use Prim.Native.Nat.{zero-le, ◌-◌, ◌≤◌}
-use lib.ListN.{length, drop}
-use Rattle.doubles.specs.Numbers.{zero64}
-use Rattle.doubles.specs.Total.{total_of}
+use mathlib.Core.Path.{refl, sym, ◌∙◌}
+use Prim.Native.Nat.{zero-le}
 use Rattle.recut.proofs.Damp.{total-next, total-end}
 use native.Mathlib.Omega.{arith}
 use Rattle.recut.proofs.weights.total.Goals as goal

@@ -1,5 +1,5 @@
 -- Every record takes words of the list, so that the loop ends and no sum wraps.
-use Rattle.std.proofs.Common.{◌-◌, arith, rules}
+use Rattle.std.proofs.Common.{arith}
 use Rattle.answers.specs.List.{words_of}
 use Rattle.replay_accumulator.proofs.calls.replay.Goals as goal
 

@@ -1,6 +1,5 @@
 -- Every record takes words of the list, so that the loop ends and no sum wraps.
-use Rattle.std.proofs.Common.{◌-◌, arith, rules}
-use Rattle.answers.specs.List.{words_of}
+use Rattle.std.proofs.Common.{◌-◌}
 use Rattle.replay_accumulator.proofs.calls.replay.Given as goal
 
 abbrev pub invariant-loop-at : goal.invariant-loop-at

@@ -1,5 +1,5 @@
 -- The index goes up to the number of the values.
-use Rattle.std.proofs.Common.{◌-◌, ◌≤◌, length, rules}
+use Rattle.std.proofs.Common.{◌-◌, ◌≤◌, length}
 use Rattle.replay_accumulator.proofs.list.holds.Given as goal
 
 abbrev pub invariant-loop-i : goal.invariant-loop-i

@@ -1,5 +1,5 @@
 -- A plan's bytes are a part of their room.
-use Rattle.std.proofs.Common.{sym, arith, length-take-le, rules}
+use Rattle.std.proofs.Common.{sym, arith, length-take-le}
 use Rattle.replay_grid.proofs.calls.lay_plan.Goals as goal
 
 pub slice_bounds-fresh-end-2 : goal.slice_bounds-fresh-end-2

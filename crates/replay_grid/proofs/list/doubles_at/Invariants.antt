@@ -1,5 +1,5 @@
 -- The places that are left fall.
-use Rattle.std.proofs.Common.{◌-◌, ◌≤◌, rules}
+use Rattle.std.proofs.Common.{◌-◌, ◌≤◌}
 use Rattle.replay_grid.proofs.list.doubles_at.Given as goal
 
 abbrev pub invariant-loop-i : goal.invariant-loop-i

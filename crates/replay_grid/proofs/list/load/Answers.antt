@@ -1,5 +1,5 @@
 -- Eight bytes stand in each word.
-use Rattle.std.proofs.Common.{◌≡◌, ◌-◌, ◌≤◌, length, refl, arith, length-set}
+use Rattle.std.proofs.Common.{refl, arith, length-set}
 use Rattle.replay_grid.proofs.list.load.Goals as goal
 
 pub loop-i-init : goal.loop-i-init

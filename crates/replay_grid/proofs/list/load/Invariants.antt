@@ -1,5 +1,5 @@
 -- Eight bytes stand in each word.
-use Rattle.std.proofs.Common.{◌≡◌, ◌-◌, ◌≤◌, length, refl, arith, length-set}
+use Rattle.std.proofs.Common.{◌≡◌, ◌-◌, ◌≤◌, length}
 use Rattle.replay_grid.proofs.list.load.Given as goal
 
 abbrev pub invariant-loop-i : goal.invariant-loop-i

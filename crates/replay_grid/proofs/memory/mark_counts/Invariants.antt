@@ -1,5 +1,5 @@
 -- The index goes up to the end.
-use Rattle.std.proofs.Common.{◌-◌, ◌≤◌, rules}
+use Rattle.std.proofs.Common.{◌-◌, ◌≤◌}
 use Rattle.replay_grid.proofs.memory.mark_counts.Given as goal
 
 abbrev pub invariant-loop-i : goal.invariant-loop-i

@@ -1,5 +1,5 @@
 -- The kinds that are left fall.
-use Rattle.std.proofs.Common.{◌-◌, ◌≤◌, rules}
+use Rattle.std.proofs.Common.{◌-◌, ◌≤◌}
 use Rattle.replay_grid.proofs.tally.print.Given as goal
 
 abbrev pub invariant-loop-kind : goal.invariant-loop-kind

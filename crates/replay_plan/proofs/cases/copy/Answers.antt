@@ -1,5 +1,5 @@
 -- Both runs lie within their slices.
-use Rattle.std.proofs.Common.{◌≡◌, ◌-◌, ◌≤◌, length, arith, length-set}
+use Rattle.std.proofs.Common.{arith, length-set}
 use Rattle.replay_plan.proofs.cases.copy.Goals as goal
 
 pub loop-i-init : goal.loop-i-init

@@ -1,5 +1,5 @@
 -- Both runs lie within their slices.
-use Rattle.std.proofs.Common.{◌≡◌, ◌-◌, ◌≤◌, length, arith, length-set}
+use Rattle.std.proofs.Common.{◌≡◌, ◌-◌, ◌≤◌, length}
 use Rattle.replay_plan.proofs.cases.copy.Given as goal
 
 abbrev pub invariant-loop-i : goal.invariant-loop-i

@@ -1,5 +1,5 @@
 -- Eight bytes stand in each word.
-use Rattle.std.proofs.Common.{◌≡◌, ◌-◌, ◌≤◌, length, arith, length-set}
+use Rattle.std.proofs.Common.{arith, length-set}
 use Rattle.replay_plan.proofs.cases.load.Goals as goal
 
 pub loop-i-init : goal.loop-i-init

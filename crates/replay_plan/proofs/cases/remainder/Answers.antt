@@ -1,5 +1,5 @@
 -- A remainder is below its divisor.
-use Rattle.std.proofs.Common.{mod-lt, rules}
+use Rattle.std.proofs.Common.{mod-lt}
 use Rattle.replay_plan.proofs.cases.remainder.Goals as goal
 
 pub returns : goal.returns

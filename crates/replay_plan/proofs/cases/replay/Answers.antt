@@ -1,5 +1,5 @@
 -- Each section takes words of the list, so that the loop ends and no sum wraps.
-use Rattle.std.proofs.Common.{◌≡◌, ◌-◌, ◌*◌, ◌≤◌, length, refl, arith, rules}
+use Rattle.std.proofs.Common.{refl, arith, rules}
 use Rattle.replay_plan.proofs.cases.replay.Goals as goal
 
 pub loop-at-init : goal.loop-at-init

@@ -1,5 +1,5 @@
 -- Each section takes words of the list, so that the loop ends and no sum wraps.
-use Rattle.std.proofs.Common.{◌≡◌, ◌-◌, ◌*◌, ◌≤◌, length, refl, arith, rules}
+use Rattle.std.proofs.Common.{◌≡◌, ◌-◌, ◌*◌, ◌≤◌, length}
 use Rattle.replay_plan.proofs.cases.replay.Given as goal
 
 abbrev pub invariant-loop-at : goal.invariant-loop-at

@@ -1,5 +1,5 @@
 -- Each field takes at most 30 bytes, and there are at most eight.
-use Rattle.std.proofs.Common.{◌≡◌, ◌-◌, ◌*◌, ◌≤◌, length, refl, arith, rules}
+use Rattle.std.proofs.Common.{refl, arith, rules}
 use Rattle.replay_plan.proofs.cases.row.Goals as goal
 
 pub returns-then-fields-eq0 : goal.returns-then-fields-eq0

@@ -1,5 +1,5 @@
 -- Each field takes at most 30 bytes, and there are at most eight.
-use Rattle.std.proofs.Common.{◌≡◌, ◌-◌, ◌*◌, ◌≤◌, length, refl, arith, rules}
+use Rattle.std.proofs.Common.{◌≡◌, ◌-◌, ◌*◌, ◌≤◌, length}
 use Rattle.replay_plan.proofs.cases.row.Given as goal
 
 abbrev pub invariant-loop-done : goal.invariant-loop-done

@@ -1,5 +1,5 @@
 -- At most as many cases agree as were run.
-use Rattle.std.proofs.Common.{◌-◌, ◌≤◌, arith, rules}
+use Rattle.std.proofs.Common.{arith}
 use Rattle.replay_plan.proofs.cases.run.Goals as goal
 
 pub loop-case-init : goal.loop-case-init

@@ -1,5 +1,5 @@
 -- At most as many cases agree as were run.
-use Rattle.std.proofs.Common.{◌-◌, ◌≤◌, arith, rules}
+use Rattle.std.proofs.Common.{◌-◌, ◌≤◌}
 use Rattle.replay_plan.proofs.cases.run.Given as goal
 
 abbrev pub invariant-loop-case : goal.invariant-loop-case

@@ -1,5 +1,5 @@
 -- The sum stays below its modulus.
-use Rattle.std.proofs.Common.{◌-◌, ◌<◌, ◌≤◌, length, arith}
+use Rattle.std.proofs.Common.{arith}
 use Rattle.replay_plan.proofs.codes.fold_table.Goals as goal
 
 pub loop-i-init : goal.loop-i-init

@@ -1,5 +1,5 @@
 -- The sum stays below its modulus.
-use Rattle.std.proofs.Common.{◌-◌, ◌<◌, ◌≤◌, length, arith}
+use Rattle.std.proofs.Common.{◌-◌, ◌<◌, ◌≤◌, length}
 use Rattle.replay_plan.proofs.codes.fold_table.Given as goal
 
 abbrev pub invariant-loop-i : goal.invariant-loop-i

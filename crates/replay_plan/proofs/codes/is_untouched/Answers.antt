@@ -1,5 +1,5 @@
 -- The index stays within the table.
-use Rattle.std.proofs.Common.{◌-◌, ◌≤◌, length, arith}
+use Rattle.std.proofs.Common.{arith}
 use Rattle.replay_plan.proofs.codes.is_untouched.Goals as goal
 
 pub loop-i-init : goal.loop-i-init

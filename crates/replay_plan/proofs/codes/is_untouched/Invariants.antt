@@ -1,5 +1,5 @@
 -- The index stays within the table.
-use Rattle.std.proofs.Common.{◌-◌, ◌≤◌, length, arith}
+use Rattle.std.proofs.Common.{◌-◌, ◌≤◌, length}
 use Rattle.replay_plan.proofs.codes.is_untouched.Given as goal
 
 abbrev pub invariant-loop-i : goal.invariant-loop-i

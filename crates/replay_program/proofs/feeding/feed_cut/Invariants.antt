@@ -1,5 +1,4 @@
 -- The turns that are left fall.
-use Rattle.std.proofs.Common.{rules}
 use Rattle.replay_program.proofs.feeding.feed_cut.Given as goal
 
 abbrev pub invariant-loop-left : goal.invariant-loop-left

@@ -1,5 +1,5 @@
 -- The parts that are left fall.
-use Rattle.std.proofs.Common.{◌-◌, ◌≤◌, rules}
+use Rattle.std.proofs.Common.{◌-◌, ◌≤◌}
 use Rattle.replay_program.proofs.feeding.feed_cuts.Given as goal
 
 abbrev pub invariant-loop-part : goal.invariant-loop-part

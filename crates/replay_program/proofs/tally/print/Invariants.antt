@@ -1,5 +1,5 @@
 -- The numbers that are left fall.
-use Rattle.std.proofs.Common.{◌-◌, ◌≤◌, rules}
+use Rattle.std.proofs.Common.{◌-◌, ◌≤◌}
 use Rattle.replay_program.proofs.tally.print.Given as goal
 
 abbrev pub invariant-loop-number : goal.invariant-loop-number

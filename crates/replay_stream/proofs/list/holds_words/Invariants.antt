@@ -1,5 +1,4 @@
 -- The words that are left fall.
-use Rattle.std.proofs.Common.{rules}
 use Rattle.replay_stream.proofs.list.holds_words.Given as goal
 
 abbrev pub invariant-loop-left : goal.invariant-loop-left

@@ -1,5 +1,5 @@
 -- The place moves on from where it began.
-use Rattle.std.proofs.Common.{◌-◌, ◌≤◌, length, rules}
+use Rattle.std.proofs.Common.{◌-◌, ◌≤◌, length}
 use Rattle.replay_stream.proofs.list.line_end.Given as goal
 
 abbrev pub invariant-loop-at : goal.invariant-loop-at

@@ -1,5 +1,5 @@
 -- Every record takes bytes of the list, so that the loop ends.
-use Rattle.std.proofs.Common.{◌-◌, length, rules}
+use Rattle.std.proofs.Common.{◌-◌, length}
 use Rattle.replay_stream.proofs.list.replay.Given as goal
 
 abbrev pub invariant-loop-at : goal.invariant-loop-at

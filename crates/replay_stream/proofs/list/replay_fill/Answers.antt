@@ -1,5 +1,5 @@
 -- At most 40 bytes of the room are filled in.
-use Rattle.std.proofs.Common.{sym, le_trans, le_of_eq, length-take-le, rules}
+use Rattle.std.proofs.Common.{sym, le_trans, le_of_eq, length-take-le}
 use Rattle.replay_stream.proofs.list.replay_fill.Goals as goal
 
 pub slice_bounds-holds_fill-end : goal.slice_bounds-holds_fill-end

@@ -1,5 +1,5 @@
 -- `careful_root`: the judge answers the root from any guess. Assumes nothing.
-use Rattle.std.proofs.Common.{◌^◌, ◌<◌, T, arith, rules}
+use Rattle.std.proofs.Common.{◌^◌, ◌<◌, T, arith}
 use lib.Ieee.{binary64, fits}
 use lib.Ieee.Positive.{positive}
 use Rattle.doubles.proofs.Truth.{was, passed}

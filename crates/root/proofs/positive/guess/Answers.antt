@@ -1,5 +1,5 @@
 -- `guess`: the leading digits are few, so that both starts' bits are those of numbers. Assumes nothing.
-use Rattle.std.proofs.Common.{◌≡◌, ℕ, ◌+◌, ◌-◌, ◌*◌, ◌/◌, ◌%◌, ◌^◌, ◌<◌, ◌≤◌, arith, rules}
+use Rattle.std.proofs.Common.{◌≡◌, ℕ, ◌+◌, ◌-◌, ◌*◌, ◌/◌, ◌%◌, ◌^◌, ◌<◌, ◌≤◌, arith}
 use Rattle.doubles.proofs.Bits.{no-nan-bits}
 use Rattle.root.proofs.positive.guess.Goals as goal
 

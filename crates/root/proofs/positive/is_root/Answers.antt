@@ -1,5 +1,5 @@
 -- `is_root`: what is left of e above the power of two are the root's digits behind the first. Assumes nothing.
-use Rattle.std.proofs.Common.{◌≡◌, ℕ, ◌+◌, ◌-◌, ◌*◌, ◌/◌, ◌%◌, ◌^◌, ◌<◌, ◌≤◌, true, ◌&&◌, ltb, subst, mul-le-mul, arith, rules, ltb-true}
+use Rattle.std.proofs.Common.{◌≡◌, ℕ, ◌+◌, ◌-◌, ◌*◌, ◌/◌, ◌%◌, ◌^◌, ◌<◌, ◌≤◌, true, ◌&&◌, ltb, subst, mul-le-mul, arith, ltb-true}
 use mathlib.Core.Bool.{false≢true}
 use Rattle.careful.specs.Digits.{NearRoot}
 use Rattle.root.specs.Digits.{Right}

@@ -1,5 +1,5 @@
 -- `is_sure`: three words, each small beside 2 ^ 64, so that what was wrapped is known, are the digits of the difference. Assumes nothing.
-use Rattle.std.proofs.Common.{◌≡◌, ℕ, ◌+◌, ◌-◌, ◌*◌, ◌/◌, ◌%◌, ◌^◌, ◌<◌, ◌≤◌, true, ◌&&◌, ltb, ap, ◌∙◌, subst, inl, inr, arith, rules, ltb-false, ltb-true}
+use Rattle.std.proofs.Common.{◌≡◌, ℕ, ◌+◌, ◌-◌, ◌*◌, ◌/◌, ◌%◌, ◌^◌, ◌<◌, ◌≤◌, true, ◌&&◌, ltb, ap, ◌∙◌, subst, inl, inr, arith, ltb-false, ltb-true}
 use Rattle.careful.specs.Digits.{NearRoot}
 use Rattle.doubles.proofs.Truth.{either, both}
 use Rattle.careful.proofs.Halves.{halves}

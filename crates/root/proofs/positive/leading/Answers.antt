@@ -1,5 +1,5 @@
 -- `leading`: 26 digits and one of two scales bound every product. Assumes nothing.
-use Rattle.std.proofs.Common.{ℕ, ◌+◌, ◌-◌, ◌*◌, ◌/◌, ◌%◌, ◌^◌, ◌≤◌, ⊎_elim, mul-le-mul, arith, rules}
+use Rattle.std.proofs.Common.{ℕ, ◌+◌, ◌-◌, ◌*◌, ◌/◌, ◌%◌, ◌^◌, ◌≤◌, mul-le-mul, arith}
 use Rattle.root.proofs.positive.leading.Goals as goal
 use Rattle.root.proofs.positive.leading.Goals.{Joined-even-eq1, else-even-eq1, then-even-eq1}
 

@@ -1,5 +1,5 @@
 -- `unit`: the bits lie from those of 1/2 to below those of 2. Assumes nothing.
-use Rattle.std.proofs.Common.{ℕ, ◌+◌, ◌*◌, ◌%◌, ◌^◌, ◌≤◌, arith, rules}
+use Rattle.std.proofs.Common.{ℕ, ◌+◌, ◌*◌, ◌%◌, ◌^◌, ◌≤◌, arith}
 use Rattle.doubles.proofs.Bits.{no-nan-bits}
 use Rattle.root.proofs.positive.unit.Goals as goal
 

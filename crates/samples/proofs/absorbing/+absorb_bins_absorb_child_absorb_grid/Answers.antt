@@ -16,17 +16,6 @@ use Rattle.lent.proofs.Accepts.{formed, head-sound, spot-sound}
 use Rattle.lent.proofs.Founds.{bins-kept}
 use Rattle.lent.proofs.Finds.{held-as, held-grid}
 use Rattle.lent.proofs.Absorbs.{bins-absorbed, held-past, nothing-absorbed, child-absorbed, absorbed-axes, absorbed-bins}
-use borrow.Fn.Kinds.{In}
-use borrow.Fn.PlainCycle.{Measures, is, falls, and}
-use Rattle.samples.proofs.absorbing.absorb_bins.Reads as absorb-bins
-use Rattle.samples.proofs.absorbing.absorb_bins.Kinds as absorb-bins-kinds
-use Rattle.samples.proofs.absorbing.absorb_child.Reads as absorb-child
-use Rattle.samples.proofs.absorbing.absorb_child.Kinds as absorb-child-kinds
-use Rattle.samples.proofs.absorbing.absorb_grid.Reads as absorb-grid
-use Rattle.samples.proofs.absorbing.absorb_grid.Kinds as absorb-grid-kinds
-use Rattle.samples.proofs.absorbing.absorb_axes.Reads as absorb-axes-reads
-use Rattle.samples.proofs.adding.put.Reads as put_reads
-use Rattle.samples.proofs.adding.gain_at.Reads as gain-at-reads
 use Rattle.samples.proofs.absorbing.+absorb_bins_absorb_child_absorb_grid.Goals as goal
 use Rattle.samples.proofs.absorbing.+absorb_bins_absorb_child_absorb_grid.Goals.{absorb_bins-Start}
 

@@ -6,7 +6,6 @@ use Rattle.lent.proofs.Finds.{found-there, found-asked}
 use Rattle.lent.proofs.Absorbs.{axes-absorbed}
 use Rattle.lent.specs.Sampled.{entries}
 use Rattle.lent.specs.Found.{held}
-use borrow.Author.Rules.{rules}
 use Rattle.samples.proofs.absorbing.absorb_axes.Goals as goal
 
 pub offset_bounds-weights-depth : goal.offset_bounds-weights-depth

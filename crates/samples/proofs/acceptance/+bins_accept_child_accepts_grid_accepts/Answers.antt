@@ -2,7 +2,7 @@
 use mathlib.Core.Path.{◌≡◌, sym, ap, ap₂, ◌∙◌, subst}
 use mathlib.Core.Bool.{true, ◌&&◌}
 use native.Mathlib.Omega.{arith}
-use Prim.Native.Nat.{◌+◌, ◌-◌, ◌*◌}
+use Prim.Native.Nat.{◌+◌}
 use lib.ListN.{length, get_or}
 use Rattle.accumulator.specs.Record.{well_formed}
 use Rattle.model.specs.Grid.{Grid}
@@ -17,16 +17,6 @@ use Rattle.lent.proofs.Sounds.{node-axes, node-bins}
 use Rattle.lent.proofs.Accepts.{formed, head-sound, spot-sound, bins-told, none_told, grid-told, offered-as, offered-below, offered-grid}
 use Rattle.lent.proofs.Finds.{bins-found, none_found, grid-found}
 use Prim.Native.Nat.{ℕ, ◌<◌}
-use borrow.Fn.Kinds.{In}
-use borrow.Fn.PlainCycle.{Measures, is, falls, and}
-use Rattle.samples.proofs.acceptance.bins_accept.Reads as bins-accept
-use Rattle.samples.proofs.acceptance.bins_accept.Kinds as bins-accept-kinds
-use Rattle.samples.proofs.acceptance.child_accepts.Reads as child-accepts
-use Rattle.samples.proofs.acceptance.child_accepts.Kinds as child-accepts-kinds
-use Rattle.samples.proofs.acceptance.grid_accepts.Reads as grid-accepts
-use Rattle.samples.proofs.acceptance.grid_accepts.Kinds as grid-accepts-kinds
-use Rattle.samples.proofs.acceptance.axes_accept.Reads as axes-accept-reads
-use Rattle.samples.proofs.adding.fits_with.Reads as fits-with-reads
 use Rattle.samples.proofs.acceptance.+bins_accept_child_accepts_grid_accepts.Goals as goal
 use Rattle.samples.proofs.acceptance.+bins_accept_child_accepts_grid_accepts.Goals.{bins_accept-Start}
 

@@ -7,7 +7,6 @@ use lib.Ieee.{nan, binary64, mul}
 use Rattle.lent.proofs.Accepts.{fit-there, cells_of, own-sound, axes-told}
 use Rattle.lent.proofs.Finds.{axes-found}
 use Rattle.lent.specs.Absorbed.{offered}
-use borrow.Author.Rules.{rules}
 use Rattle.samples.proofs.acceptance.axes_accept.Goals as goal
 
 pub offset_bounds-weights-depth : goal.offset_bounds-weights-depth

@@ -3,7 +3,6 @@ use mathlib.Core.Path.{refl}
 use native.Mathlib.Omega.{arith}
 use lib.ListN.{length-set}
 use Rattle.lent.specs.Absorbed.{gained}
-use borrow.Author.Rules.{rules}
 use Rattle.samples.proofs.adding.put.Goals as goal
 
 pub offset_bounds-reals-r : goal.offset_bounds-reals-r

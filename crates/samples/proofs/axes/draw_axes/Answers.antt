@@ -4,7 +4,6 @@ use lib.Ieee.{Float}
 use Rattle.model.specs.Draw.{Placed, floored_of}
 use Rattle.lent.specs.declared.Walked.{Walked}
 use Rattle.lent.specs.Drawn.{axes_at, Places, under_floor}
-use borrow.Author.Rules.{rules}
 use Rattle.samples.proofs.axes.draw_axes.Goals as goal
 
 pub returns : goal.returns

@@ -1,14 +1,10 @@
 -- The coordinates drawn, followed by the walk over the axes left, are the whole walk; the places not yet written stay.
 use native.Mathlib.Omega.{arith}
 use mathlib.Core.Path.{◌≡◌, refl, sym, ◌∙◌}
-use Prim.Native.Nat.{◌-◌, ◌≤◌}
-use lib.ListN.{length, take, drop, get_or, length-set}
-use Rattle.doubles.specs.Numbers.{one64}
-use Rattle.model.specs.Draw.{walked}
-use Rattle.lent.specs.Layout.{axes_from}
-use Rattle.lent.specs.Drawn.{Standing}
+use Prim.Native.Nat.{◌-◌}
+use lib.ListN.{get_or, length-set}
 use Rattle.lent.proofs.Standing.{next}
-use Rattle.lent.proofs.Draws.{behind, drawn-on, drawn-out, asked-part, asked-unit, kept_on, walk-made}
+use Rattle.lent.proofs.Draws.{drawn-on, drawn-out, asked-part, asked-unit, kept_on, walk-made}
 use Rattle.samples.proofs.axes.walk_axes.Goals as goal
 
 pub loop-done-init : goal.loop-done-init

@@ -1,14 +1,12 @@
 -- The coordinates drawn, followed by the walk over the axes left, are the whole walk; the places not yet written stay.
-use native.Mathlib.Omega.{arith}
-use mathlib.Core.Path.{◌≡◌, refl, sym, ◌∙◌}
+use mathlib.Core.Path.{◌≡◌}
 use Prim.Native.Nat.{◌-◌, ◌≤◌}
-use lib.ListN.{length, take, drop, get_or, length-set}
+use lib.ListN.{length, take, drop}
 use Rattle.doubles.specs.Numbers.{one64}
 use Rattle.model.specs.Draw.{walked}
 use Rattle.lent.specs.Layout.{axes_from}
 use Rattle.lent.specs.Drawn.{Standing}
-use Rattle.lent.proofs.Standing.{next}
-use Rattle.lent.proofs.Draws.{behind, drawn-on, drawn-out, asked-part, asked-unit, kept_on, walk-made}
+use Rattle.lent.proofs.Draws.{behind}
 use Rattle.samples.proofs.axes.walk_axes.Given as goal
 
 abbrev pub invariant-loop-done : goal.invariant-loop-done

@@ -1,16 +1,11 @@
 -- The state is clear, so the draw is not refused, and the training is refused only by what stands against the sample. Assumes nothing.
-use mathlib.Core.List.{List}
 use mathlib.Core.Path.{◌≡◌, sym, ap, ◌∙◌}
-use Prim.Native.Nat.{ℕ}
 use native.Mathlib.Omega.{arith}
 use lib.ListN.{length}
-use lib.Ieee.{Float}
 use lib.Seq.{length-sets}
-use Rattle.model.specs.Grid.{Grid}
 use Rattle.model.specs.Draw.{draw_grid}
-use Rattle.lent.specs.Memory.{Memory, memory}
+use Rattle.lent.specs.Memory.{memory}
 use Rattle.lent.specs.State.{root_of}
-use Rattle.lent.specs.declared.Sample.{Sample}
 use Rattle.lent.specs.declared.Traced.{Traced}
 use Rattle.lent.specs.Sampled.{sample_in, sample_of, traced_of}
 use Rattle.lent.specs.Batched.{step_end}

@@ -1,12 +1,10 @@
 -- What is left from here on, by the calls one by one, is the whole; the state stays clear, and the arrays keep their lengths. Assumes nothing.
-use mathlib.Core.Path.{◌≡◌, refl, ◌∙◌}
-use Prim.Native.Nat.{zero-le, ◌-◌, ◌≤◌}
+use mathlib.Core.Path.{refl, ◌∙◌}
+use Prim.Native.Nat.{zero-le}
 use native.Mathlib.Omega.{arith}
-use lib.ListN.{length, drop, get_or}
+use lib.ListN.{get_or}
 use lib.Ieee.{nan}
 use Rattle.lent.specs.Memory.{memory}
-use Rattle.lent.specs.State.{state_fault}
-use Rattle.lent.specs.Batched.{steps_of}
 use Rattle.lent.proofs.Batches.{Cleared, step-onward, steps-over, steps-stop, steps_next}
 use Rattle.samples.proofs.batching.steps.Goals as goal
 use Rattle.samples.proofs.batching.steps.Goals.{Else-refused-ne0}

@@ -1,13 +1,10 @@
 -- What is left from here on, by the calls one by one, is the whole; the state stays clear, and the arrays keep their lengths. Assumes nothing.
-use mathlib.Core.Path.{◌≡◌, refl, ◌∙◌}
-use Prim.Native.Nat.{zero-le, ◌-◌, ◌≤◌}
-use native.Mathlib.Omega.{arith}
-use lib.ListN.{length, drop, get_or}
-use lib.Ieee.{nan}
+use mathlib.Core.Path.{◌≡◌}
+use Prim.Native.Nat.{◌-◌, ◌≤◌}
+use lib.ListN.{length, drop}
 use Rattle.lent.specs.Memory.{memory}
 use Rattle.lent.specs.State.{state_fault}
 use Rattle.lent.specs.Batched.{steps_of}
-use Rattle.lent.proofs.Batches.{Cleared, step-onward, steps-over, steps-stop, steps_next}
 use Rattle.samples.proofs.batching.steps.Given as goal
 
 abbrev pub invariant-loop-done : goal.invariant-loop-done

@@ -1,7 +1,6 @@
 -- Path, weights and coordinates have nothing left exactly where their numbers are used up, tested in the model's order.
 use native.Mathlib.Omega.{arith}
 use lib.Ieee.{nan}
-use Prim.Native.Nat.{◌-◌}
 use Rattle.lent.specs.Trained.{nothing_fault}
 use Rattle.lent.proofs.Fitting.{none_left, one_left, some_first, none_first}
 use Rattle.samples.proofs.forms.nothing_fault.Goals as goal

@@ -4,7 +4,6 @@ use mathlib.Core.Path.{sym, subst}
 use Rattle.lent.specs.declared.AxesAt.{AxesAt}
 use Rattle.lent.specs.Drawn.{Stands}
 use native.Mathlib.Omega.{arith}
-use borrow.Author.Rules.{rules}
 use Rattle.samples.proofs.sampling.draw_from_axes.Goals as goal
 
 pub draw_axes-walked-requires : goal.draw_axes-walked-requires

@@ -2,7 +2,6 @@
 use Rattle.model.specs.Draw.{draw_grid}
 use Rattle.lent.specs.Tree.{grid_at}
 use Rattle.lent.proofs.Samples.{root-made}
-use borrow.Author.Rules.{rules}
 use Rattle.samples.proofs.sampling.draw_root.Goals as goal
 
 pub returns : goal.returns

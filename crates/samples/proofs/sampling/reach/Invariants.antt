@@ -1,13 +1,7 @@
 -- The bins counted stay those below the draw; at an early end one was reached before, at the last there is no other left.
-use mathlib.Core.Path.{◌≡◌}
-use Prim.Native.Nat.{◌+◌, ◌-◌, ◌≤◌, ◌<◌}
-use native.Mathlib.Omega.{arith}
-use lib.Dec.{ltb}
-use lib.Ieee.{nan, binary64, add}
-use lib.ListN.{length, get_or}
-use borrow.Author.Tests.{ltb-true}
-use Rattle.doubles.proofs.Truth.{both}
-use Rattle.lent.proofs.Samples.{Counting, counting-first, counting-next, counted-before, counted-last, counted-most}
+use Prim.Native.Nat.{◌+◌, ◌-◌, ◌≤◌}
+use lib.ListN.{length}
+use Rattle.lent.proofs.Samples.{Counting}
 use Rattle.samples.proofs.sampling.reach.Given as goal
 
 abbrev pub invariant-loop-i : goal.invariant-loop-i

@@ -1,13 +1,10 @@
 -- What is left to scan, with what was found before.
-use mathlib.Core.Path.{◌≡◌, refl, sym, ap, ◌∙◌}
-use mathlib.Core.Bool.{Bool, ◌&&◌}
-use Prim.Native.Nat.{ℕ, ◌+◌, ◌-◌, ◌≤◌}
-use native.Mathlib.Omega.{arith}
+use mathlib.Core.Path.{◌≡◌}
+use mathlib.Core.Bool.{◌&&◌}
+use Prim.Native.Nat.{◌-◌, ◌≤◌}
 use lib.Ieee.{nan}
-use Rattle.axis.specs.Edges.{in_unit}
 use Rattle.lent.specs.Sampled.{entries}
 use Rattle.lent.specs.Trained.{all_in_unit}
-use Rattle.lent.proofs.Trains.{scan-on, scan-out}
 use Rattle.samples.proofs.training.are_in_unit.Given as goal
 
 abbrev pub invariant-loop-i : goal.invariant-loop-i

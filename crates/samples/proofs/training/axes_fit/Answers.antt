@@ -1,15 +1,15 @@
 -- The bins that are left to judge, with what was found before, and those that are written with those that are left.
-use mathlib.Core.Path.{◌≡◌, refl, sym, ap, ◌∙◌}
+use mathlib.Core.Path.{refl, sym, ap, ◌∙◌}
 use mathlib.Core.Bool.{Bool, ◌&&◌}
-use mathlib.Core.List.{List, ◌++◌}
-use Prim.Native.Nat.{ℕ, ◌+◌, ◌-◌, ◌*◌, ◌≤◌}
+use mathlib.Core.List.{List}
+use Prim.Native.Nat.{ℕ, ◌+◌, ◌*◌}
 use native.Mathlib.Omega.{arith}
-use lib.ListN.{length, take, get_or, length-set}
+use lib.ListN.{get_or, length-set}
 use Rattle.lent.specs.Memory.{memory}
 use Rattle.lent.specs.Trained.{cells_fit}
 use Rattle.lent.proofs.Standing.{next}
 use Rattle.lent.proofs.Draws.{asked-part}
-use Rattle.lent.proofs.Spots.{begun, spots_left, Left, spots-all, left-all, unit-here, cell-here, left-judged, fits_on, fits-none, noted-on, noted-all}
+use Rattle.lent.proofs.Spots.{begun, spots_left, spots-all, left-all, unit-here, cell-here, left-judged, fits_on, fits-none, noted-on, noted-all}
 use Rattle.samples.proofs.training.axes_fit.Goals as goal
 
 pub loop-done-init : goal.loop-done-init

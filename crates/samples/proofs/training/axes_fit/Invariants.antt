@@ -1,15 +1,12 @@
 -- The bins that are left to judge, with what was found before, and those that are written with those that are left.
-use mathlib.Core.Path.{◌≡◌, refl, sym, ap, ◌∙◌}
-use mathlib.Core.Bool.{Bool, ◌&&◌}
-use mathlib.Core.List.{List, ◌++◌}
-use Prim.Native.Nat.{ℕ, ◌+◌, ◌-◌, ◌*◌, ◌≤◌}
-use native.Mathlib.Omega.{arith}
-use lib.ListN.{length, take, get_or, length-set}
+use mathlib.Core.Path.{◌≡◌}
+use mathlib.Core.Bool.{◌&&◌}
+use mathlib.Core.List.{◌++◌}
+use Prim.Native.Nat.{◌-◌, ◌≤◌}
+use lib.ListN.{length, take}
 use Rattle.lent.specs.Memory.{memory}
 use Rattle.lent.specs.Trained.{cells_fit}
-use Rattle.lent.proofs.Standing.{next}
-use Rattle.lent.proofs.Draws.{asked-part}
-use Rattle.lent.proofs.Spots.{begun, spots_left, Left, spots-all, left-all, unit-here, cell-here, left-judged, fits_on, fits-none, noted-on, noted-all}
+use Rattle.lent.proofs.Spots.{spots_left, Left}
 use Rattle.samples.proofs.training.axes_fit.Given as goal
 
 abbrev pub invariant-loop-done : goal.invariant-loop-done

@@ -2,7 +2,6 @@
 use native.Mathlib.Omega.{arith}
 use Rattle.lent.specs.Trained.{cell_fits}
 use Rattle.lent.proofs.Trains.{zero-count-small}
-use borrow.Author.Rules.{rules}
 use Rattle.samples.proofs.training.cell_fits.Goals as goal
 
 pub overflow_mul-most : goal.overflow_mul-most

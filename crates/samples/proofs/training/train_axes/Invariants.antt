@@ -1,12 +1,10 @@
 -- Each given bin is a cell of its axis, and its training keeps to that axis: what is asked of the others is asked still.
-use mathlib.Core.Path.{◌≡◌, refl, sym, ap, ap₂, ◌∙◌, subst}
-use Prim.Native.Nat.{◌+◌, ◌-◌, ◌*◌, ◌≤◌}
-use native.Mathlib.Omega.{arith}
-use lib.ListN.{length, get_or}
-use Rattle.lent.specs.Memory.{Memory, memory, over_axes, Asked}
+use mathlib.Core.Path.{◌≡◌}
+use Prim.Native.Nat.{◌-◌, ◌≤◌}
+use lib.ListN.{length}
+use Rattle.lent.specs.Memory.{memory, over_axes, Asked}
 use Rattle.lent.specs.Sampled.{entries}
 use Rattle.lent.specs.Trained.{trained_at, Cell}
-use Rattle.lent.proofs.Trains.{trained-out, given-cell, given-on, trained-on}
 use Rattle.samples.proofs.training.train_axes.Given as goal
 
 abbrev pub invariant-loop-done : goal.invariant-loop-done

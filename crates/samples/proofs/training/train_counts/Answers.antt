@@ -3,7 +3,6 @@ use native.Mathlib.Omega.{arith}
 use lib.ListN.{length-set}
 use Rattle.lent.specs.Trained.{trained_at}
 use Rattle.lent.proofs.Trains.{zero-count-small}
-use borrow.Author.Rules.{rules}
 use Rattle.samples.proofs.training.train_counts.Goals as goal
 
 pub overflow_add-waiting_at : goal.overflow_add-waiting_at

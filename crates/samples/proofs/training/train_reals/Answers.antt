@@ -3,7 +3,6 @@ use mathlib.Core.Path.{refl}
 use native.Mathlib.Omega.{arith}
 use lib.ListN.{length-set}
 use Rattle.lent.specs.Trained.{trained_at}
-use borrow.Author.Rules.{rules}
 use Rattle.samples.proofs.training.train_reals.Goals as goal
 
 pub overflow_mul-sum_at : goal.overflow_mul-sum_at

@@ -1,7 +1,7 @@
 -- `fill_bytes`: after k words, what is left to come from the stream reached is what was to come at first.
-use Rattle.std.proofs.Common.{◌≡◌, ◌-◌, ◌*◌, ◌<◌, length, sym, refl, ap, ◌∙◌, arith}
+use Rattle.std.proofs.Common.{◌*◌, ◌<◌, length, sym, refl, ap, ◌∙◌, arith}
 use Rattle.stream.specs.Calls.{words_for}
-use Rattle.stream.proofs.Fills.{onward, onward-starts, onward-done, begins, spent, fills-word}
+use Rattle.stream.proofs.Fills.{onward-starts, onward-done, begins, spent, fills-word}
 use Rattle.stream.proofs.MonteCarloRng.fill_bytes.Goals as goal
 
 pub loop-k-init : goal.loop-k-init

@@ -1,7 +1,7 @@
 -- `fill_bytes`: after k words, what is left to come from the stream reached is what was to come at first.
-use Rattle.std.proofs.Common.{◌≡◌, ◌-◌, ◌*◌, ◌<◌, length, sym, refl, ap, ◌∙◌, arith}
+use Rattle.std.proofs.Common.{◌≡◌, ◌-◌, ◌*◌, length}
 use Rattle.stream.specs.Calls.{words_for}
-use Rattle.stream.proofs.Fills.{onward, onward-starts, onward-done, begins, spent, fills-word}
+use Rattle.stream.proofs.Fills.{onward}
 use Rattle.stream.proofs.MonteCarloRng.fill_bytes.Given as goal
 
 abbrev pub invariant-loop-k : goal.invariant-loop-k

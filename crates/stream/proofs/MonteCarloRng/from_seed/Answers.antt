@@ -1,5 +1,5 @@
 -- `from_seed`: the zero test chooses, as in the definition.
-use Rattle.std.proofs.Common.{sym, arith, rules}
+use Rattle.std.proofs.Common.{sym, arith}
 use Rattle.stream.specs.Calls.{import_of}
 use Rattle.stream.proofs.MonteCarloRng.from_seed.Goals as goal
 

@@ -1,5 +1,5 @@
 -- The walk over the words left, from where it stands, stays the walk over the whole table.
-use Rattle.std.proofs.Common.{◌≡◌, ℕ, ◌-◌, ◌≤◌, List, length, drop, sym, refl, ap, ◌∙◌, arith, drop_of_length-le}
+use Rattle.std.proofs.Common.{ℕ, List, sym, refl, ap, ◌∙◌, arith, drop_of_length-le}
 use Rattle.stream.specs.Jumps.{walk_words, jump_of}
 use Rattle.stream.specs.declared.Walk.{Walk}
 use Rattle.stream.proofs.Walks.{table_on}

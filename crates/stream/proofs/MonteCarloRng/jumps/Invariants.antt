@@ -1,8 +1,6 @@
 -- The jumps left, made from the stream reached, stay the jumps that were asked for.
-use native.Mathlib.Numerals.{unary_clauses}
-use Rattle.std.proofs.Common.{◌≡◌, ◌-◌, ◌≤◌, sym, ap, ◌∙◌, arith}
+use Rattle.std.proofs.Common.{◌≡◌, ◌-◌, ◌≤◌}
 use Rattle.stream.specs.Jumps.{jumps_of}
-use Rattle.stream.proofs.Walks.{jump-on}
 use Rattle.stream.proofs.MonteCarloRng.jumps.Given as goal
 
 abbrev pub invariant-loop-done : goal.invariant-loop-done

@@ -2,7 +2,6 @@
 use Rattle.stream.specs.Words.{shifted_up}
 use Rattle.stream.specs.Xoshiro.{word_of, step_of}
 use Rattle.stream.specs.Calls.{drawn_of}
-use Rattle.std.proofs.Common.{rules}
 use Rattle.stream.proofs.MonteCarloRng.next_u64.Goals as goal
 
 pub returns : goal.returns

@@ -1,7 +1,6 @@
 -- The bytes passed are zero, so the answer is that for the bytes left; one that is not makes it no.
-use Rattle.std.proofs.Common.{◌≡◌, ◌+◌, ◌-◌, ◌≤◌, Bool, ◌&&◌, length, drop, sym, refl, ap, ◌∙◌, arith, drop_of_length-le, eq-eqb, ne_eqb}
+use Rattle.std.proofs.Common.{◌≡◌, ◌-◌, ◌≤◌, length, drop}
 use Rattle.stream.specs.Bytes.{all_zero}
-use Rattle.stream.proofs.Fills.{zero-on}
 use Rattle.stream.proofs.bytes.is_all_zero.Given as goal
 
 abbrev pub invariant-loop-i : goal.invariant-loop-i

@@ -1,9 +1,7 @@
 -- `put_word` stores the word's bytes one by one, until none is left or the room ends.
-use Rattle.std.proofs.Common.{◌≡◌, ◌<◌, ltb, length, sym, refl, ◌∙◌, arith, length-set, ltb-true}
+use Rattle.std.proofs.Common.{◌≡◌, length}
 use lib.Seq.{sets}
-use Rattle.doubles.proofs.Truth.{both}
 use Rattle.stream.specs.Bytes.{bytes_of}
-use Rattle.stream.proofs.Fills.{put_on, put-done}
 use Rattle.stream.proofs.bytes.put_word.Given as goal
 
 abbrev pub invariant-loop-left : goal.invariant-loop-left

@@ -1,5 +1,5 @@
 -- `word_at`: i bytes are left below those that `word` is made of.
-use Rattle.std.proofs.Common.{◌≡◌, ◌+◌, ◌-◌, ◌^◌, ◌<◌, ◌≤◌, drop, refl, ap, ◌∙◌, arith, get_or-drop}
+use Rattle.std.proofs.Common.{◌≡◌, ◌+◌, ◌-◌, ◌^◌, ◌<◌, drop, refl, ap, ◌∙◌, arith, get_or-drop}
 use Rattle.stream.proofs.Uppers.{upper, upper-next, upper-all, upper-room}
 use Rattle.stream.proofs.bytes.word_at.Goals as goal
 

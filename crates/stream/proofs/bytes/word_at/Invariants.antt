@@ -1,6 +1,6 @@
 -- `word_at`: i bytes are left below those that `word` is made of.
-use Rattle.std.proofs.Common.{◌≡◌, ◌+◌, ◌-◌, ◌^◌, ◌<◌, ◌≤◌, drop, refl, ap, ◌∙◌, arith, get_or-drop}
-use Rattle.stream.proofs.Uppers.{upper, upper-next, upper-all, upper-room}
+use Rattle.std.proofs.Common.{◌≡◌, ◌-◌, ◌≤◌, drop}
+use Rattle.stream.proofs.Uppers.{upper}
 use Rattle.stream.proofs.bytes.word_at.Given as goal
 
 abbrev pub invariant-loop-i : goal.invariant-loop-i

@@ -1,28 +1,11 @@
 -- The cycle meets its contracts: a child by its link, children as the loop's finding with what is left, a grid by its kind; levels fall.
-use Rattle.updates.proofs.Own.{own-fits, grid-updated}
-use mathlib.Core.Path.{◌≡◌, refl, sym, ◌∙◌}
-use Prim.Native.Nat.{ℕ, ◌+◌, ◌-◌, ◌*◌, ◌≤◌}
-use native.Mathlib.Omega.{arith}
-use lib.ListN.{length, get_or}
+use mathlib.Core.Path.{◌≡◌}
+use Prim.Native.Nat.{◌+◌, ◌-◌, ◌*◌, ◌≤◌}
+use lib.ListN.{length}
 use Rattle.lent.specs.Memory.{memory}
 use Rattle.lent.specs.Renewed.{finding}
 use Rattle.lent.specs.Turns.{children_turned}
 use Rattle.lent.specs.Adapted.{followed, updated_in}
-use Rattle.lent.proofs.Laid.{laid-axes, laid-bins, laid-head}
-use Rattle.lent.proofs.Founds.{laid_kept, bins-kept}
-use Rattle.lent.proofs.Adapts.{none-turned, some-turned, turned-next, turned-done, grid-updated-axes}
-use Prim.Native.Nat.{ℕ, ◌<◌}
-use borrow.Fn.Kinds.{In}
-use borrow.Fn.PlainCycle.{Measures, is, falls, and}
-use Rattle.updates.proofs.adapting.update_child.Reads as update-child
-use Rattle.updates.proofs.adapting.update_child.Kinds as update-child-kinds
-use Rattle.updates.proofs.adapting.update_children.Reads as update-children
-use Rattle.updates.proofs.adapting.update_children.Kinds as update-children-kinds
-use Rattle.updates.proofs.adapting.update_grid.Reads as update-grid
-use Rattle.updates.proofs.adapting.update_grid.Kinds as update-grid-kinds
-use Rattle.updates.proofs.adapting.either.Reads as either-reads
-use Rattle.updates.proofs.adapting.update_bins.Reads as update-bins-reads
-use Rattle.updates.proofs.adapting.update_axes_grid.Reads as update-axes-grid-reads
 use Rattle.updates.proofs.adapting.+update_child_update_children_update_grid.Given as goal
 
 abbrev pub decreases-update_child : goal.decreases-update_child

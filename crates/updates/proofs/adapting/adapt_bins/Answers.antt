@@ -1,7 +1,6 @@
 -- `adapting::adapt_bins` meets its contract: each return by the law of its case.
 use Rattle.lent.specs.Memory.{memory}
 use Rattle.updates.proofs.Own.{own-idle, own-adapted}
-use borrow.Author.Rules.{rules}
 use Rattle.updates.proofs.adapting.adapt_bins.Goals as goal
 
 pub returns-then-rate-are_idle : goal.returns-then-rate-are_idle

@@ -1,11 +1,10 @@
 -- `adapting::are_idle` meets its contract: what holds of the bins so far and of those left holds of all.
 use mathlib.Core.Path.{◌≡◌, sym, ap, ◌∙◌}
-use mathlib.Core.Bool.{◌&&◌}
-use Prim.Native.Nat.{◌-◌, ◌≤◌}
+use Prim.Native.Nat.{◌-◌}
 use native.Mathlib.Omega.{arith}
 use Rattle.model.specs.Update.{idle}
 use Rattle.lent.specs.Memory.{memory}
-use Rattle.updates.specs.Own.{bin_own, bins_idle}
+use Rattle.updates.specs.Own.{bin_own}
 use Rattle.updates.proofs.Own.{idle-next, idle-done}
 use Rattle.updates.proofs.adapting.are_idle.Goals as goal
 

@@ -1,12 +1,9 @@
 -- `adapting::are_idle` meets its contract: what holds of the bins so far and of those left holds of all.
-use mathlib.Core.Path.{◌≡◌, sym, ap, ◌∙◌}
+use mathlib.Core.Path.{◌≡◌}
 use mathlib.Core.Bool.{◌&&◌}
 use Prim.Native.Nat.{◌-◌, ◌≤◌}
-use native.Mathlib.Omega.{arith}
-use Rattle.model.specs.Update.{idle}
 use Rattle.lent.specs.Memory.{memory}
-use Rattle.updates.specs.Own.{bin_own, bins_idle}
-use Rattle.updates.proofs.Own.{idle-next, idle-done}
+use Rattle.updates.specs.Own.{bins_idle}
 use Rattle.updates.proofs.adapting.are_idle.Given as goal
 
 abbrev pub invariant-loop-i : goal.invariant-loop-i

@@ -1,6 +1,5 @@
 -- `adapting::bins_place` meets its contract: each field is the word that the definition names.
 use Rattle.updates.specs.Own.{bins_place}
-use borrow.Author.Rules.{rules}
 use Rattle.updates.proofs.adapting.bins_place.Goals as goal
 
 pub returns : goal.returns

@@ -1,12 +1,11 @@
 -- `adapting::find_raws` meets its contract: the raw probabilities written with those of the bins left are those of all.
 use mathlib.Core.Path.{◌≡◌, sym, ap, ◌∙◌}
-use mathlib.Core.List.{◌++◌}
-use Prim.Native.Nat.{◌-◌, ◌≤◌}
+use Prim.Native.Nat.{◌-◌}
 use native.Mathlib.Omega.{arith}
-use lib.ListN.{length, take, length-set}
+use lib.ListN.{length-set}
 use Rattle.model.specs.Update.{raw_of}
 use Rattle.lent.specs.Memory.{memory}
-use Rattle.updates.specs.Own.{bin_own, bins_raws}
+use Rattle.updates.specs.Own.{bin_own}
 use Rattle.updates.proofs.Own.{raws-next, raws-done}
 use Rattle.updates.proofs.adapting.find_raws.Goals as goal
 

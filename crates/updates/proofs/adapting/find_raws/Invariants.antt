@@ -1,13 +1,10 @@
 -- `adapting::find_raws` meets its contract: the raw probabilities written with those of the bins left are those of all.
-use mathlib.Core.Path.{◌≡◌, sym, ap, ◌∙◌}
+use mathlib.Core.Path.{◌≡◌}
 use mathlib.Core.List.{◌++◌}
 use Prim.Native.Nat.{◌-◌, ◌≤◌}
-use native.Mathlib.Omega.{arith}
-use lib.ListN.{length, take, length-set}
-use Rattle.model.specs.Update.{raw_of}
+use lib.ListN.{length, take}
 use Rattle.lent.specs.Memory.{memory}
-use Rattle.updates.specs.Own.{bin_own, bins_raws}
-use Rattle.updates.proofs.Own.{raws-next, raws-done}
+use Rattle.updates.specs.Own.{bins_raws}
 use Rattle.updates.proofs.adapting.find_raws.Given as goal
 
 abbrev pub invariant-loop-i : goal.invariant-loop-i

@@ -1,7 +1,6 @@
 -- `adapting::lay_chances` meets its contract: raw probabilities, what is made of them, and where they are laid, by one law.
 use Rattle.lent.specs.Memory.{memory}
 use Rattle.updates.proofs.Own.{chances-laid}
-use borrow.Author.Rules.{rules}
 use Rattle.updates.proofs.adapting.lay_chances.Goals as goal
 
 pub returns : goal.returns

@@ -1,7 +1,6 @@
 -- `averages`, then fewer than two samples, pick the definition's case; from two samples on the subtraction does not wrap.
 use Rattle.model.specs.Update.{raw_of}
 use borrow.Author.Tests.{lt-ltb, le-ltb}
-use borrow.Author.Rules.{rules}
 use Rattle.updates.proofs.adapting.raw_of.Goals as goal
 
 pub returns-then-averages : goal.returns-then-averages

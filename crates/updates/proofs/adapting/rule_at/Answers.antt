@@ -1,7 +1,6 @@
 -- The three words lie within the run's head, and `rule_at` reads the same.
 use mathlib.Core.Path.{refl}
 use Rattle.lent.specs.Adapted.{rule_at}
-use borrow.Author.Rules.{rules}
 use Rattle.updates.proofs.adapting.rule_at.Goals as goal
 
 pub returns : goal.returns

@@ -1,7 +1,6 @@
 -- A refusal is an 8 and leaves memory; else what is stored is the update of the record that the definition reads.
 use Rattle.lent.specs.Memory.{memory}
 use Rattle.lent.proofs.Adapts.{account-stepped, account-refused}
-use borrow.Author.Rules.{rules}
 use Rattle.updates.proofs.adapting.update_account.Goals as goal
 
 pub returns-in-Record : goal.returns-in-Record

@@ -1,13 +1,11 @@
 -- `adapting::update_accounts` meets its contract: what was found so far with the update of the bins left is the update of all.
-use mathlib.Core.Path.{◌≡◌, refl, sym, ◌∙◌}
-use Prim.Native.Nat.{◌+◌, ◌-◌, ◌≤◌}
-use native.Mathlib.Omega.{arith}
+use mathlib.Core.Path.{◌≡◌}
+use Prim.Native.Nat.{◌-◌, ◌≤◌}
 use lib.ListN.{length}
 use Rattle.lent.specs.Memory.{memory}
 use Rattle.lent.specs.Renewed.{finding}
 use Rattle.lent.specs.Adapted.{followed}
 use Rattle.updates.specs.Own.{bins_updated}
-use Rattle.updates.proofs.Own.{accounts-next, accounts-done}
 use Rattle.updates.proofs.adapting.update_accounts.Given as goal
 
 abbrev pub invariant-loop-i : goal.invariant-loop-i

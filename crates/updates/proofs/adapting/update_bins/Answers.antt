@@ -2,7 +2,6 @@
 use mathlib.Core.Path.{refl}
 use Rattle.lent.specs.Memory.{memory}
 use Rattle.updates.proofs.Own.{own-told, fits-still}
-use borrow.Author.Rules.{rules}
 use Rattle.updates.proofs.adapting.update_bins.Goals as goal
 
 pub update_accounts-accounts-requires : goal.update_accounts-accounts-requires

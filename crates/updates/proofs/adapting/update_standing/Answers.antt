@@ -1,7 +1,6 @@
 -- `adapting::update_standing` meets its contract: each return by the law of its case.
 use Rattle.lent.specs.Memory.{memory}
 use Rattle.updates.proofs.Own.{axes-unfit, axes-ready, axes-done}
-use borrow.Author.Rules.{rules}
 use Rattle.updates.proofs.adapting.update_standing.Goals as goal
 
 pub returns-then-not-axes_fit : goal.returns-then-not-axes_fit

@@ -1,7 +1,6 @@
 -- `parts::copy_counts` meets its contract: as many as there are replace all.
 use mathlib.Core.Path.{sym, ◌∙◌}
 use Rattle.lent.proofs.Runs.{sets-all}
-use borrow.Author.Rules.{rules}
 use Rattle.updates.proofs.parts.copy_counts.Goals as goal
 
 pub returns : goal.returns

@@ -1,7 +1,6 @@
 -- `parts::put_reals` meets its contract: a run with room stands between what was before and behind it.
 use mathlib.Core.Path.{◌∙◌}
 use Rattle.lent.proofs.Runs.{sets-put}
-use borrow.Author.Rules.{rules}
 use Rattle.updates.proofs.parts.put_reals.Goals as goal
 
 pub returns : goal.returns

@@ -8,7 +8,6 @@ use Rattle.lent.specs.Layout.{axis_reals, axis_counts}
 use Rattle.lent.specs.Memory.{memory}
 use Rattle.lent.proofs.Rooms.{empty-known}
 use Rattle.lent.proofs.Renewals.{adapt-8, adapt-kept, adapt-reset, adapt-on}
-use borrow.Author.Rules.{rules}
 use Rattle.updates.proofs.renewal.adapt.Goals as goal
 
 pub returns-then-not-may_be_kept : goal.returns-then-not-may_be_kept

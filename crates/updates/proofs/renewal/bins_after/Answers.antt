@@ -1,7 +1,6 @@
 -- `renewal::bins_after` meets its contract: no values, a value, the last value.
 use native.Mathlib.Omega.{arith}
 use Rattle.lent.proofs.Renewals.{bins-none, bins-listed, bins-last}
-use borrow.Author.Rules.{rules}
 use Rattle.updates.proofs.renewal.bins_after.Goals as goal
 
 pub returns-then-k-eq0 : goal.returns-then-k-eq0

@@ -3,7 +3,6 @@ use mathlib.Core.Path.{ap₂, ◌∙◌}
 use lib.ListN.{length}
 use Rattle.recut.specs.Gather.{joined_counts}
 use Rattle.lent.proofs.Lays.{lent-stretch}
-use borrow.Author.Rules.{rules}
 use Rattle.updates.proofs.renewal.gather_counters.Goals as goal
 
 pub returns : goal.returns

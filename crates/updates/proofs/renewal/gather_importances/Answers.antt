@@ -3,7 +3,6 @@ use mathlib.Core.Path.{ap₂, ◌∙◌}
 use lib.ListN.{length}
 use Rattle.recut.specs.Gather.{gathered_of}
 use Rattle.lent.proofs.Lays.{lent-stretch}
-use borrow.Author.Rules.{rules}
 use Rattle.updates.proofs.renewal.gather_importances.Goals as goal
 
 pub returns : goal.returns

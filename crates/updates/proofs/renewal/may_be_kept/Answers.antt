@@ -1,6 +1,5 @@
 -- `renewal::may_be_kept` meets its contract: both tests.
 use Rattle.doubles.proofs.Truth.{failed, passed}
-use borrow.Author.Rules.{rules}
 use Rattle.updates.proofs.renewal.may_be_kept.Goals as goal
 
 pub returns-then-not-are_finite : goal.returns-then-not-are_finite

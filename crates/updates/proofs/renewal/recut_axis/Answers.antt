@@ -9,7 +9,6 @@ use Rattle.lent.specs.Renewed.{bins_to}
 use Rattle.model.specs.Update.{last_or}
 use Rattle.lent.proofs.Lays.{front_length}
 use Rattle.lent.proofs.Renewals.{recut-8, recut-on}
-use borrow.Author.Rules.{rules}
 use Rattle.updates.proofs.renewal.recut_axis.Goals as goal
 
 pub bounds-counts-c : goal.bounds-counts-c

@@ -4,7 +4,6 @@ use mathlib.Core.List.{[]}
 use Rattle.lent.specs.Layout.{axis_reals, axis_counts}
 use Rattle.lent.specs.Memory.{memory}
 use Rattle.lent.proofs.Renewals.{trained-room, updated-on}
-use borrow.Author.Rules.{rules}
 use Rattle.updates.proofs.renewal.renew_axis.Goals as goal
 
 pub overflow_add-r-2 : goal.overflow_add-r-2

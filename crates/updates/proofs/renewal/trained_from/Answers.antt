@@ -1,6 +1,5 @@
 -- `renewal::trained_from` meets its contract: either column.
 use Rattle.lent.specs.Renewed.{trained_from}
-use borrow.Author.Rules.{rules}
 use Rattle.updates.proofs.renewal.trained_from.Goals as goal
 
 pub returns-then-averages : goal.returns-then-averages

@@ -8,7 +8,6 @@ use Rattle.lent.specs.Memory.{memory}
 use Rattle.lent.proofs.Lays.{front_length}
 use Rattle.lent.proofs.Renewals.{within}
 use Rattle.updates.proofs.Next.{next-bins}
-use borrow.Author.Rules.{rules}
 use Rattle.updates.proofs.renewal.update_axis.Goals as goal
 
 pub bounds-counts-c : goal.bounds-counts-c

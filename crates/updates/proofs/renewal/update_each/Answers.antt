@@ -2,11 +2,9 @@
 use native.Mathlib.Omega.{arith}
 use Rattle.lent.specs.Layout.{axis_reals, axis_counts}
 use Rattle.lent.specs.Memory.{memory}
-use mathlib.Core.Path.{◌≡◌, refl, ◌∙◌}
-use Prim.Native.Nat.{◌-◌}
-use lib.ListN.{length}
+use mathlib.Core.Path.{refl, ◌∙◌}
 use Rattle.lent.specs.Renewed.{update_all_at}
-use Rattle.lent.proofs.Changes.{Going, going-first, going_done, going-held, going-here, going_next}
+use Rattle.lent.proofs.Changes.{going-first, going_done, going-held, going-here, going_next}
 use Rattle.updates.proofs.renewal.update_each.Goals as goal
 
 pub overflow_mul-reals_each : goal.overflow_mul-reals_each

@@ -1,12 +1,10 @@
 -- `renewal::update_each` meets its contract: what is left to update, with what was found, stays the whole.
-use native.Mathlib.Omega.{arith}
-use Rattle.lent.specs.Layout.{axis_reals, axis_counts}
 use Rattle.lent.specs.Memory.{memory}
-use mathlib.Core.Path.{◌≡◌, refl, ◌∙◌}
+use mathlib.Core.Path.{◌≡◌}
 use Prim.Native.Nat.{◌-◌}
 use lib.ListN.{length}
 use Rattle.lent.specs.Renewed.{update_all_at}
-use Rattle.lent.proofs.Changes.{Going, going-first, going_done, going-held, going-here, going_next}
+use Rattle.lent.proofs.Changes.{Going}
 use Rattle.updates.proofs.renewal.update_each.Given as goal
 
 abbrev pub invariant-loop-done : goal.invariant-loop-done

@@ -1,7 +1,6 @@
 -- `updating::refusal` meets its contract: each return by the law of its case.
 use Rattle.lent.specs.State.{fault_to}
 use Rattle.updates.proofs.Refused.{fault-refuses, rate-refuses, none-refuses}
-use borrow.Author.Rules.{rules}
 use Rattle.updates.proofs.updating.refusal.Goals as goal
 
 pub returns-then-fault-ne0 : goal.returns-then-fault-ne0

@@ -4,7 +4,6 @@ use lib.ListN.{length}
 use Rattle.lent.specs.Memory.{memory}
 use Rattle.lent.proofs.Founds.{laid_kept}
 use Rattle.lent.proofs.Spares.{over-eight, over-nine, over_done}
-use borrow.Author.Rules.{rules}
 use Rattle.updates.proofs.updating.update_over.Goals as goal
 
 pub update_grid-f-requires : goal.update_grid-f-requires

@@ -2,7 +2,6 @@
 use mathlib.Core.Path.{refl}
 use native.Mathlib.Omega.{arith}
 use lib.ListN.{length}
-use borrow.Author.Rules.{rules}
 use Rattle.model.specs.Update.{rate_fits}
 use Rattle.lent.specs.Memory.{memory}
 use Rattle.lent.specs.State.{judged_to}
