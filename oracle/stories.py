@@ -140,8 +140,8 @@ class Call:
         self.path, given = self.several(), []
         for _ in range(self.take(1)[0]):
             is_open, x = self.take(2)
-            given.append("open′" if is_open else f"at {word(x)}")
-        self.given = sum(g != "open′" for g in given)
+            given.append("open'" if is_open else f"at {word(x)}")
+        self.given = sum(g != "open'" for g in given)
         coordinates = f"({' ∷ '.join(given + ['[]'])})" if given else "[]"
         return f"probe {listed(self.path)} {coordinates}"
 
@@ -454,13 +454,11 @@ def cheapest(chance, test):
 
 HEAD = """\
 -- Stories that the oracle told, written by oracle/stories.py: each row is a call at one of two places and the words of its answer.
-use mathlib.Core.Path.{_≡_, refl}
-use mathlib.Core.Bool.{true, false}
-use mathlib.Core.List.{List, [], _∷_}
-use Rattle·model.specs.Grid.{nothing, grid}
-use Rattle·model.specs.Probe.{open′}
-use Rattle·stories·specs.specs.Story.{plan, load, draw, probe, train, update, mergeable, merge, copy, summary, live}
-use Rattle·stories·specs.specs.Story.{Row, row, axes_grid, bins_grid, stream, at, right}
+use Rattle.std.specs.Prelude.{◌≡◌, refl, true, false, List, [], ◌∷◌}
+use Rattle.model.specs.Grid.{nothing, grid}
+use Rattle.model.specs.Probe.{open'}
+use Rattle.stories.specs.Story.{plan, load, draw, probe, train, update, mergeable, merge, copy, summary, live}
+use Rattle.stories.specs.Story.{Row, row, axes_grid, bins_grid, stream, at, right}
 """
 
 
