@@ -13,7 +13,7 @@ unfolding mergeable_of
 returns-then-refused-ne0 c = c.pair_fault-refused.ensures ∙ sym (stopped (pair_fault c.args.table.now c.args.reals.now c.args.counts.now c.args.other.now c.args.theirs.now c.args.tallies.now) (pair_fault c.args.table.now c.args.reals.now c.args.counts.now c.args.other.now c.args.theirs.now c.args.tallies.now) (merge_fault (root_of c.args.table.now c.args.reals.now c.args.counts.now) (root_of c.args.other.now c.args.theirs.now c.args.tallies.now)) (λ z. c.if-refused-ne0.true (c.pair_fault-refused.ensures ∙ z)))
 
 pub grid_obstacle-found-requires : goal.grid_obstacle-found-requires
-grid_obstacle-found-requires c = let k = pair-clear c.args.table.now c.args.reals.now c.args.counts.now c.args.other.now c.args.theirs.now c.args.tallies.now (λ i. omega (arith, c.shared_slice_known-1.given i)) (λ i. omega (arith, c.shared_slice_known-4-1.given i)) (sym c.pair_fault-refused.ensures ∙ c.if-refused-ne0.false) in (k.0.laid, k.1.laid, k.0.well, k.1.well)
+grid_obstacle-found-requires c = let k = pair-clear c.args.table.now c.args.reals.now c.args.counts.now c.args.other.now c.args.theirs.now c.args.tallies.now (λ i. omega (arith, c.type_inv.table i)) (λ i. omega (arith, c.type_inv.other i)) (sym c.pair_fault-refused.ensures ∙ c.if-refused-ne0.false) in (k.0.laid, k.1.laid, k.0.well, k.1.well)
 
 pub returns-then-found-eq8 : goal.returns-then-found-eq8
 unfolding mergeable_of

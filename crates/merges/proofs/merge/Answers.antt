@@ -18,14 +18,14 @@ unfolding merge_into_of
 returns-then-refused-ne0 c = ap (λ (n : ℕ). state_end n (memory c.args.reals.now c.args.counts.now)) c.pair_fault-refused.ensures ∙ sym (stopped (pair_fault c.args.table.now c.args.reals.now c.args.counts.now c.args.other.now c.args.theirs.now c.args.tallies.now) (state_end (pair_fault c.args.table.now c.args.reals.now c.args.counts.now c.args.other.now c.args.theirs.now c.args.tallies.now) (memory c.args.reals.now c.args.counts.now)) (united_by (merge_of (root_of c.args.table.now c.args.reals.now c.args.counts.now) (root_of c.args.other.now c.args.theirs.now c.args.tallies.now)) (united_grid c.args.table.now c.args.other.now (memory c.args.theirs.now c.args.tallies.now) 4 0 0 (memory c.args.reals.now c.args.counts.now)) (memory c.args.reals.now c.args.counts.now)) (λ z. c.if-refused-ne0.true (c.pair_fault-refused.ensures ∙ z)))
 
 pub grid_obstacle-found-requires : goal.grid_obstacle-found-requires
-grid_obstacle-found-requires c = let k = pair-clear c.args.table.now c.args.reals.now c.args.counts.now c.args.other.now c.args.theirs.now c.args.tallies.now (λ i. omega (arith, c.shared_slice_known-1.given i)) (λ i. omega (arith, c.shared_slice_known-2-1.given i)) (sym c.pair_fault-refused.ensures ∙ c.if-refused-ne0.false) in (k.0.laid, k.1.laid, k.0.well, k.1.well)
+grid_obstacle-found-requires c = let k = pair-clear c.args.table.now c.args.reals.now c.args.counts.now c.args.other.now c.args.theirs.now c.args.tallies.now (λ i. omega (arith, c.type_inv.table i)) (λ i. omega (arith, c.type_inv.other i)) (sym c.pair_fault-refused.ensures ∙ c.if-refused-ne0.false) in (k.0.laid, k.1.laid, k.0.well, k.1.well)
 
 pub returns-then-found-ne0 : goal.returns-then-found-ne0
 unfolding merge_into_of united_by
 returns-then-found-ne0 c = sym (ap (λ (p : Paper Grid). united_by p (united_grid c.args.table.now c.args.other.now (memory c.args.theirs.now c.args.tallies.now) 4 0 0 (memory c.args.reals.now c.args.counts.now)) (memory c.args.reals.now c.args.counts.now)) (merge-refused (root_of c.args.table.now c.args.reals.now c.args.counts.now) (root_of c.args.other.now c.args.theirs.now c.args.tallies.now) c.grid_obstacle-found.result c.grid_obstacle-found.ensures c.if-found-ne0.true)) ∙ sym (went_on (pair_fault c.args.table.now c.args.reals.now c.args.counts.now c.args.other.now c.args.theirs.now c.args.tallies.now) (state_end (pair_fault c.args.table.now c.args.reals.now c.args.counts.now c.args.other.now c.args.theirs.now c.args.tallies.now) (memory c.args.reals.now c.args.counts.now)) (united_by (merge_of (root_of c.args.table.now c.args.reals.now c.args.counts.now) (root_of c.args.other.now c.args.theirs.now c.args.tallies.now)) (united_grid c.args.table.now c.args.other.now (memory c.args.theirs.now c.args.tallies.now) 4 0 0 (memory c.args.reals.now c.args.counts.now)) (memory c.args.reals.now c.args.counts.now)) (sym c.pair_fault-refused.ensures ∙ c.if-refused-ne0.false))
 
 pub merge_grid-requires : goal.merge_grid-requires
-merge_grid-requires c = let k = pair-clear c.args.table.now c.args.reals.now c.args.counts.now c.args.other.now c.args.theirs.now c.args.tallies.now (λ i. omega (arith, c.shared_slice_known-1.given i)) (λ i. omega (arith, c.shared_slice_known-2-1.given i)) (sym c.pair_fault-refused.ensures ∙ c.if-refused-ne0.false) in (k.0.laid, k.1.laid)
+merge_grid-requires c = let k = pair-clear c.args.table.now c.args.reals.now c.args.counts.now c.args.other.now c.args.theirs.now c.args.tallies.now (λ i. omega (arith, c.type_inv.table i)) (λ i. omega (arith, c.type_inv.other i)) (sym c.pair_fault-refused.ensures ∙ c.if-refused-ne0.false) in (k.0.laid, k.1.laid)
 
 pub returns : goal.returns
 unfolding merge_into_of united_by

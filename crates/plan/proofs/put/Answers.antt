@@ -7,7 +7,7 @@ pub returns-then-table-taken : goal.returns-then-table-taken
 returns-then-table-taken c = put-short _ _ c.requires c.if-table-taken.true
 
 pub write-requires : goal.write-requires
-write-requires c = writable _ c.args.table.now c.requires c.if-table-taken.false (λ i. omega (arith, c.shared_slice_known-1.given i)) c.start.ensures
+write-requires c = writable _ c.args.table.now c.requires c.if-table-taken.false (λ i. omega (arith, c.type_inv.bytes i)) c.start.ensures
 
 pub shape_of-table : goal.shape_of-table
 shape_of-table c = c.write.auto.table

@@ -14,7 +14,7 @@ unfolding live_of paper_estimated
 returns-then-refused-ne0 c = ap (λ (n : ℕ). refuses n) c.fault-refused.ensures ∙ sym (refused-first (state_fault c.args.table.now c.args.reals.now c.args.counts.now) (live_estimate_of (own_of (root_of c.args.table.now c.args.reals.now c.args.counts.now))) (λ z. c.if-refused-ne0.true (c.fault-refused.ensures ∙ z)))
 
 pub own-requires : goal.own-requires
-own-requires c = (clear c.args.table.now c.args.reals.now c.args.counts.now (λ i. omega (arith, c.shared_slice_known-1.given i)) (sym c.fault-refused.ensures ∙ c.if-refused-ne0.false)).laid
+own-requires c = (clear c.args.table.now c.args.reals.now c.args.counts.now (λ i. omega (arith, c.type_inv.table i)) (sym c.fault-refused.ensures ∙ c.if-refused-ne0.false)).laid
 
 pub returns : goal.returns
 unfolding live_of

@@ -16,7 +16,7 @@ unfolding live_of_bin paper_estimated
 returns-then-refused-ne0 c = ap (λ (n : ℕ). refuses n) c.fault-refused.ensures ∙ sym (refused-first (state_fault c.args.table.now c.args.reals.now c.args.counts.now) (estimate_along (root_of c.args.table.now c.args.reals.now c.args.counts.now) (entries 0 c.args.path 0 c.args.levels)) (λ z. c.if-refused-ne0.true (c.fault-refused.ensures ∙ z)))
 
 pub estimate_along-requires : goal.estimate_along-requires
-estimate_along-requires c = ((clear c.args.table.now c.args.reals.now c.args.counts.now (λ i. omega (arith, c.shared_slice_known-1.given i)) (sym c.fault-refused.ensures ∙ c.if-refused-ne0.false)).laid, omega arith)
+estimate_along-requires c = ((clear c.args.table.now c.args.reals.now c.args.counts.now (λ i. omega (arith, c.type_inv.table i)) (sym c.fault-refused.ensures ∙ c.if-refused-ne0.false)).laid, omega arith)
 
 pub returns : goal.returns
 unfolding live_of_bin

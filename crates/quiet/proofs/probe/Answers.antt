@@ -15,7 +15,7 @@ unfolding probe_of paper_probed
 returns-then-refused-ne0 c = ap refuses c.fault-refused.ensures ∙ sym (refused-first (state_fault c.args.table.now c.args.reals.now c.args.counts.now) (probe_grid (root_of c.args.table.now c.args.reals.now c.args.counts.now) (path_from c.args.p 0) (coordinates_of c.args.p.coordinates)) (λ z. c.if-refused-ne0.true (c.fault-refused.ensures ∙ z)))
 
 pub probe_grid-requires : goal.probe_grid-requires
-probe_grid-requires c = ((clear c.args.table.now c.args.reals.now c.args.counts.now (λ i. omega (arith, c.shared_slice_known-1.given i)) (sym c.fault-refused.ensures ∙ c.if-refused-ne0.false)).laid, omega arith, (clear c.args.table.now c.args.reals.now c.args.counts.now (λ i. omega (arith, c.shared_slice_known-1.given i)) (sym c.fault-refused.ensures ∙ c.if-refused-ne0.false)).well)
+probe_grid-requires c = ((clear c.args.table.now c.args.reals.now c.args.counts.now (λ i. omega (arith, c.type_inv.table i)) (sym c.fault-refused.ensures ∙ c.if-refused-ne0.false)).laid, omega arith, (clear c.args.table.now c.args.reals.now c.args.counts.now (λ i. omega (arith, c.type_inv.table i)) (sym c.fault-refused.ensures ∙ c.if-refused-ne0.false)).well)
 
 pub returns : goal.returns
 unfolding probe_of

@@ -15,7 +15,7 @@ unfolding draw_of drawn_as
 returns-then-refused-ne0 c = ap₂ (λ (n : ℕ) (d : laid.Drawing). record { refused = n; drawing = d }) c.fault-refused.ensures c.draw_nothing-drawing.ensures ∙ sym (ap (drawn_as c.args.start) (refused-first (state_fault c.args.table.now c.args.reals.now c.args.counts.now) (gives (draw_grid (root_of c.args.table.now c.args.reals.now c.args.counts.now) c.args.start)) (λ z. c.if-refused-ne0.true (c.fault-refused.ensures ∙ z))))
 
 pub draw_root-drawing-requires : goal.draw_root-drawing-requires
-draw_root-drawing-requires c = let state = clear c.args.table.now c.args.reals.now c.args.counts.now (λ i. omega (arith, c.shared_slice_known-1.given i)) (sym c.fault-refused.ensures ∙ c.if-refused-ne0.false) in (state.laid, state.well)
+draw_root-drawing-requires c = let state = clear c.args.table.now c.args.reals.now c.args.counts.now (λ i. omega (arith, c.type_inv.table i)) (sym c.fault-refused.ensures ∙ c.if-refused-ne0.false) in (state.laid, state.well)
 
 pub returns : goal.returns
 unfolding draw_of drawn_as

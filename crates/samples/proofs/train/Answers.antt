@@ -16,10 +16,10 @@ pub returns-then-refused-ne0 : goal.returns-then-refused-ne0
 returns-then-refused-ne0 c = train-state c.args.table.now (memory c.args.reals.now c.args.counts.now) c.args.s c.args.evaluation c.args.number c.fault-refused.result c.fault-refused.ensures c.if-refused-ne0.true
 
 pub fault_of-form-requires : goal.fault_of-form-requires
-fault_of-form-requires c = let state = clear c.args.table.now c.args.reals.now c.args.counts.now (λ i. omega (arith, c.shared_slice_known-1.given i)) (sym c.fault-refused.ensures ∙ c.if-refused-ne0.false) in state.laid
+fault_of-form-requires c = let state = clear c.args.table.now c.args.reals.now c.args.counts.now (λ i. omega (arith, c.type_inv.table i)) (sym c.fault-refused.ensures ∙ c.if-refused-ne0.false) in state.laid
 
 pub admit-requires : goal.admit-requires
-admit-requires c = let state = clear c.args.table.now c.args.reals.now c.args.counts.now (λ i. omega (arith, c.shared_slice_known-1.given i)) (sym c.fault-refused.ensures ∙ c.if-refused-ne0.false) in (state.laid, state.well, c.fault_of-form.ensures, refl)
+admit-requires c = let state = clear c.args.table.now c.args.reals.now c.args.counts.now (λ i. omega (arith, c.type_inv.table i)) (sym c.fault-refused.ensures ∙ c.if-refused-ne0.false) in (state.laid, state.well, c.fault_of-form.ensures, refl)
 
 pub shape_of-reals : goal.shape_of-reals
 shape_of-reals c = omega arith

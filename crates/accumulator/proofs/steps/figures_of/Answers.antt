@@ -5,6 +5,7 @@ use borrow.Author.Tests.{eqb-true}
 use lib.Dec.{eqb}
 use lib.Ieee.{binary64, add}
 use Rattle.doubles.specs.Count.{count_of}
+use Rattle.accumulator.specs.declared.StatisticsAccumulator.{StatisticsAccumulator}
 use Rattle.accumulator.specs.Record.{bounded_counts}
 use Rattle.accumulator.specs.Update.{enough, figures_of, figures_for}
 use Rattle.accumulator.specs.Ended.{tallied_of, refusal_of, ended_of}
@@ -13,23 +14,27 @@ use Rattle.accumulator.proofs.Ended.{plainly, may-end, figures-there, figures-mi
 use Rattle.accumulator.proofs.steps.figures_of.Goals as goal
 use Rattle.accumulator.proofs.steps.figures_of.Goals.{Else-refusal-n, Joined-not-is_plain, then-not-is_plain, else-not-is_plain}
 
-number : (c : Joined-not-is_plain) → c.if-not-is_plain.refusal ≡ refusal_of (tallied_of c.args.sum c.args.n c.args.sum_sq c.args.zeros c.args.total c.args.processed c.args.total_sq c.args.num_zeros c.args.weight_sum c.args.iterations)
+-- the sums and counts that are judged
+abbrev here : Joined-not-is_plain → StatisticsAccumulator
+here c = tallied_of c.args.sum c.args.n c.args.sum_sq c.args.zeros c.args.total c.args.processed c.args.total_sq c.args.num_zeros c.args.weight_sum c.args.iterations
+
+number : (c : Joined-not-is_plain) → c.if-not-is_plain.refusal ≡ refusal_of (here c)
 number c = elim c.if-not-is_plain.branch [ then-not-is_plain w ↦ w.refusal-is ∙ w.refusal_of-refusal.ensures ∙ ap refusal_of w.tallied.ensures | else-not-is_plain w ↦ w.refusal-is ∙ sym (plainly _ _ _ _ _ _ _ _ _ _ (c.is_plain.ensures w.if-not-is_plain.false)) ]
 
 -- the iteration may end, and has two samples or more
-present-here : (c : Else-refusal-n) → (refusal_of (tallied_of c.args.sum c.args.n c.args.sum_sq c.args.zeros c.args.total c.args.processed c.args.total_sq c.args.num_zeros c.args.weight_sum c.args.iterations) ≡ 0) × (enough (tallied_of c.args.sum c.args.n c.args.sum_sq c.args.zeros c.args.total c.args.processed c.args.total_sq c.args.num_zeros c.args.weight_sum c.args.iterations) ≡ true)
+present-here : (c : Else-refusal-n) → (refusal_of (here c.before) ≡ 0) × (enough (here c.before) ≡ true)
 unfolding enough tallied_of
 present-here c = let p = present (eqb c.if-not-is_plain.refusal 0) c.args.n c.if-refusal-n.false in
     (sym (number c.before) ∙ eqb-true c.if-not-is_plain.refusal 0 p.0, p.1)
 
-counts : (c : Else-refusal-n) → bounded_counts (tallied_of c.args.sum c.args.n c.args.sum_sq c.args.zeros c.args.total c.args.processed c.args.total_sq c.args.num_zeros c.args.weight_sum c.args.iterations) ≡ true
+counts : (c : Else-refusal-n) → bounded_counts (here c.before) ≡ true
 counts c = counts_of_lem _ (may-end false _ (present-here c).0).0
 
 pub returns-then-refusal-n : goal.returns-then-refusal-n
 unfolding enough tallied_of
 returns-then-refusal-n c = let n = number (goal.at.returns-then-refusal-n c).Joined-not-is_plain in
     let h = rw n at (missing (eqb c.if-not-is_plain.refusal 0) c.args.n c.if-refusal-n.true) in
-    rw (c.without.ensures, n) (sym (figures-missing _ (tallied_of c.args.sum c.args.n c.args.sum_sq c.args.zeros c.args.total c.args.processed c.args.total_sq c.args.num_zeros c.args.weight_sum c.args.iterations) h))
+    rw (c.without.ensures, n) (sym (figures-missing _ (here (goal.at.returns-then-refusal-n c).Joined-not-is_plain) h))
 
 pub int_to_float-waiting : goal.int_to_float-waiting
 unfolding tallied_of
@@ -38,9 +43,9 @@ int_to_float-waiting c = exact _ (within _ (counts (goal.at.int_to_float-waiting
 -- the figures that are worked out are the record's own
 there : (w : Bool) (c : Else-refusal-n)
     → figures_of w c.args.sum c.args.sum_sq (count_of c.args.n) (add binary64 c.args.total c.args.sum) (add binary64 c.args.total_sq c.args.sum_sq) (add binary64 (count_of c.args.processed) (count_of c.args.n)) c.args.weight_sum
-    ≡ ended_of w (tallied_of c.args.sum c.args.n c.args.sum_sq c.args.zeros c.args.total c.args.processed c.args.total_sq c.args.num_zeros c.args.weight_sum c.args.iterations)
+    ≡ ended_of w (here c.before)
 unfolding figures_for tallied_of
-there w c = let a = tallied_of c.args.sum c.args.n c.args.sum_sq c.args.zeros c.args.total c.args.processed c.args.total_sq c.args.num_zeros c.args.weight_sum c.args.iterations in
+there w c = let a = here c.before in
     let p = present-here c in
     rw (all-count a (counts c)) (sym (figures-there w a p.0 p.1))
 

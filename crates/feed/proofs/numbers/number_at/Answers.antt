@@ -10,7 +10,7 @@ pub overflow_sub-left : goal.overflow_sub-left
 overflow_sub-left c = omega arith
 
 pub overflow_mul-value : goal.overflow_mul-value
-overflow_mul-value c = omega (arith, c.loop-left.invariant.1, room-for-more c.args.bytes.now (λ i. omega (arith, c.shared_slice_known-1.given i)) (c.args.many - c.loop-left.left) (c.args.at + c.loop-left.left) (omega arith))
+overflow_mul-value c = omega (arith, c.loop-left.invariant.1, room-for-more c.args.bytes.now (λ i. omega (arith, c.type_inv.bytes i)) (c.args.many - c.loop-left.left) (c.args.at + c.loop-left.left) (omega arith))
 
 pub overflow_add-at : goal.overflow_add-at
 overflow_add-at c = omega arith
@@ -19,7 +19,7 @@ pub bounds-bytes-at : goal.bounds-bytes-at
 bounds-bytes-at c = omega arith
 
 pub overflow_add-value : goal.overflow_add-value
-overflow_add-value c = let known = c.shared_slice_known-1.given in
+overflow_add-value c = let known = c.type_inv.bytes in
     omega (arith, c.loop-left.invariant.1, c.wide.ensures, known (c.args.at + (c.loop-left.left - 1)), room-for-more c.args.bytes.now (λ i. omega (arith, known i)) (c.args.many - c.loop-left.left) (c.args.at + c.loop-left.left) (omega arith))
 
 pub loop-left-smaller : goal.loop-left-smaller

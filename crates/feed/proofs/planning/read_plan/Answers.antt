@@ -4,7 +4,7 @@ use Rattle.feed.proofs.Rungs.{found_inside, plan-unread, plan-found}
 use Rattle.feed.proofs.planning.read_plan.Goals as goal
 
 pub found-requires : goal.found-requires
-found-requires c = found_inside _ _ _ _ (λ i. omega (arith, c.shared_slice_known-1.given i)) c.measure_prefix.ensures c.in-Plan.is
+found-requires c = found_inside _ _ _ _ (λ i. omega (arith, c.type_inv.bytes i)) c.measure_prefix.ensures c.in-Plan.is
 
 pub returns-in-Refused : goal.returns-in-Refused
 returns-in-Refused c = plan-unread _ _ _ _ _ _ _ c.is_all_in-all.ensures c.measure_prefix.ensures _ _ _ c.in-Refused.is c.unread.ensures

@@ -24,14 +24,14 @@ unfolding both_judged
 returns-then-tallies-asked c = rw (le-ltb _ _ c.if-reals-needs.false, le-ltb _ _ c.if-counts-needs.false, le-ltb _ _ c.if-theirs-asked.false, lt-ltb _ _ c.if-tallies-asked.true)
 
 pub grid_fits-requires : goal.grid_fits-requires
-grid_fits-requires c = root-laid c.args.table.now c.args.needs (length c.args.reals.now) (length c.args.counts.now) (λ i. omega (arith, c.shared_slice_known-1.given i)) c.requires.0 c.if-reals-needs.false c.if-counts-needs.false
+grid_fits-requires c = root-laid c.args.table.now c.args.needs (length c.args.reals.now) (length c.args.counts.now) (λ i. omega (arith, c.type_inv.table i)) c.requires.0 c.if-reals-needs.false c.if-counts-needs.false
 
 pub returns-then-not-grid_fits : goal.returns-then-not-grid_fits
 unfolding both_judged
 returns-then-not-grid_fits c = rw (le-ltb _ _ c.if-reals-needs.false, le-ltb _ _ c.if-counts-needs.false, le-ltb _ _ c.if-theirs-asked.false, le-ltb _ _ c.if-tallies-asked.false, sym c.grid_fits.ensures ∙ c.if-not-grid_fits.true)
 
 pub grid_fits-requires-2 : goal.grid_fits-requires-2
-grid_fits-requires-2 c = root-laid c.args.other.now c.args.asked (length c.args.theirs.now) (length c.args.tallies.now) (λ i. omega (arith, c.shared_slice_known-4-1.given i)) c.requires.1 c.if-theirs-asked.false c.if-tallies-asked.false
+grid_fits-requires-2 c = root-laid c.args.other.now c.args.asked (length c.args.theirs.now) (length c.args.tallies.now) (λ i. omega (arith, c.type_inv.other i)) c.requires.1 c.if-theirs-asked.false c.if-tallies-asked.false
 
 pub returns-then-not-grid_fits-2 : goal.returns-then-not-grid_fits-2
 unfolding both_judged

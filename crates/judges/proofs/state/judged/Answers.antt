@@ -16,7 +16,7 @@ unfolding judged_by
 returns-then-counts-needs c = rw (le-ltb _ _ c.if-reals-needs.false, lt-ltb _ _ c.if-counts-needs.true)
 
 pub grid_fits-requires : goal.grid_fits-requires
-grid_fits-requires c = root-laid c.args.table.now c.args.needs (length c.args.reals.now) (length c.args.counts.now) (λ i. omega (arith, c.shared_slice_known-1.given i)) c.requires c.if-reals-needs.false c.if-counts-needs.false
+grid_fits-requires c = root-laid c.args.table.now c.args.needs (length c.args.reals.now) (length c.args.counts.now) (λ i. omega (arith, c.type_inv.table i)) c.requires c.if-reals-needs.false c.if-counts-needs.false
 
 pub returns-then-not-grid_fits : goal.returns-then-not-grid_fits
 unfolding judged_by

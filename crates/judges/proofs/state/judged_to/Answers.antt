@@ -24,7 +24,7 @@ unfolding judged_to
 returns-then-tallies-needs c = rw (le-ltb _ _ c.if-reals-needs.false, le-ltb _ _ c.if-counts-needs.false, le-ltb _ _ c.if-places-needs.false, lt-ltb _ _ c.if-tallies-needs.true)
 
 pub grid_fits-requires : goal.grid_fits-requires
-grid_fits-requires c = root-laid c.args.table.now c.args.needs (length c.args.reals.now) (length c.args.counts.now) (λ i. omega (arith, c.shared_slice_known-1.given i)) c.requires c.if-reals-needs.false c.if-counts-needs.false
+grid_fits-requires c = root-laid c.args.table.now c.args.needs (length c.args.reals.now) (length c.args.counts.now) (λ i. omega (arith, c.type_inv.table i)) c.requires c.if-reals-needs.false c.if-counts-needs.false
 
 pub returns-then-not-grid_fits : goal.returns-then-not-grid_fits
 unfolding judged_to

@@ -8,10 +8,10 @@ pub bounds-bytes-at : goal.bounds-bytes-at
 bounds-bytes-at c = omega arith
 
 pub overflow_cast-result : goal.overflow_cast-result
-overflow_cast-result c = omega (arith, c.shared_slice_known-1.given c.args.at)
+overflow_cast-result c = omega (arith, c.type_inv.bytes c.args.at)
 
 pub returns-then-at-bytes : goal.returns-then-at-bytes
-returns-then-at-bytes c = (refl, omega (arith, c.shared_slice_known-1.given c.args.at))
+returns-then-at-bytes c = (refl, omega (arith, c.type_inv.bytes c.args.at))
 
 pub returns : goal.returns
 returns c = (sym (get_or-eq_default c.args.bytes.now 0 c.if-at-bytes.false), omega arith)

@@ -41,7 +41,7 @@ pub put_counts-requires : goal.put_counts-requires
 put_counts-requires c = front_fits c.args.needs.counts c.args.counts.now c.args.to_counts.now (ready c.args.table.now (memory c.args.reals.now c.args.counts.now) (memory c.args.to_reals.now c.args.to_counts.now) c.args.needs (sym (planned (goal.at.put_counts-requires c).After-fault_to-refused) ∙ c.if-refused-ne0.false)).counts (ready c.args.table.now (memory c.args.reals.now c.args.counts.now) (memory c.args.to_reals.now c.args.to_counts.now) c.args.needs (sym (planned (goal.at.put_counts-requires c).After-fault_to-refused) ∙ c.if-refused-ne0.false)).tallies
 
 pub clear_root-requires : goal.clear_root-requires
-clear_root-requires c = (copy-laid c.args.table.now (memory c.args.reals.now c.args.counts.now) (memory c.args.to_reals.now c.args.to_counts.now) c.args.needs (λ i. omega (arith, c.shared_slice_known-1.given i)) c.requires (ready c.args.table.now (memory c.args.reals.now c.args.counts.now) (memory c.args.to_reals.now c.args.to_counts.now) c.args.needs (sym (planned (goal.at.clear_root-requires c).After-fault_to-refused) ∙ c.if-refused-ne0.false)) (length c.put_reals.new.reals) (length c.put_counts.new.counts) c.put_reals.auto.reals c.put_counts.auto.counts, copy-sound c.args.table.now (memory c.args.reals.now c.args.counts.now) (memory c.args.to_reals.now c.args.to_counts.now) c.args.needs (λ i. omega (arith, c.shared_slice_known-1.given i)) c.requires (ready c.args.table.now (memory c.args.reals.now c.args.counts.now) (memory c.args.to_reals.now c.args.to_counts.now) c.args.needs (sym (planned (goal.at.clear_root-requires c).After-fault_to-refused) ∙ c.if-refused-ne0.false)) (memory c.put_reals.new.reals c.put_counts.new.counts) (copy-put c.args.needs (memory c.args.reals.now c.args.counts.now) (memory c.args.to_reals.now c.args.to_counts.now) c.put_reals.new.reals c.put_counts.new.counts (ready c.args.table.now (memory c.args.reals.now c.args.counts.now) (memory c.args.to_reals.now c.args.to_counts.now) c.args.needs (sym (planned (goal.at.clear_root-requires c).After-fault_to-refused) ∙ c.if-refused-ne0.false)).reals (ready c.args.table.now (memory c.args.reals.now c.args.counts.now) (memory c.args.to_reals.now c.args.to_counts.now) c.args.needs (sym (planned (goal.at.clear_root-requires c).After-fault_to-refused) ∙ c.if-refused-ne0.false)).counts c.put_reals.ensures c.put_counts.ensures))
+clear_root-requires c = (copy-laid c.args.table.now (memory c.args.reals.now c.args.counts.now) (memory c.args.to_reals.now c.args.to_counts.now) c.args.needs (λ i. omega (arith, c.type_inv.table i)) c.requires (ready c.args.table.now (memory c.args.reals.now c.args.counts.now) (memory c.args.to_reals.now c.args.to_counts.now) c.args.needs (sym (planned (goal.at.clear_root-requires c).After-fault_to-refused) ∙ c.if-refused-ne0.false)) (length c.put_reals.new.reals) (length c.put_counts.new.counts) c.put_reals.auto.reals c.put_counts.auto.counts, copy-sound c.args.table.now (memory c.args.reals.now c.args.counts.now) (memory c.args.to_reals.now c.args.to_counts.now) c.args.needs (λ i. omega (arith, c.type_inv.table i)) c.requires (ready c.args.table.now (memory c.args.reals.now c.args.counts.now) (memory c.args.to_reals.now c.args.to_counts.now) c.args.needs (sym (planned (goal.at.clear_root-requires c).After-fault_to-refused) ∙ c.if-refused-ne0.false)) (memory c.put_reals.new.reals c.put_counts.new.counts) (copy-put c.args.needs (memory c.args.reals.now c.args.counts.now) (memory c.args.to_reals.now c.args.to_counts.now) c.put_reals.new.reals c.put_counts.new.counts (ready c.args.table.now (memory c.args.reals.now c.args.counts.now) (memory c.args.to_reals.now c.args.to_counts.now) c.args.needs (sym (planned (goal.at.clear_root-requires c).After-fault_to-refused) ∙ c.if-refused-ne0.false)).reals (ready c.args.table.now (memory c.args.reals.now c.args.counts.now) (memory c.args.to_reals.now c.args.to_counts.now) c.args.needs (sym (planned (goal.at.clear_root-requires c).After-fault_to-refused) ∙ c.if-refused-ne0.false)).counts c.put_reals.ensures c.put_counts.ensures))
 
 pub shape_of-to_reals : goal.shape_of-to_reals
 shape_of-to_reals c = omega arith

@@ -33,7 +33,7 @@ returns-then-refused-ne0 c = steps-stop c.args.table.now c.args.evaluations.now 
 -- a step that was not refused leaves a clear state, and the next number does not overflow
 goes_on : (c : Else-refused-ne0) → Cleared c.args.table.now (memory c.step-stepped.new.reals c.step-stepped.new.counts) c.loop-done.number
 goes_on c = step-onward c.args.table.now (memory c.loop-done.reals c.loop-done.counts) c.loop-done.stream (get_or c.args.evaluations.now c.loop-done.done nan) c.loop-done.number c.loop-done.invariant.3 c.step-stepped.result.refused c.step-stepped.result.stream (memory c.step-stepped.new.reals c.step-stepped.new.counts)
-    (λ i. omega (arith, c.shared_slice_known-1.given i)) c.step-stepped.ensures.0 c.if-refused-ne0.false
+    (λ i. omega (arith, c.type_inv.table i)) c.step-stepped.ensures.0 c.if-refused-ne0.false
 
 pub overflow_add-number : goal.overflow_add-number
 overflow_add-number c = omega (arith, (goes_on (goal.at.overflow_add-number c).Else-refused-ne0).number)

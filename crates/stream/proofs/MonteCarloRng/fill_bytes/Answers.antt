@@ -3,15 +3,19 @@ use Rattle.std.proofs.Common.{◌*◌, ◌<◌, length, sym, refl, ap, ◌∙◌
 use Rattle.stream.specs.Calls.{words_for}
 use Rattle.stream.proofs.Fills.{onward-starts, onward-done, begins, spent, fills-word}
 use Rattle.stream.proofs.MonteCarloRng.fill_bytes.Goals as goal
+use Rattle.stream.proofs.MonteCarloRng.fill_bytes.Goals.{In-loop-k}
+
+within : (c : In-loop-k) → c.loop-k.k * 8 < length c.loop-k.dest
+within c = begins _ _ _ c.loop-k.invariant.0 c.loop-k-test.true
 
 pub loop-k-init : goal.loop-k-init
 loop-k-init c = (c.words_for-words.ensures, refl, refl)
 
 pub overflow_mul-k : goal.overflow_mul-k
-overflow_mul-k c = let w = (let it : c.loop-k.k * 8 < length c.loop-k.dest = begins _ _ _ c.loop-k.invariant.0 c.loop-k-test.true in it) in omega arith
+overflow_mul-k c = let w = within (goal.at.overflow_mul-k c).In-loop-k in omega arith
 
 pub overflow_add-k : goal.overflow_add-k
-overflow_add-k c = let w = (let it : c.loop-k.k * 8 < length c.loop-k.dest = begins _ _ _ c.loop-k.invariant.0 c.loop-k-test.true in it) in omega arith
+overflow_add-k c = let w = within (goal.at.overflow_add-k c).In-loop-k in omega arith
 
 pub loop-k-smaller : goal.loop-k-smaller
 loop-k-smaller c = let t = c.loop-k-test.true in omega arith
@@ -20,7 +24,7 @@ pub loop-k-preserved : goal.loop-k-preserved
 loop-k-preserved c = (
   c.loop-k.invariant.0 ∙ ap words_for (sym c.put_word.auto.dest),
   c.put_word.auto.dest ∙ c.loop-k.invariant.1,
-  fills-word _ _ _ _ _ c.next_u64-word.ensures c.put_word.ensures ((let it : c.loop-k.k * 8 < length c.loop-k.dest = begins _ _ _ c.loop-k.invariant.0 c.loop-k-test.true in it)) ∙ c.loop-k.invariant.2,
+  fills-word _ _ _ _ _ c.next_u64-word.ensures c.put_word.ensures (within (goal.at.loop-k-preserved c).In-loop-k) ∙ c.loop-k.invariant.2,
 )
 
 pub shape_of-dest : goal.shape_of-dest

@@ -4,7 +4,7 @@ use Rattle.stream.proofs.Uppers.{upper, upper-next, upper-all, upper-room}
 use Rattle.stream.proofs.bytes.word_at.Goals as goal
 
 small : (c : goal.After-shared_slice_known-1) → c.loop-i.word < 2 ^ 56
-small c = rw c.loop-i.invariant.1 (upper-room (drop c.args.at c.args.bytes.now) (8 - c.loop-i.i) (λ k. rw get_or-drop (omega (arith, c.shared_slice_known-1.given (c.args.at + k)))) (omega arith))
+small c = rw c.loop-i.invariant.1 (upper-room (drop c.args.at c.args.bytes.now) (8 - c.loop-i.i) (λ k. rw get_or-drop (omega (arith, c.type_inv.bytes (c.args.at + k)))) (omega arith))
 
 pub loop-i-init : goal.loop-i-init
 unfolding upper
@@ -20,13 +20,13 @@ pub bounds-bytes-at : goal.bounds-bytes-at
 bounds-bytes-at c = omega arith
 
 pub overflow_cast-byte : goal.overflow_cast-byte
-overflow_cast-byte c = omega (arith, c.shared_slice_known-1.given (c.args.at + (c.loop-i.i - 1)))
+overflow_cast-byte c = omega (arith, c.type_inv.bytes (c.args.at + (c.loop-i.i - 1)))
 
 pub overflow_mul-word : goal.overflow_mul-word
 overflow_mul-word c = omega (arith, small c)
 
 pub overflow_add-word : goal.overflow_add-word
-overflow_add-word c = omega (arith, small c, c.shared_slice_known-1.given (c.args.at + (c.loop-i.i - 1)))
+overflow_add-word c = omega (arith, small c, c.type_inv.bytes (c.args.at + (c.loop-i.i - 1)))
 
 pub loop-i-smaller : goal.loop-i-smaller
 loop-i-smaller c = omega arith

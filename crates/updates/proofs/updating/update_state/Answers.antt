@@ -30,7 +30,7 @@ pub slice_bounds-update_over-end-4 : goal.slice_bounds-update_over-end-4
 slice_bounds-update_over-end-4 c = (allowed (goal.at.slice_bounds-update_over-end-4 c).Else-refused-ne0).room.tallies
 
 pub update_over-requires : goal.update_over-requires
-update_over-requires c = front-ready c.args.table.now (memory c.args.reals.now c.args.counts.now) (memory c.args.spare_reals.now c.args.spare_counts.now) c.args.needs (λ i. omega (arith, c.shared_slice_known-1.given i)) c.requires (allowed (goal.at.update_over-requires c).Else-refused-ne0).room
+update_over-requires c = front-ready c.args.table.now (memory c.args.reals.now c.args.counts.now) (memory c.args.spare_reals.now c.args.spare_counts.now) c.args.needs (λ i. omega (arith, c.type_inv.table i)) c.requires (allowed (goal.at.update_over-requires c).Else-refused-ne0).room
 
 pub returns : goal.returns
 returns c = let a = allowed (goal.at.returns c).Else-refused-ne0 in
