@@ -1,4 +1,5 @@
 -- Three tests for room, each refused with 10; past them the table that is written lays its grid within what was measured.
+use borrow.Author.Rules.{rules}
 use mathlib.Core.Path.{ap}
 use native.Mathlib.Omega.{arith}
 use lib.ListN.{length}
@@ -21,7 +22,7 @@ unfolding paper_read
 returns-then-counts-needs c = short-counts c.args.bytes.now c.args.table.now (memory c.args.reals.now c.args.counts.now) (plan_read c.args.end c.args.needs) c.if-table-needs.false c.if-reals-needs.false c.if-counts-needs.true
 
 pub lay_grid-requires : goal.lay_grid-requires
-lay_grid-requires c = read-laid c.args.bytes.now c.args.table.now c.read_plan-read.new.table (plan_read c.args.end c.args.needs) (length c.args.reals.now) (length c.args.counts.now) (λ i. omega (arith, c.type_inv.bytes i)) (λ i. omega (arith, c.slice_known-4-1.given i)) c.requires c.if-table-needs.false c.if-reals-needs.false c.if-counts-needs.false (ap (λ (x : End). x.table) c.read_plan-read.ensures)
+lay_grid-requires c = read-laid c.args.bytes.now c.args.table.now c.read_plan-read.new.table (plan_read c.args.end c.args.needs) (length c.args.reals.now) (length c.args.counts.now) (λ i. omega (arith, c.type_inv.bytes i)) (λ i. search rules) c.requires c.if-table-needs.false c.if-reals-needs.false c.if-counts-needs.false (ap (λ (x : End). x.table) c.read_plan-read.ensures)
 
 pub shape_of-table : goal.shape_of-table
 shape_of-table c = omega arith
