@@ -61,12 +61,12 @@ shape_of-counts-then-refused-ne0 c = omega arith
 pub returns-then-refused-ne0 : goal.returns-then-refused-ne0
 returns-then-refused-ne0 c = let d = (goal.at.returns-then-refused-ne0 c).After-draw_grid-drawn in
     let m = memory c.args.reals.now c.args.counts.now in (
-  ap (step_end c.admit-refused.result c.args.start) (c.admit-refused.ensures.1 ∙ admitted-none c.admit-refused.result c.args.table.now (sample d) c.args.evaluation c.args.number m c.if-refused-ne0.true)
-      ∙ step-objected c.args.table.now m c.args.start c.args.evaluation c.args.number c.requires.0 (sample d) c.admit-refused.result (back d) c.draw_grid-drawn.ensures.0.4 c.admit-refused.ensures.0 c.if-refused-ne0.true,
-  (lengths d).0,
-  (lengths d).1,
-  (lengths d).2,
-)
+      ap (step_end c.admit-refused.result c.args.start) (c.admit-refused.ensures.1 ∙ admitted-none c.admit-refused.result c.args.table.now (sample d) c.args.evaluation c.args.number m c.if-refused-ne0.true)
+          ∙ step-objected c.args.table.now m c.args.start c.args.evaluation c.args.number c.requires.0 (sample d) c.admit-refused.result (back d) c.draw_grid-drawn.ensures.0.4 c.admit-refused.ensures.0 c.if-refused-ne0.true,
+      (lengths d).0,
+      (lengths d).1,
+      (lengths d).2,
+    )
 
 pub shape_of-reals : goal.shape_of-reals
 shape_of-reals c = omega arith
