@@ -1,22 +1,25 @@
 -- An iteration's end, judged by a record's sums and counts alone: what plainly may end, what is refused, and what is answered then.
 -- Assumes nothing.
-use mathlib.Core.Path.{◌≡◌, refl, sym, ◌∙◌}
+use mathlib.Core.Path.{◌≡◌, refl, sym, ap, ◌∙◌}
 use mathlib.Core.Logic.{inl, inr}
-use mathlib.Core.Bool.{Bool, true, false, not, cond, ◌&&◌, ◌||◌, false≢true}
+use mathlib.Core.Bool.{Bool, true, false, cond, ◌&&◌}
 use Prim.Native.Nat.{ℕ, ◌+◌, ◌^◌, ◌<◌}
 use native.Mathlib.Omega.{arith}
-use borrow.Author.Tests.{le-leb, lt-leb, ltb-true, ltb-false, eqb-true}
-use lib.Dec.{eqb, ltb, leb}
+use borrow.Author.Tests.{le-leb, eqb-true}
+use lib.Dec.{eqb}
 use lib.Ieee.{Float, nan, binary64, of_bits, add, sub, le}
 use Rattle.doubles.specs.Numbers.{zero64}
 use Rattle.doubles.specs.Finite.{finite_of}
-use Rattle.doubles.specs.Paper.{Paper, refuses}
+use Rattle.doubles.specs.Paper.{Paper, gives, refuses}
+use Rattle.doubles.specs.Refusal.{number_of}
+use Rattle.doubles.specs.declared.refusal.Refusal.{Refusal}
+use Rattle.doubles.proofs.Refusals.{nonzero}
 use Rattle.doubles.proofs.Truth.{either}
 use Rattle.doubles.proofs.Finites.{add-finite, less-itself}
 use Rattle.accumulator.specs.declared.StatisticsAccumulator.{StatisticsAccumulator}
 use Rattle.accumulator.specs.declared.steps.Figures.{Figures}
 use Rattle.accumulator.specs.Record.{bounded, finite_sums, bounded_counts, well_formed, raised}
-use Rattle.accumulator.specs.Update.{figures_of, figures_for, without_of, processed_of, enough, updated_of}
+use Rattle.accumulator.specs.Update.{figures_for, without_of, processed_of, enough, updated_of}
 use Rattle.accumulator.specs.Calls.{sound, kept}
 use Rattle.accumulator.proofs.Processed.{judged-before}
 use Rattle.accumulator.specs.Ended.{Plain, tallied_of, refusal_of, ended_of}
@@ -88,28 +91,39 @@ module _ (a : StatisticsAccumulator) where
 -- ---- refused, and not
 
 module _ (w : Bool) (a : StatisticsAccumulator) where
-  numbered : (n : ℕ) (z b : Bool) → (z ≡ true → n ≡ 0) → (cond (z && b) (figures_for w a) (without_of n)).refusal ≡ n
-  unfolding figures_for figures_of without_of
-  numbered n true true h = sym (h refl)
-  numbered n true false h = refl
-  numbered n false b h = refl
-
-  refusal-of-ended : (ended_of w a).refusal ≡ refusal_of a
+  -- as the calls have it: n is the refusal of the iteration of a, f what it comes to
+  pub ended-refused : (n : ℕ) → refuses n ≡ ended_of w a → (n ≡ refusal_of a) × (refusal_of a ≡ 0 → ⊥)
   unfolding ended_of
-  refusal-of-ended = numbered (refusal_of a) (eqb (refusal_of a) 0) (enough a) (eqb-true (refusal_of a) 0)
+  ended-refused n h = elim (either (eqb (refusal_of a) 0)) [
+    | inl e ↦ let x = rw e at h in absurd cc
+    | inr e ↦ let x = rw e at h in (cc, λ z. let y = rw z at e in absurd cc)
+  ]
 
-  -- as the calls have it: f is what the iteration of a comes to
-  pub number : (f : Figures) → f ≡ ended_of w a → f.refusal ≡ refusal_of a
-  number f is = rw is refusal-of-ended
+  pub ended-given : (f : Figures) → gives f ≡ ended_of w a → (refusal_of a ≡ 0) × (f ≡ cond (enough a) (figures_for w a) without_of)
+  unfolding ended_of
+  ended-given f h = elim (either (eqb (refusal_of a) 0)) [
+    | inl e ↦ let x = rw e at h in (eqb-true (refusal_of a) 0 e, cc)
+    | inr e ↦ let x = rw e at h in absurd cc
+  ]
+
+  pub ended-fails : (refusal_of a ≡ 0 → ⊥) → ended_of w a ≡ refuses (refusal_of a)
+  unfolding ended_of
+  ended-fails h = elim (either (eqb (refusal_of a) 0)) [
+    | inl e ↦ absurd (h (eqb-true (refusal_of a) 0 e))
+    | inr e ↦ rw e
+  ]
+
+  pub ended-err : (r : Refusal) → number_of r ≡ refusal_of a → refuses (number_of r) ≡ ended_of w a
+  ended-err r e = rw e (sym (ended-fails (nonzero r (refusal_of a) e)))
 
   -- the figures of an iteration that may end
-  pub figures-there : refusal_of a ≡ 0 → enough a ≡ true → ended_of w a ≡ figures_for w a
+  pub figures-there : refusal_of a ≡ 0 → enough a ≡ true → ended_of w a ≡ gives (figures_for w a)
   unfolding ended_of
   figures-there h e = rw (h, e)
 
-  pub figures-missing : ((eqb (refusal_of a) 0 && enough a) ≡ false) → ended_of w a ≡ without_of (refusal_of a)
+  pub figures-missing : refusal_of a ≡ 0 → enough a ≡ false → ended_of w a ≡ gives without_of
   unfolding ended_of
-  figures-missing h = rw h
+  figures-missing h e = rw (h, e)
 
   -- what may end was well formed and is so afterwards
   pub may-end : refusal_of a ≡ 0 → (well_formed a ≡ true) × (well_formed (updated_of w a) ≡ true)
@@ -135,15 +149,16 @@ module _ (w : Bool) (a : StatisticsAccumulator) where
     | inr e ↦ rw e
   ]
 
--- ---- the code's test whether there are figures
+module _ (w : Bool) (a : StatisticsAccumulator) where
+  -- a call that ends as the iteration does
+  pub stops : {A : Type 0} (p : Paper A) (n : ℕ) → refuses n ≡ ended_of w a → refuses n ≡ sound a (kept (updated_of w a) p)
+  stops p n h = let e = ended-refused w a n h in rw e.0 (sym (refused w a p e.1))
 
-pub missing : (z : Bool) (n : ℕ) → (not z || ltb n 2) ≡ true → (z && leb 2 n) ≡ false
-missing true n h = lt-leb 2 n (ltb-true n 2 h)
-missing false n h = refl
+  pub goes : {A : Type 0} (p : Paper A) (f : Figures) → gives f ≡ ended_of w a → p ≡ sound a (kept (updated_of w a) p)
+  goes p f h = sym (allowed w a p (ended-given w a f h).0)
 
-pub present : (z : Bool) (n : ℕ) → (not z || ltb n 2) ≡ false → (z ≡ true) × (leb 2 n ≡ true)
-present true n h = (refl, le-leb 2 n (ltb-false n 2 h))
-present false n h = absurd (false≢true (sym h))
+  pub figures : (f : Figures) → gives f ≡ ended_of w a → enough a ≡ true → f ≡ figures_for w a
+  figures f h e = let x = (ended-given w a f h).1 in x ∙ ap (λ b. cond b (figures_for w a) without_of) e
 
 -- ---- what plainly may end
 

@@ -1,53 +1,35 @@
 -- What each call answers: the refusals in their order, then the answer.
-use Rattle.std.specs.Prelude.{ℕ, ◌^◌, Bool, false, not, cond, leb, Float}
+use Rattle.std.specs.Prelude.{ℕ, ◌^◌, Bool, false, not, cond, leb, Float, Result, Ok, Err}
 use Rattle.std.specs.Float.Ieee.{eq}
 use Rattle.doubles.specs.Numbers.{zero64}
 use Rattle.doubles.specs.Finite.{finite_of}
 use Rattle.doubles.specs.Paper.{Paper, gives, refuses}
+use Rattle.doubles.specs.Refusal.{number_of}
+use Rattle.doubles.specs.declared.refusal.Refusal.{Refusal}
 use Rattle.accumulator.specs.declared.StatisticsAccumulator.{StatisticsAccumulator}
 use Rattle.accumulator.specs.declared.Estimate.{Estimate}
-use Rattle.accumulator.specs.declared.Summary.{Summary}
-use Rattle.accumulator.specs.declared.Changed.{Changed}
-use Rattle.accumulator.specs.declared.Changed.TheVariants as changed
 use Rattle.accumulator.specs.declared.Merged.{Merged}
-use Rattle.accumulator.specs.declared.Merged.TheVariants as merged
 use Rattle.accumulator.specs.declared.Updated.{Updated}
-use Rattle.accumulator.specs.declared.Updated.TheVariants as updated
-use Rattle.accumulator.specs.declared.Estimated.{Estimated}
-use Rattle.accumulator.specs.declared.Estimated.TheVariants as estimated
-use Rattle.accumulator.specs.declared.Summed.{Summed}
-use Rattle.accumulator.specs.declared.Summed.TheVariants as summed
+use Rattle.accumulator.specs.declared.Summary.{Summary}
 use Rattle.accumulator.specs.Record.{well_formed}
 use Rattle.accumulator.specs.Steps.{added_of, merged_of, cleared_of, copied_of}
 use Rattle.accumulator.specs.Update.{enough, updated_of}
 
--- ---- what each answer says
-
-unfoldable pub paper_changed : Changed → Paper StatisticsAccumulator
-paper_changed (changed.Record a) = gives a
-paper_changed (changed.Refused n) = refuses n
+-- ---- what the answers of two records say
 
 pub data Both : Type 0 where
   both : StatisticsAccumulator → StatisticsAccumulator → Both
 
-unfoldable pub paper_merged : Merged → Paper Both
-paper_merged (merged.Records a b) = gives (both a b)
-paper_merged (merged.Refused n) = refuses n
+abbrev pub paper_merged : Result Merged Refusal → Paper Both
+paper_merged (Ok m) = gives (both m.after m.other)
+paper_merged (Err r) = refuses (number_of r)
 
 pub data Stepped : Type 0 where
   stepped : Bool → StatisticsAccumulator → Stepped
 
-unfoldable pub paper_updated : Updated → Paper Stepped
-paper_updated (updated.Record b a) = gives (stepped b a)
-paper_updated (updated.Refused n) = refuses n
-
-unfoldable pub paper_estimated : Estimated → Paper Estimate
-paper_estimated (estimated.Estimate e) = gives e
-paper_estimated (estimated.Refused n) = refuses n
-
-unfoldable pub paper_summed : Summed → Paper Summary
-paper_summed (summed.Summary s) = gives s
-paper_summed (summed.Refused n) = refuses n
+abbrev pub paper_updated : Result Updated Refusal → Paper Stepped
+paper_updated (Ok u) = gives (stepped u.processed u.after)
+paper_updated (Err r) = refuses (number_of r)
 
 -- ---- the calls
 

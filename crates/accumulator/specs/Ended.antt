@@ -1,7 +1,8 @@
 -- What the inner functions say of an iteration's end: whether it is refused, and what it comes to. Definitions only.
-use Rattle.std.specs.Prelude.{◌≡◌, ℕ, ◌^◌, ◌<◌, Bool, true, false, cond, ◌&&◌, eqb, Float}
+use Rattle.std.specs.Prelude.{◌≡◌, ℕ, ◌^◌, ◌<◌, Bool, true, false, not, cond, eqb, Float}
 use Rattle.doubles.specs.Numbers.{zero64}
 use Rattle.doubles.specs.Finite.{finite_of}
+use Rattle.doubles.specs.Paper.{Paper, gives, refuses}
 use Rattle.accumulator.specs.declared.StatisticsAccumulator.{StatisticsAccumulator}
 use Rattle.accumulator.specs.declared.steps.Figures.{Figures}
 use Rattle.accumulator.specs.Record.{well_formed}
@@ -38,9 +39,9 @@ tallied_of sum n sum_sq zeros total processed total_sq num_zeros weights iterati
 unfoldable pub refusal_of : StatisticsAccumulator → ℕ
 refusal_of a = cond (well_formed a) (cond (well_formed (updated_of false a)) 0 8) 12
 
--- what an iteration comes to: the figures where it may end and has at least two samples, else the number alone
-unfoldable pub ended_of : Bool → StatisticsAccumulator → Figures
-ended_of weighted a = cond (eqb (refusal_of a) 0 && enough a) (figures_for weighted a) (without_of (refusal_of a))
+-- what an iteration comes to where it may end: its figures, none without at least two samples
+unfoldable pub ended_of : Bool → StatisticsAccumulator → Paper Figures
+ended_of weighted a = cond (not (eqb (refusal_of a) 0)) (refuses (refusal_of a)) (gives (cond (enough a) (figures_for weighted a) without_of))
 
 -- counts far from their bound, and totals that are finite with the waiting samples in them
 pub record Plain (n zeros processed num_zeros iterations : ℕ) (total total_sq : Float) : Type 0 where

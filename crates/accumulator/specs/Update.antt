@@ -1,5 +1,5 @@
 -- `update_iter`, in the Rust's order of operations.
-use Rattle.std.specs.Prelude.{ℕ, ◌+◌, Bool, cond, leb, eqb, Float}
+use Rattle.std.specs.Prelude.{◌+◌, Bool, cond, leb, eqb, Float}
 use Rattle.std.specs.Float.{binary64}
 use Rattle.std.specs.Float.Ieee.{of_bits, add, sub, mul, div, eq}
 use Rattle.doubles.specs.Numbers.{zero64, one64}
@@ -34,7 +34,6 @@ figures_of weighted sum sum_sq n total total_sq all weights =
     let sigma = inv_of (add binary64 weights weight) in
     record {
       mean = mean;
-      refusal = 0;
       weight = weight;
       avg = cond weighted zero64 avg;
       err = cond weighted (root_of sigma) (root_of (variance_of avg (div binary64 total_sq all) all));
@@ -47,9 +46,9 @@ figures_for weighted a =
     figures_of weighted a.sum a.sum_sq (count_of a.new_samples) (add binary64 a.total_sum a.sum) (add binary64 a.total_sum_sq a.sum_sq)
     (count_of (a.processed_samples + a.new_samples)) a.weight_sum
 
--- none, but the number of a refusal, 0 for none
-unfoldable pub without_of : ℕ → Figures
-without_of n = record { mean = zero64; refusal = n; weight = zero64; avg = zero64; err = zero64; sigma = zero64 }
+-- none
+unfoldable pub without_of : Figures
+without_of = record { mean = zero64; weight = zero64; avg = zero64; err = zero64; sigma = zero64 }
 
 -- the waiting samples among the processed ones, one iteration on; the estimates stay
 unfoldable pub gathered_of : StatisticsAccumulator → StatisticsAccumulator

@@ -9,11 +9,14 @@ mod steps;
 
 ghost use Rattle.std.specs.Prelude.{◌≡◌, false, ◌&&◌};
 ghost use Rattle.doubles.specs.Paper.{refuses};
+ghost use Rattle.doubles.specs.Refusal.{number_of, paper};
 ghost use Rattle.accumulator.specs.Record.{fresh, well_formed};
 ghost use Rattle.accumulator.specs.Steps.{added_of};
-ghost use Rattle.accumulator.specs.Calls.{paper_changed, paper_merged, paper_updated, paper_estimated, paper_summed, kept_of, numbered, add_sample_of, merge_of, merge_clearing_of, clear_of, copy_of, update_of, live_estimate_of, summarize_of};
+ghost use Rattle.accumulator.specs.Calls.{paper_merged, paper_updated, kept_of, numbered, add_sample_of, merge_of, merge_clearing_of, clear_of, copy_of, update_of, live_estimate_of, summarize_of};
 
+use doubles::Refusal;
 use judge::{has_bounded_counts, is_well_formed};
+pub use steps::{either, is_replaced, zero_count};
 
 // The record. A sample of an extreme is its number, 0 for none. Doubles and counts take turns: of two doubles side by side
 // the compiler would move both at once, and the processor would wait until each of them, stored alone, is written.
@@ -42,39 +45,26 @@ pub struct StatisticsAccumulator {
     pub max_eval_negative: f64,
 }
 
-// The record after a call, or a refusal's number.
+// Both records after a clearing merge.
 #[derive(Clone, Copy)]
-pub enum Changed {
-    Record(StatisticsAccumulator),
-    Refused(u64),
+pub struct Merged {
+    pub after: StatisticsAccumulator,
+    pub other: StatisticsAccumulator,
 }
 
-// Both records after a clearing merge, or a refusal's number.
+// Whether waiting samples were processed, and the record after the update.
 #[derive(Clone, Copy)]
-pub enum Merged {
-    Records(StatisticsAccumulator, StatisticsAccumulator),
-    Refused(u64),
+pub struct Updated {
+    pub processed: bool,
+    pub after: StatisticsAccumulator,
 }
 
-// Whether waiting samples were processed, and the record after the update; or a refusal's number.
-#[derive(Clone, Copy)]
-pub enum Updated {
-    Record(bool, StatisticsAccumulator),
-    Refused(u64),
-}
-
+// Average, error and chi-squared.
 #[derive(Clone, Copy)]
 pub struct Estimate {
     pub avg: f64,
     pub err: f64,
     pub chi_sq: f64,
-}
-
-// The estimate as if the iteration had ended, or a refusal's number.
-#[derive(Clone, Copy)]
-pub enum Estimated {
-    Estimate(Estimate),
-    Refused(u64),
 }
 
 // Iterations, samples, average, error, chi-squared, and whether the error is zero.
@@ -86,12 +76,6 @@ pub struct Summary {
     pub error: f64,
     pub chi_squared: f64,
     pub flat: bool,
-}
-
-#[derive(Clone, Copy)]
-pub enum Summed {
-    Summary(Summary),
-    Refused(u64),
 }
 
 impl StatisticsAccumulator {
@@ -125,78 +109,84 @@ impl StatisticsAccumulator {
     }
 
     // The record without the extremes' samples. Refused: 12.
-    pub fn shallow_copy(self) -> Changed
-        ensures { paper_changed result ≡ copy_of self }
+    pub fn shallow_copy(self) -> Result<StatisticsAccumulator, Refusal>
+        ensures { paper result ≡ copy_of self }
     {
         if !is_well_formed(self) {
-            return Changed::Refused(12);
+            return Err(Refusal::State);
         }
-        Changed::Record(steps::copied(self))
+        Ok(steps::copied(self))
     }
 
     // The record with one evaluation more, of the sample with this number, 0 for none. Refused: 12; 3 for a number above 2^53;
     // 7 for an evaluation that is not finite; 8. Sums that are finite afterwards were so before, and so was the evaluation:
     // a sample that is accepted is judged once, on the record after it.
-    pub fn add_sample(self, eval: f64, number: u64) -> Changed
-        ensures { paper_changed result ≡ add_sample_of self eval number }
+    pub fn add_sample(self, eval: f64, number: u64) -> Result<StatisticsAccumulator, Refusal>
+        ensures { paper result ≡ add_sample_of self eval number }
     {
         if !has_bounded_counts(self) {
-            return Changed::Refused(12);
+            return Err(Refusal::State);
         }
         let after = steps::added(self, eval, number);
         if !is_accepted(number, after) {
-            return Changed::Refused(sample_refusal(self, eval, number));
+            return Err(sample_refusal(self, eval, number));
         }
-        Changed::Record(after)
+        Ok(after)
     }
 
     // The record with the other's waiting samples; the other keeps them. Refused: 12, 8.
-    pub fn merge_samples_no_reset(self, other: StatisticsAccumulator) -> Changed
-        ensures { paper_changed result ≡ merge_of self other }
+    pub fn merge_samples_no_reset(
+        self,
+        other: StatisticsAccumulator,
+    ) -> Result<StatisticsAccumulator, Refusal>
+        ensures { paper result ≡ merge_of self other }
     {
         if !is_well_formed(self) {
-            return Changed::Refused(12);
+            return Err(Refusal::State);
         }
         if !is_well_formed(other) {
-            return Changed::Refused(12);
+            return Err(Refusal::State);
         }
         kept(steps::merged(self, other))
     }
 
     // The record with the other's waiting samples, and the other without them. Refused: 12, 8.
-    pub fn merge_samples(self, other: StatisticsAccumulator) -> Merged
+    pub fn merge_samples(self, other: StatisticsAccumulator) -> Result<Merged, Refusal>
         ensures { paper_merged result ≡ merge_clearing_of self other }
     {
         if !is_well_formed(self) {
-            return Merged::Refused(12);
+            return Err(Refusal::State);
         }
         if !is_well_formed(other) {
-            return Merged::Refused(12);
+            return Err(Refusal::State);
         }
         let after = steps::merged(self, other);
         if !is_well_formed(after) {
-            return Merged::Refused(8);
+            return Err(Refusal::Overflow);
         }
-        Merged::Records(after, steps::cleared(other))
+        Ok(Merged {
+            after,
+            other: steps::cleared(other),
+        })
     }
 
     // The record with nothing waiting; its extremes stay. Refused: 12.
-    pub fn clear_samples(self) -> Changed
-        ensures { paper_changed result ≡ clear_of self }
+    pub fn clear_samples(self) -> Result<StatisticsAccumulator, Refusal>
+        ensures { paper result ≡ clear_of self }
     {
         if !is_well_formed(self) {
-            return Changed::Refused(12);
+            return Err(Refusal::State);
         }
-        Changed::Record(steps::cleared(self))
+        Ok(steps::cleared(self))
     }
 
     // The record with its waiting samples processed, where there are at least two, and whether they were. Refused: 12, 8.
     // The two calls are the same, and the compiler makes one of them; but for the second it would take `figures_of` in where nothing else
     // calls it, and leave this function a call (docs/BENCHMARK.md).
-    pub fn update_iter(self, weighted_average: bool) -> Updated
+    pub fn update_iter(self, weighted_average: bool) -> Result<Updated, Refusal>
         ensures { paper_updated result ≡ update_of weighted_average self }
     {
-        let f = if self.new_samples < 2 {
+        let figures = if self.new_samples < 2 {
             steps::figures_of(
                 weighted_average,
                 self.sum,
@@ -225,18 +215,17 @@ impl StatisticsAccumulator {
                 self.cur_iter,
             )
         };
-        if f.refusal != 0 {
-            return Updated::Refused(f.refusal);
-        }
-        let after = steps::updated(weighted_average, self, f);
-        Updated::Record(2 <= self.new_samples, after)
+        Ok(Updated {
+            processed: 2 <= self.new_samples,
+            after: steps::updated(weighted_average, self, figures?),
+        })
     }
 
     // Average, error and chi-squared as if the iteration ended now. Refused: 12, 8.
-    pub fn get_live_estimate(self) -> Estimated
-        ensures { paper_estimated result ≡ live_estimate_of self }
+    pub fn get_live_estimate(self) -> Result<Estimate, Refusal>
+        ensures { paper result ≡ live_estimate_of self }
     {
-        let f = steps::figures_of(
+        let figures = steps::figures_of(
             false,
             self.sum,
             self.new_samples,
@@ -248,21 +237,18 @@ impl StatisticsAccumulator {
             self.num_zero_evaluations,
             self.weight_sum,
             self.cur_iter,
-        );
-        if f.refusal != 0 {
-            return Estimated::Refused(f.refusal);
-        }
-        Estimated::Estimate(steps::live(self, f))
+        )?;
+        Ok(steps::live(self, figures))
     }
 
     // Iterations, samples, average, error, chi-squared, and flat, exactly where the error is zero. Refused: 12.
-    pub fn summary(self) -> Summed
-        ensures { paper_summed result ≡ summarize_of self }
+    pub fn summary(self) -> Result<Summary, Refusal>
+        ensures { paper result ≡ summarize_of self }
     {
         if !is_well_formed(self) {
-            return Summed::Refused(12);
+            return Err(Refusal::State);
         }
-        Summed::Summary(Summary {
+        Ok(Summary {
             iterations: self.cur_iter,
             samples: self.processed_samples,
             average: self.avg,
@@ -274,13 +260,14 @@ impl StatisticsAccumulator {
 }
 
 // A record that is to be kept: 8 where it would not be well formed.
-fn kept(a: StatisticsAccumulator) -> Changed
-    ensures { paper_changed result ≡ kept_of a }
+fn kept(a: StatisticsAccumulator) -> Result<StatisticsAccumulator, Refusal>
+    ensures { paper result ≡ kept_of a }
 {
-    if !is_well_formed(a) {
-        return Changed::Refused(8);
+    if is_well_formed(a) {
+        Ok(a)
+    } else {
+        Err(Refusal::Overflow)
     }
-    Changed::Record(a)
 }
 
 // Whether a sample's number and the record after it are as they have to be.
@@ -291,18 +278,18 @@ fn is_accepted(number: u64, after: StatisticsAccumulator) -> bool
 }
 
 // Why a sample is refused.
-fn sample_refusal(a: StatisticsAccumulator, eval: f64, number: u64) -> u64
+fn sample_refusal(a: StatisticsAccumulator, eval: f64, number: u64) -> Refusal
     requires { (numbered number && well_formed (added_of a eval number)) ≡ false }
-    ensures { refuses result ≡ add_sample_of a eval number }
+    ensures { refuses (number_of result) ≡ add_sample_of a eval number }
 {
     if !is_well_formed(a) {
-        return 12;
+        return Refusal::State;
     }
     if 9007199254740992 < number {
-        return 3;
+        return Refusal::Range;
     }
     if !plain::finite(eval) {
-        return 7;
+        return Refusal::Infinite;
     }
-    8
+    Refusal::Overflow
 }

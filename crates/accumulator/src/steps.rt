@@ -1,5 +1,6 @@
 // The Rust's steps on a record whose counts are within their bound. Only the end of an iteration is judged here; else the calls judge.
 ghost use Rattle.std.specs.Prelude.{◌≡◌, true, false, cond, Float};
+ghost use Rattle.doubles.specs.Refusal.{fault_of, paper};
 ghost use Rattle.accumulator.specs.Record.{bounded_counts, well_formed};
 ghost use Rattle.accumulator.specs.Steps.{zero_count, replaced, added_of, merged_of, cleared_of, copied_of};
 ghost use Rattle.accumulator.specs.Update.{variance_from, weight_of, figures_of, figures_for, without_of, gathered_of, course_of, settled_of, iterated_of, processed_of, enough, updated_of};
@@ -8,30 +9,24 @@ ghost use Rattle.accumulator.specs.Ended.{Plain, tallied_of, refusal_of, ended_o
 
 use crate::judge::is_well_formed;
 use crate::{Estimate, StatisticsAccumulator};
+use doubles::Refusal;
 
-// One of two doubles.
-fn either(first: bool, a: f64, b: f64) -> f64
-    ensures { result ≡ cond first a b }
-{
-    if first { a } else { b }
-}
-
-// One of two numbers.
-fn either_number(first: bool, a: u64, b: u64) -> u64
+// One of two values.
+pub fn either<T: Copy>(first: bool, a: T, b: T) -> T
     ensures { result ≡ cond first a b }
 {
     if first { a } else { b }
 }
 
 // 1 for a zero evaluation.
-fn zero_count(eval: f64) -> u64
+pub fn zero_count(eval: f64) -> u64
     ensures { result ≡ zero_count eval }
 {
     if eval == 0.0 { 1 } else { 0 }
 }
 
 // Whether an extreme gives way: no sample holds it, or it is beaten.
-fn is_replaced(number: u64, beaten: bool) -> bool
+pub fn is_replaced(number: u64, beaten: bool) -> bool
     ensures { result ≡ replaced number beaten }
 {
     (number == 0) | beaten
@@ -56,9 +51,9 @@ pub fn added(a: StatisticsAccumulator, eval: f64, number: u64) -> StatisticsAccu
     let high = is_replaced(a.max_eval_positive_number, a.max_eval_positive < eval);
     let low = is_replaced(a.max_eval_negative_number, eval < a.max_eval_negative);
     r.max_eval_positive = either(high, eval, a.max_eval_positive);
-    r.max_eval_positive_number = either_number(high, number, a.max_eval_positive_number);
+    r.max_eval_positive_number = either(high, number, a.max_eval_positive_number);
     r.max_eval_negative = either(low, eval, a.max_eval_negative);
-    r.max_eval_negative_number = either_number(low, number, a.max_eval_negative_number);
+    r.max_eval_negative_number = either(low, number, a.max_eval_negative_number);
     r
 }
 
@@ -75,13 +70,13 @@ pub fn merged(a: StatisticsAccumulator, b: StatisticsAccumulator) -> StatisticsA
     r.new_samples = a.new_samples + b.new_samples;
     r.new_zero_evaluations = a.new_zero_evaluations + b.new_zero_evaluations;
     r.max_eval_positive = either(high, b.max_eval_positive, a.max_eval_positive);
-    r.max_eval_positive_number = either_number(
+    r.max_eval_positive_number = either(
         high,
         b.max_eval_positive_number,
         a.max_eval_positive_number,
     );
     r.max_eval_negative = either(low, b.max_eval_negative, a.max_eval_negative);
-    r.max_eval_negative_number = either_number(
+    r.max_eval_negative_number = either(
         low,
         b.max_eval_negative_number,
         a.max_eval_negative_number,
@@ -111,13 +106,11 @@ pub fn copied(a: StatisticsAccumulator) -> StatisticsAccumulator
     r
 }
 
-// What an iteration comes to: the number of the refusal of its end, 0 for none; its samples' mean and weight; the plain mean of all
-// samples, 0 where the mean is weighted; the error, and the weighted mean's variance. Without at least two samples there is nothing
-// but the number.
+// What an iteration comes to: its samples' mean and weight; the plain mean of all samples, 0 where the mean is weighted; the error, and the
+// weighted mean's variance. Without at least two samples all are 0.
 #[derive(Clone, Copy)]
 pub struct Figures {
     pub mean: f64,
-    pub refusal: u64,
     pub weight: f64,
     pub avg: f64,
     pub err: f64,
@@ -141,13 +134,12 @@ fn weight(variance: f64) -> f64
     plain::inv(variance)
 }
 
-// No figures, but the number of a refusal, 0 for none.
-fn without(refusal: u64) -> Figures
-    ensures { result ≡ without_of refusal }
+// No figures.
+fn without() -> Figures
+    ensures { result ≡ without_of }
 {
     Figures {
         mean: 0.0,
-        refusal,
         weight: 0.0,
         avg: 0.0,
         err: 0.0,
@@ -166,7 +158,6 @@ fn figured_weighted(sum: f64, sum_sq: f64, n: f64, weight_sum: f64) -> Figures
     let err = root::sqrt(sigma);
     Figures {
         mean,
-        refusal: 0,
         weight,
         avg: 0.0,
         err,
@@ -196,7 +187,6 @@ fn figured_plain(
     let err = root::sqrt(variance(avg, root_of_all, all));
     Figures {
         mean,
-        refusal: 0,
         weight,
         avg,
         err,
@@ -231,17 +221,17 @@ fn moved(a: StatisticsAccumulator) -> StatisticsAccumulator
     gathered(a)
 }
 
-// Why the record's iteration may not end, 0 where it may.
-fn refusal_of(a: StatisticsAccumulator) -> u64
-    ensures { result ≡ refusal_of a }
+// Whether the record's iteration may end.
+fn may_end(a: StatisticsAccumulator) -> Result<(), Refusal>
+    ensures { fault_of result ≡ refusal_of a }
 {
     if !is_well_formed(a) {
-        return 12;
+        return Err(Refusal::State);
     }
     if !is_well_formed(moved(a)) {
-        return 8;
+        return Err(Refusal::Overflow);
     }
-    0
+    Ok(())
 }
 
 // Whether an iteration may end for plain reasons: no count is near its bound, and the sums are finite afterwards, so that they were so
@@ -309,26 +299,25 @@ pub fn figures_of(
     num_zeros: u64,
     weight_sum: f64,
     iterations: u64,
-) -> Figures
-    ensures { result ≡ ended_of weighted (tallied_of sum n sum_sq zeros total processed total_sq num_zeros weight_sum iterations) }
+) -> Result<Figures, Refusal>
+    ensures { paper result ≡ ended_of weighted (tallied_of sum n sum_sq zeros total processed total_sq num_zeros weight_sum iterations) }
 {
     let t = total + sum;
     let q = total_sq + sum_sq;
-    let mut refusal: u64 = 0;
     if !is_plain(n, zeros, processed, num_zeros, iterations, t, q) {
-        refusal = refusal_of(tallied(
+        may_end(tallied(
             sum, n, sum_sq, zeros, total, processed, total_sq, num_zeros, weight_sum, iterations,
-        ));
+        ))?;
     }
-    if (refusal != 0) | (n < 2) {
-        return without(refusal);
+    if n < 2 {
+        return Ok(without());
     }
     let waiting = n as f64;
     if weighted {
-        return figured_weighted(sum, sum_sq, waiting, weight_sum);
+        return Ok(figured_weighted(sum, sum_sq, waiting, weight_sum));
     }
     let all = (processed as f64) + waiting;
-    figured_plain(sum, sum_sq, waiting, t, q, all, weight_sum)
+    Ok(figured_plain(sum, sum_sq, waiting, t, q, all, weight_sum))
 }
 
 // What the iterations so far come to: their weighted sums, and the mean of the first.

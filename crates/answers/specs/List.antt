@@ -1,5 +1,5 @@
 -- What a list of answers says: its words by number.
-use Rattle.std.specs.Prelude.{ℕ, ◌+◌, ◌-◌, ◌*◌, ◌/◌, cond, List, [], ◌∷◌, leb, ltb, length, take, drop}
+use Rattle.std.specs.Prelude.{ℕ, zero, suc, ◌+◌, ◌-◌, ◌*◌, ◌/◌, ◌%◌, ◌^◌, Bool, true, ◌&&◌, cond, List, [], ◌∷◌, ◌==◌, leb, ltb, length, take, drop}
 
 -- a digit 0 to 9 or a to f; any other byte counts as 0
 unfoldable pub digit_of : ℕ → ℕ
@@ -17,3 +17,21 @@ words_of l = length l / 17
 -- the word at i, and 0 past the last
 unfoldable pub word_of : List ℕ → ℕ → ℕ
 word_of l i = cond (leb (words_of l) i) 0 (value_of 0 (take 16 (drop (i * 17) l)))
+
+-- the word at i where it is below b, else 0
+unfoldable pub below_of : List ℕ → ℕ → ℕ → ℕ
+below_of l i b = cond (ltb (word_of l i) b) (word_of l i) 0
+
+-- the words from `at` on are these
+unfoldable pub holds_of : List ℕ → ℕ → List ℕ → Bool
+holds_of l at [] = true
+holds_of l at (v ∷ vs) = word_of l at == v && holds_of l (at + 1) vs
+
+-- byte i of the bytes packed from word `at` on, lowest first
+unfoldable pub byte_in : List ℕ → ℕ → ℕ → ℕ
+byte_in l at i = word_of l (at + i / 8) / 2 ^ (i % 8 * 8) % 256
+
+-- n of them from byte i on
+unfoldable pub bytes_from : List ℕ → ℕ → ℕ → ℕ → List ℕ
+bytes_from l at i zero = []
+bytes_from l at i (suc n) = byte_in l at i ∷ bytes_from l at (i + 1) n

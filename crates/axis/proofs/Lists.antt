@@ -9,18 +9,11 @@ use lib.Dec.{leb}
 use lib.ListN.{length, take, drop, set, get_or, length-drop, drop_of_length-le}
 use lib.Seq.{drop-cons, take-suc-set}
 use lib.Ieee.{Float, nan, inf, fin, binary64, sub, add, neg, lt}
+use Rattle.std.proofs.Math.Bool.{and_assoc, and-true}
 use Rattle.doubles.specs.Finite.{finite_of}
 use Rattle.doubles.specs.Total.{all_finite}
 use Rattle.axis.specs.Edges.{rising}
 use Rattle.axis.specs.Scans.{all_bounded}
-
-and_assoc : (a b c : Bool) → ((a && b) && c) ≡ (a && (b && c))
-and_assoc true b c = refl
-and_assoc false b c = refl
-
-and-true : (a : Bool) → (a && true) ≡ a
-and-true true = refl
-and-true false = refl
 
 -- what is left to scan, from k on, with what was found before
 pub finite-on : (xs : List Float) (k : ℕ) (ok : Bool) → k < length xs

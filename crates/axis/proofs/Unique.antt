@@ -8,11 +8,9 @@ use denote.Triple.Clauses.{AtExit}
 use lib.Ieee.{Float}
 use Rattle.axis.specs.declared.Point.{Point}
 use Rattle.axis.specs.declared.Spot.{Spot}
-use Rattle.axis.specs.declared.Probed.{Probed}
-use Rattle.axis.specs.declared.Probed.TheVariants as probed
-use Rattle.axis.specs.declared.Drawn.{Drawn}
-use Rattle.axis.specs.declared.Drawn.TheVariants as drawn
-use Rattle.axis.specs.Calls.{paper_probed, paper_drawn}
+use Rattle.std.specs.Prelude.{Result}
+use Rattle.doubles.specs.declared.refusal.Refusal.{Refusal}
+use Rattle.doubles.proofs.Refusals.{paper-one}
 use Rattle.axis.proofs.probe.Kinds as probe
 use Rattle.axis.proofs.probe.Reads as probe-reads
 use Rattle.axis.proofs.draw.Kinds as draw
@@ -40,34 +38,19 @@ use Rattle.axis.proofs.scans.are_bounded.Reads as are-bounded-reads
 use Rattle.axis.proofs.edges.lay_even.Kinds as lay-even
 use Rattle.axis.proofs.edges.lay_even.Reads as lay-even-reads
 
--- the paper's words tell the answers apart
-pub probed-one : (x y : Probed) → paper_probed x ≡ paper_probed y → x ≡ y
-unfolding paper_probed
-probed-one (probed.Weight v) (probed.Weight w) e = cc
-probed-one (probed.Weight v) (probed.Refused n) e = cc
-probed-one (probed.Refused m) (probed.Weight w) e = cc
-probed-one (probed.Refused m) (probed.Refused n) e = cc
-
-pub drawn-one : (x y : Drawn) → paper_drawn x ≡ paper_drawn y → x ≡ y
-unfolding paper_drawn
-drawn-one (drawn.Point p) (drawn.Point q) e = cc
-drawn-one (drawn.Point p) (drawn.Refused n) e = cc
-drawn-one (drawn.Refused m) (drawn.Point q) e = cc
-drawn-one (drawn.Refused m) (drawn.Refused n) e = cc
-
 pub probe-total : (κs : Lfts 1) (a : Dens κs probe.ps) → probe-reads.Pre κs a
 probe-total κs a = tt
 
-pub probe-unique : (κs : Lfts 1) (a : Dens κs probe.ps) (r r' : Probed) (s s' : AtExit (ended_of 1 probe.ps probe.r) κs)
+pub probe-unique : (κs : Lfts 1) (a : Dens κs probe.ps) (r r' : Result Float Refusal) (s s' : AtExit (ended_of 1 probe.ps probe.r) κs)
     → probe-reads.Post κs a r s → probe-reads.Post κs a r' s' → r ≡ r'
-probe-unique κs a r r' s s' p q = probed-one r r' (p ∙ sym q)
+probe-unique κs a r r' s s' p q = paper-one r r' (p ∙ sym q)
 
 pub draw-total : (κs : Lfts 1) (a : Dens κs draw.ps) → draw-reads.Pre κs a
 draw-total κs a = tt
 
-pub draw-unique : (κs : Lfts 1) (a : Dens κs draw.ps) (r r' : Drawn) (s s' : AtExit (ended_of 1 draw.ps draw.r) κs)
+pub draw-unique : (κs : Lfts 1) (a : Dens κs draw.ps) (r r' : Result Point Refusal) (s s' : AtExit (ended_of 1 draw.ps draw.r) κs)
     → draw-reads.Post κs a r s → draw-reads.Post κs a r' s' → r ≡ r'
-draw-unique κs a r r' s s' p q = drawn-one r r' (p ∙ sym q)
+draw-unique κs a r r' s s' p q = paper-one r r' (p ∙ sym q)
 
 pub bin-of-total : (κs : Lfts 1) (a : Dens κs bin-of.ps) → bin-of-reads.Pre κs a
 bin-of-total κs a = tt

@@ -5,21 +5,9 @@ use Rattle.std.specs.Float.Ieee.{add, sub, mul}
 use Rattle.doubles.specs.Count.{count_of}
 use Rattle.doubles.specs.Whole.{whole_of}
 use Rattle.doubles.specs.Paper.{Paper, gives, refuses}
-use Rattle.axis.specs.declared.Probed.{Probed}
-use Rattle.axis.specs.declared.Probed.TheVariants as probed
 use Rattle.axis.specs.declared.Point.{Point}
 use Rattle.axis.specs.declared.Spot.{Spot}
-use Rattle.axis.specs.declared.Drawn.{Drawn}
-use Rattle.axis.specs.declared.Drawn.TheVariants as drawn
 use Rattle.axis.specs.Edges.{well_formed, in_unit, bins_of, bin_of, width_of, weight_of}
-
-unfoldable pub paper_probed : Probed → Paper Float
-paper_probed (probed.Weight w) = gives w
-paper_probed (probed.Refused n) = refuses n
-
-unfoldable pub paper_drawn : Drawn → Paper Point
-paper_drawn (drawn.Point p) = gives p
-paper_drawn (drawn.Refused n) = refuses n
 
 -- probe: 12, 5, then the weight of the coordinate's bin
 unfoldable pub probe_of : List Float → Float → Paper Float

@@ -14,7 +14,7 @@ fn keep(test: bool, half: usize) -> usize
     if test { half } else { 0 }
 }
 
-// The bin of x, by halves.
+// The bin of x, by halves: a `while`, since what is left is no range and no slice that an iterator walks.
 pub fn bin_of(edges: &[f64], x: f64) -> usize
     ensures { result ≡ search_of edges.now x }
 {
@@ -35,20 +35,17 @@ pub fn bin_of(edges: &[f64], x: f64) -> usize
 fn bins(edges: &[f64]) -> usize
     ensures { result ≡ bins_of edges.now }
 {
-    if edges.len() == 0 {
-        return 0;
-    }
-    edges.len() - 1
+    edges.len().saturating_sub(1)
 }
 
 // The edge i, and NaN past the last.
 fn edge(edges: &[f64], i: usize) -> f64
     ensures { result ≡ get_or edges.now i nan }
 {
-    if i < edges.len() {
-        return edges[i];
+    match edges.get(i) {
+        Some(edge) => *edge,
+        None => f64::NAN,
     }
-    0.0 / 0.0
 }
 
 // The width of bin i, and NaN past the last.
@@ -58,7 +55,7 @@ fn width(edges: &[f64], i: usize) -> f64
     if i < edges.len() {
         return edge(edges, i + 1) - edges[i];
     }
-    0.0 / 0.0
+    f64::NAN
 }
 
 // The weight of bin i: the number of bins times its width.
@@ -121,9 +118,7 @@ pub fn lay_even(room: &mut [f64])
     ensures { room.new ≡ even_from (length room.old) 0 (bins_of room.old) }
 {
     let n = plain::count(bins(room) as u64);
-    let mut i = 0;
-    while i < room.len() {
-        room[i] = plain::count(i as u64) / n;
-        i += 1;
+    for (i, edge) in room.iter_mut().enumerate() {
+        *edge = plain::count(i as u64) / n;
     }
 }

@@ -8,14 +8,10 @@ pub mod edges;
 pub mod scans;
 
 ghost use Rattle.std.specs.Prelude.{◌≡◌};
-ghost use Rattle.axis.specs.Calls.{paper_probed, probe_of, paper_drawn, draw_of};
+ghost use Rattle.doubles.specs.Refusal.{paper};
+ghost use Rattle.axis.specs.Calls.{probe_of, draw_of};
 
-// The weight of a coordinate's bin, or a refusal's number.
-#[derive(Clone, Copy)]
-pub enum Probed {
-    Weight(f64),
-    Refused(u64),
-}
+use doubles::Refusal;
 
 // A drawn coordinate and its weight.
 #[derive(Clone, Copy)]
@@ -31,32 +27,25 @@ pub struct Spot {
     pub bin: usize,
 }
 
-// A drawn point, or a refusal's number.
-#[derive(Clone, Copy)]
-pub enum Drawn {
-    Point(Point),
-    Refused(u64),
-}
-
 // The weight of the bin of x. Refused: 12; 5 where x is no number in [0, 1].
-pub fn probe(edges: &[f64], x: f64) -> Probed
-    ensures { paper_probed result ≡ probe_of edges.now x }
+pub fn probe(edges: &[f64], x: f64) -> Result<f64, Refusal>
+    ensures { paper result ≡ probe_of edges.now x }
 {
     if !scans::is_well_formed(edges) {
-        return Probed::Refused(12);
+        return Err(Refusal::State);
     }
     if !scans::in_unit(x) {
-        return Probed::Refused(5);
+        return Err(Refusal::Coordinate);
     }
-    Probed::Weight(edges::weight_of(edges, edges::bin_of(edges, x)))
+    Ok(edges::weight_of(edges, edges::bin_of(edges, x)))
 }
 
 // The point that the unit draw r gives. Refused: 12.
-pub fn draw(edges: &[f64], r: f64) -> Drawn
-    ensures { paper_drawn result ≡ draw_of edges.now r }
+pub fn draw(edges: &[f64], r: f64) -> Result<Point, Refusal>
+    ensures { paper result ≡ draw_of edges.now r }
 {
     if !scans::is_well_formed(edges) {
-        return Drawn::Refused(12);
+        return Err(Refusal::State);
     }
-    Drawn::Point(edges::point_of(edges, r))
+    Ok(edges::point_of(edges, r))
 }

@@ -9,10 +9,8 @@ pub fn is_rising(edges: &[f64]) -> bool
     ensures { result ≡ rising edges.now }
 {
     let mut ok = true;
-    let mut k = 1;
-    while k < edges.len() {
+    for k in 1..edges.len() {
         ok = ok & (edges[k - 1] < edges[k]);
-        k += 1;
     }
     ok
 }
@@ -38,10 +36,7 @@ pub fn is_well_formed(edges: &[f64]) -> bool
 pub fn in_unit(x: f64) -> bool
     ensures { result ≡ in_unit x }
 {
-    if 0.0 <= x {
-        return x <= 1.0;
-    }
-    false
+    0.0 <= x && x <= 1.0
 }
 
 // Whether every double is finite.
@@ -49,10 +44,8 @@ pub fn are_finite(xs: &[f64]) -> bool
     ensures { result ≡ all_finite xs.now }
 {
     let mut ok = true;
-    let mut k = 0;
-    while k < xs.len() {
-        ok = ok & plain::finite(xs[k]);
-        k += 1;
+    for x in xs {
+        ok = ok & plain::finite(*x);
     }
     ok
 }
@@ -62,10 +55,8 @@ pub fn are_bounded(ns: &[u64]) -> bool
     ensures { result ≡ all_bounded ns.now }
 {
     let mut ok = true;
-    let mut k = 0;
-    while k < ns.len() {
-        ok = ok & (ns[k] <= 9007199254740992);
-        k += 1;
+    for n in ns {
+        ok = ok & (*n <= 9007199254740992);
     }
     ok
 }

@@ -8,12 +8,10 @@ pub fn probed(count: u64) -> u64 {
     edges::lay_even(&mut room);
     let mut stream = MonteCarloRng::seed_from_u64(0);
     let mut sum = 0.0;
-    let mut i: u64 = 0;
-    while i < count {
+    for _ in 0..count {
         let drawn = stream.unit();
         sum = sum + edges::weight_of(&room, edges::bin_of(&room, drawn.value)) * drawn.value;
         stream = drawn.stream;
-        i += 1;
     }
     answers::bits(sum)
 }
@@ -24,13 +22,11 @@ pub fn drawn(count: u64) -> u64 {
     edges::lay_even(&mut room);
     let mut stream = MonteCarloRng::seed_from_u64(0);
     let mut sum = 0.0;
-    let mut i: u64 = 0;
-    while i < count {
+    for _ in 0..count {
         let unit = stream.unit();
         let point = edges::point_of(&room, unit.value);
         sum = sum + point.at * point.weight;
         stream = unit.stream;
-        i += 1;
     }
     answers::bits(sum)
 }

@@ -1,7 +1,8 @@
 // Draws and trainings on a grid in lent memory, from new(0, 0).
 use crate::{plans, records};
-use accumulator::Estimated;
+use accumulator::Estimate;
 use answers::bits;
+use doubles::Refusal;
 use stream::MonteCarloRng;
 
 pub type Table = [u64; 8192];
@@ -14,77 +15,64 @@ type Room = [f64; 100000];
 
 // The evaluations of a batch.
 fn evaluate(evaluations: &mut Room) {
-    let mut i = 0;
-    while i < 100000 {
-        evaluations[i] = records::evaluation(i as u64);
-        i += 1;
+    for (i, evaluation) in evaluations.iter_mut().enumerate() {
+        *evaluation = records::evaluation(i as u64);
     }
 }
 
-// An estimate's word, or a refusal's number.
-fn word(answer: Estimated) -> u64 {
-    match answer {
-        Estimated::Refused(number) => number,
-        Estimated::Estimate(e) => bits(e.avg) ^ bits(e.err) ^ bits(e.chi_sq),
-    }
+// An estimate's word.
+fn word(e: Estimate) -> u64 {
+    bits(e.avg) ^ bits(e.err) ^ bits(e.chi_sq)
 }
 
-// Batches of draws and trainings: the word of the live estimate and of the stream after them, or a refusal's number.
+// Batches of draws and trainings: the word of the live estimate and of the stream after them.
 fn batches(
     table: &Table,
     reals: &mut Reals,
     counts: &mut Counts,
     evaluations: &Room,
     count: u64,
-) -> u64 {
+) -> Result<u64, Refusal> {
     let mut stream = MonteCarloRng::seed_from_u64(0);
-    let mut i: u64 = 0;
-    while i < count {
+    for _ in 0..count {
         let batch = samples::draw_and_train(table, reals, counts, stream, evaluations, 1);
-        if batch.refused != 0 {
-            return batch.refused;
-        }
+        batch.end?;
         stream = batch.stream;
-        i += 1;
     }
-    word(quiet::live_estimate(table, reals, counts)) ^ stream.s0
+    Ok(word(quiet::live_estimate(table, reals, counts)?) ^ stream.s0)
 }
 
 // So many samples, in whole batches of 100,000.
-fn trained(table: &Table, reals: &mut Reals, counts: &mut Counts, count: u64) -> u64 {
+fn trained(
+    table: &Table,
+    reals: &mut Reals,
+    counts: &mut Counts,
+    count: u64,
+) -> Result<u64, Refusal> {
     let mut room = [0.0f64; 100000];
     evaluate(&mut room);
     batches(table, reals, counts, &room, count / 100000)
 }
 
-// Draws one by one, each of which judges the grid: the exclusive or of their weights and first coordinates, or a refusal's number.
-fn drawn(table: &Table, reals: &Reals, counts: &Counts, count: u64) -> u64 {
+// Draws one by one, each of which judges the grid: the exclusive or of their weights and first coordinates.
+fn drawn(table: &Table, reals: &Reals, counts: &Counts, count: u64) -> Result<u64, Refusal> {
     let mut stream = MonteCarloRng::seed_from_u64(0);
     let mut xor: u64 = 0;
-    let mut i: u64 = 0;
-    while i < count {
-        let drawn = samples::draw(table, reals, counts, stream);
-        if drawn.refused != 0 {
-            return drawn.refused;
-        }
-        let drawing = drawn.drawing;
-        let sample = drawing.sample;
-        let weights = sample.weights;
-        let coordinates = sample.coordinates;
-        xor = xor ^ bits(weights[0]) ^ bits(coordinates[0]);
+    for _ in 0..count {
+        let drawing = samples::draw(table, reals, counts, stream)?;
+        xor = xor ^ bits(drawing.sample.weights[0]) ^ bits(drawing.sample.coordinates[0]);
         stream = drawing.stream;
-        i += 1;
     }
-    xor
+    Ok(xor)
 }
 
 // Draws on the bins grid, or on the axes grid: with training in batches, or alone; 0 where the grid is not laid.
-pub fn run(is_tree: bool, trains: bool, count: u64) -> u64 {
+pub fn run(is_tree: bool, trains: bool, count: u64) -> Result<u64, Refusal> {
     let mut table = [0u64; 8192];
     let mut reals = [0.0f64; 16384];
     let mut counts = [0u64; 8192];
-    if !plans::lay(is_tree, &mut table, &mut reals, &mut counts) {
-        return 0;
+    if plans::lay(is_tree, &mut table, &mut reals, &mut counts).is_err() {
+        return Ok(0);
     }
     if trains {
         return trained(&table, &mut reals, &mut counts, count);

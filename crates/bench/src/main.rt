@@ -1,5 +1,6 @@
 // Runs one of the library's inner loops as often as standard input says, `KIND COUNT`, and prints a word made of all results,
-// so that no part of the work can be left out. bench/run times it beside the same loop of the Rust.
+// so that no part of the work can be left out; or a refusal's number, and 0 for an unknown kind. bench/run times it beside the
+// same loop of the Rust.
 #![tactic(auto)]
 
 mod edges;
@@ -9,7 +10,9 @@ mod plans;
 mod records;
 mod request;
 
+use doubles::Refusal;
 use input::read_full;
+use request::Kind;
 use std::io;
 use stream::MonteCarloRng;
 
@@ -17,41 +20,40 @@ use stream::MonteCarloRng;
 fn stream_words(count: u64) -> u64 {
     let mut stream = MonteCarloRng::seed_from_u64(0);
     let mut xor: u64 = 0;
-    let mut i: u64 = 0;
-    while i < count {
+    for _ in 0..count {
         let word = stream.next_u64();
         xor = xor ^ word.value;
         stream = word.stream;
-        i += 1;
     }
     xor
 }
 
-// The kind that begins with this letter; 0 for an unknown one.
-fn run(kind: u8, count: u64) -> u64 {
+// The loop of a kind, so often.
+fn run(kind: Kind, count: u64) -> Result<u64, Refusal> {
     match kind {
-        b'a' => records::added(count),
-        b'd' => edges::drawn(count),
-        b'e' => kernels::raised(count),
-        b'g' => grids::run(false, true, count),
-        b'j' => grids::run(false, false, count),
-        b'l' => kernels::logged(count),
-        b'n' => grids::run(true, false, count),
-        b'p' => edges::probed(count),
-        b'r' => kernels::rooted(count),
-        b's' => stream_words(count),
-        b't' => grids::run(true, true, count),
-        b'u' => records::updated(false, count),
-        b'w' => records::updated(true, count),
-        _ => 0,
+        Kind::Add => records::added(count),
+        Kind::Draw => Ok(edges::drawn(count)),
+        Kind::Exponent => Ok(kernels::raised(count)),
+        Kind::Grid => grids::run(false, true, count),
+        Kind::Judged => grids::run(false, false, count),
+        Kind::Log => Ok(kernels::logged(count)),
+        Kind::Nested => grids::run(true, false, count),
+        Kind::Probe => Ok(edges::probed(count)),
+        Kind::Root => Ok(kernels::rooted(count)),
+        Kind::Stream => Ok(stream_words(count)),
+        Kind::Tree => grids::run(true, true, count),
+        Kind::Update => records::updated(false, count),
+        Kind::Weighted => records::updated(true, count),
     }
 }
 
 fn main(rt: HostRuntime) -> io::Result<()> {
     let mut text = [0u8; 64];
     let got = read_full(&mut rt.stdin(), &mut text)?;
-    let kind = request::kind(&text[..got]);
     let count = request::count(&text[..got]);
-    let word = run(kind, count);
+    let word = match request::kind_of(&text[..got]) {
+        Some(kind) => run(kind, count).unwrap_or_else(|why| why.number()),
+        None => 0,
+    };
     println!(rt; "{word:016x}")
 }

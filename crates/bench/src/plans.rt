@@ -1,17 +1,6 @@
 // The plans of the grids that are timed, laid in lent memory.
 use crate::grids::{Counts, Reals, Table};
-use plan::Read;
-
-// Whether a plan was laid.
-fn is_laid(answer: Read) -> bool {
-    match answer {
-        Read::Plan { end: _, needs: _ } => true,
-        Read::Refused {
-            number: _,
-            offset: _,
-        } => false,
-    }
-}
+use plan::{Misread, Read};
 
 // The bytes of a bins grid of 16 bins, its ratio 10, and at each bin an axes grid of 2 axes of 32 bins.
 fn byte_of_tree(i: usize) -> u8 {
@@ -25,20 +14,23 @@ fn byte_of_tree(i: usize) -> u8 {
 
 // These bytes written.
 fn write_tree(bytes: &mut [u8]) {
-    let mut i = 0;
-    while i < bytes.len() {
-        bytes[i] = byte_of_tree(i);
-        i += 1;
+    for (i, byte) in bytes.iter_mut().enumerate() {
+        *byte = byte_of_tree(i);
     }
 }
 
 // That bins grid laid, or an axes grid of 5 axes of 64 bins.
-pub fn lay(is_tree: bool, table: &mut Table, reals: &mut Reals, counts: &mut Counts) -> bool {
+pub fn lay(
+    is_tree: bool,
+    table: &mut Table,
+    reals: &mut Reals,
+    counts: &mut Counts,
+) -> Result<Read, Misread> {
     if is_tree {
         let mut bytes = [0u8; 318];
         write_tree(&mut bytes);
-        return is_laid(quiet::fresh(&bytes, table, reals, counts));
+        return quiet::fresh(&bytes, table, reals, counts);
     }
     let bytes = [1u8, 16, 0, 5, 64, 0, 0, 0, 0, 0, 0, 0, 0, 0, 0, 0, 0, 0, 0];
-    is_laid(quiet::fresh(&bytes, table, reals, counts))
+    quiet::fresh(&bytes, table, reals, counts)
 }

@@ -19,10 +19,7 @@ fn product(q: u64) -> Wide
     let middle = 2 * a * b + last / 0x400_0000;
     let high = a * a + middle / 0x400_0000;
     let low = middle % 0x400_0000 * 0x400_0000 + last % 0x400_0000;
-    Wide {
-        high: high,
-        low: low,
-    }
+    Wide { high, low }
 }
 
 // Whether q is the whole number nearest to the root of d * 2^52, (q - 1) * q < d * 2^52 <= q * (q + 1).
@@ -48,7 +45,7 @@ fn moved(q: u64, d: u64) -> u64
     q - 1
 }
 
-// The whole number nearest to the root of d * 2^52, from any guess.
+// The whole number nearest to the root of d * 2^52, from any guess: a `while`, since no range says how many steps a guess is off.
 fn nearest(guess: u64, d: u64) -> u64
     requires { (1 ≤ guess) × (guess < 2 ^ 53) × Radicand d }
     ensures { NearRoot (d * 2 ^ 52) result × (result < 2 ^ 53) }

@@ -18,4 +18,5 @@ pub mod Sterbenz
 pub mod Error
 pub mod Draws
 pub mod Between
+pub mod Refusals
 pub mod Unique

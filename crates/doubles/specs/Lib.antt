@@ -7,4 +7,5 @@ pub mod Count
 pub mod Bound
 pub mod Split
 pub mod Paper
+pub mod Refusal
 pub mod Total

@@ -2,9 +2,13 @@
 // the logarithm ask of a double before they begin.
 #![tactic(auto)]
 
+mod refusal;
+
 ghost use Rattle.std.specs.Prelude.{◌≡◌, ◌^◌, ◌<◌};
 ghost use Rattle.std.specs.Float.Ieee.Positive.{positive};
 ghost use Rattle.doubles.specs.Split.{lifted_of, split_of};
+
+pub use refusal::Refusal;
 
 // Whether x is finite and above 0.
 pub fn above_zero(x: f64) -> bool

@@ -10,8 +10,8 @@ use Rattle.plan.proofs.Here.{pick}
 use Rattle.plan.proofs.Tables.{Words}
 use Rattle.stream.specs.declared.MonteCarloRng.{MonteCarloRng}
 use Rattle.accumulator.specs.declared.Summary.{Summary}
-use Rattle.lent.specs.declared.Batched.{Batched}
-use Rattle.lent.specs.declared.Drawn.{Drawn}
+use Rattle.lent.specs.Batched.{Batched}
+use Rattle.lent.specs.Calls.{Drawn}
 use Rattle.lent.specs.Memory.{Memory}
 use Rattle.lent.specs.State.{state_fault}
 use Rattle.lent.specs.Calls.{FreshEnd, founded_of, fresh_by, fresh_of, StateEnd, drawn_as, draw_of, train_call_of, update_of, summary_of}

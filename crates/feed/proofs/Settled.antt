@@ -6,8 +6,8 @@ use lib.ListN.{get_or-append, get_or-eq_default}
 use Rattle.plan.specs.declared.Place.{Place}
 use Rattle.plan.specs.declared.AxesPlan.{AxesPlan}
 use Rattle.plan.specs.declared.Child.TheVariants as child
-use Rattle.plan.specs.declared.Field.{Field}
-use Rattle.plan.specs.declared.Field.TheVariants as field
+use Rattle.plan.specs.Judged.{Field}
+use Rattle.plan.specs.Judged as field
 use Rattle.plan.specs.Numbers.{number_at, run_of, values_at}
 use Rattle.plan.specs.Needs.{axes_taken}
 use Rattle.plan.specs.Fields.{formed, values_in, evolution_fault, span_of, axes_at, axes_fault, axes_field, bins_at, bins_field, nothing_field, field_of}

@@ -4,8 +4,8 @@ use Rattle.plan.specs.declared.Place.{Place}
 use Rattle.plan.specs.declared.AxesPlan.{AxesPlan}
 use Rattle.plan.specs.declared.Child.{Child}
 use Rattle.plan.specs.declared.Child.TheVariants as child
-use Rattle.plan.specs.declared.Field.{Field}
-use Rattle.plan.specs.declared.Field.TheVariants as field
+use Rattle.plan.specs.Judged.{Field}
+use Rattle.plan.specs.Judged as field
 use Rattle.plan.specs.declared.BinsPlan.{BinsPlan}
 use Rattle.plan.specs.Numbers.{run_of, values_at}
 use Rattle.plan.specs.Plan.{Tree, axes}

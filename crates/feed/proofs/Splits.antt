@@ -5,7 +5,7 @@ use lib.Ieee.{Float}
 use Rattle.plan.proofs.Tables.{Words}
 use Rattle.stream.specs.declared.MonteCarloRng.{MonteCarloRng}
 use Rattle.stream.specs.Words.{plus}
-use Rattle.lent.specs.declared.Batched.{Batched}
+use Rattle.lent.specs.Batched.{Batched}
 use Rattle.lent.specs.Memory.{Memory}
 use Rattle.lent.specs.State.{state_fault}
 use Rattle.lent.specs.Batched.{BatchEnd, batch_end, batched, step_of, unless_refused, steps_of, batch_of}

@@ -9,7 +9,7 @@ use Rattle.plan.proofs.Flags.{never}
 use Rattle.plan.proofs.Here.{pick}
 use Rattle.plan.proofs.Tables.{Words}
 use Rattle.stream.specs.Words.{plus}
-use Rattle.lent.specs.declared.Batched.{Batched}
+use Rattle.lent.specs.Batched.{Batched}
 use Rattle.lent.specs.Memory.{Memory}
 use Rattle.lent.specs.Batched.{batch_of}
 use Rattle.feed.specs.declared.Phase.{Phase}

@@ -1,11 +1,15 @@
 -- Every exported call answers on any input, and its promise allows one answer.
-use Rattle.std.proofs.Common.{◌≡◌, ℕ, Bool, sym, refl, ap, ◌∙◌}
+use Rattle.std.proofs.Common.{◌≡◌, ℕ, Bool, sym, refl, ap, ap₂, ◌∙◌}
 use contract.Lifetimes.{Lfts}
 use borrow.Fn.Kinds.{Dens, ended_of}
 use denote.Triple.Clauses.{AtExit}
 use Rattle.feed.specs.declared.Run.{Run}
-use Rattle.feed.specs.declared.Told.{Told}
-use Rattle.feed.specs.declared.Told.TheVariants as told
+use Rattle.std.specs.Prelude.{Option, Some, None, Result, Ok, Err}
+use Rattle.doubles.specs.Refusal.{number_of}
+use Rattle.doubles.specs.declared.refusal.Refusal.{Refusal}
+use Rattle.doubles.proofs.Refusals.{number-one}
+use Rattle.accumulator.specs.declared.Summary.{Summary}
+use Rattle.feed.specs.declared.Refused.{Refused}
 use Rattle.feed.specs.declared.Turned.{Turned}
 use Rattle.feed.specs.Said.{Said, paper_told}
 use Rattle.feed.specs.Turns.{TurnEnd}
@@ -16,24 +20,30 @@ use Rattle.feed.proofs.is_over.Reads as is-over-reads
 use Rattle.feed.proofs.turn.Kinds as turn-kinds
 use Rattle.feed.proofs.turn.Reads as turn-reads
 
+abbrev told : Refusal → ℕ → Result (Option Summary) Refused
+told w at = Err (record { why = w; offset = at })
+
 -- the paper's words tell the answers apart
-pub told-one : (x y : Told) → paper_told x ≡ paper_told y → x ≡ y
+pub told-one : (x y : Result (Option Summary) Refused) → paper_told x ≡ paper_told y → x ≡ y
 unfolding paper_told
-told-one told.Nothing told.Nothing e = refl
-told-one told.Nothing (told.Line s) e = cc
-told-one told.Nothing (told.Refused n at) e = cc
-told-one (told.Line s) told.Nothing e = cc
-told-one (told.Line s) (told.Line t) e = cc
-told-one (told.Line s) (told.Refused n at) e = cc
-told-one (told.Refused n at) told.Nothing e = cc
-told-one (told.Refused n at) (told.Line t) e = cc
-told-one (told.Refused n at) (told.Refused m b) e = cc
+told-one (Ok None) (Ok None) e = refl
+told-one (Ok None) (Ok (Some s)) e = cc
+told-one (Ok None) (Err r) e = cc
+told-one (Ok (Some s)) (Ok None) e = cc
+told-one (Ok (Some s)) (Ok (Some t)) e = cc
+told-one (Ok (Some s)) (Err r) e = cc
+told-one (Err r) (Ok None) e = cc
+told-one (Err r) (Ok (Some t)) e = cc
+told-one (Err r) (Err q) e =
+    let n : number_of r.why ≡ number_of q.why = cc in
+    let at : r.offset ≡ q.offset = cc in
+    ap₂ (λ (w : Refusal) (o : ℕ). told w o) (number-one r.why q.why n) at
 
 pub turned-one : (r r' : Turned) → r.run ≡ r'.run → r.taken ≡ r'.taken → r.told ≡ r'.told → r ≡ r'
 turned-one r r' e f g =
     ap (λ (x : Run). record { run = x; taken = r.taken; told = r.told }) e
     ∙ ap (λ (n : ℕ). record { run = r'.run; taken = n; told = r.told }) f
-    ∙ ap (λ (t : Told). record { run = r'.run; taken = r'.taken; told = t }) g
+    ∙ ap (λ (t : Result (Option Summary) Refused). record { run = r'.run; taken = r'.taken; told = t }) g
 
 pub beginning-total : (κs : Lfts 0) (a : Dens κs beginning-kinds.ps) → beginning-reads.Pre κs a
 beginning-total κs a = tt

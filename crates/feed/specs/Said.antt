@@ -1,5 +1,6 @@
 -- A turn's answer in the document's words, and the few answers that turns give.
-use Rattle.std.specs.Prelude.{ℕ, Bool, true, false}
+use Rattle.std.specs.Prelude.{ℕ, Bool, true, false, Option, Some, None, Result, Ok, Err}
+use Rattle.doubles.specs.Refusal.{number_of}
 use Rattle.plan.specs.Paper.{Paper, gives, refuses_at}
 use Rattle.stream.specs.declared.MonteCarloRng.{MonteCarloRng}
 use Rattle.stream.specs.Words.{plus}
@@ -7,8 +8,7 @@ use Rattle.accumulator.specs.declared.Summary.{Summary}
 use Rattle.feed.specs.declared.Phase.{Phase}
 use Rattle.feed.specs.declared.Phase.TheVariants as phase
 use Rattle.feed.specs.declared.Run.{Run}
-use Rattle.feed.specs.declared.Told.{Told}
-use Rattle.feed.specs.declared.Told.TheVariants as told
+use Rattle.feed.specs.declared.Refused.{Refused}
 use Rattle.feed.specs.declared.Turned.{Turned}
 
 -- what is told where nothing is refused: nothing, or an update's line
@@ -16,10 +16,10 @@ pub data Line : Type 0 where
   none : Line
   line : Summary → Line
 
-unfoldable pub paper_told : Told → Paper Line
-paper_told told.Nothing = gives none
-paper_told (told.Line s) = gives (line s)
-paper_told (told.Refused n at) = refuses_at n at
+unfoldable pub paper_told : Result (Option Summary) Refused → Paper Line
+paper_told (Ok None) = gives none
+paper_told (Ok (Some s)) = gives (line s)
+paper_told (Err r) = refuses_at (number_of r.why) r.offset
 
 -- the run after a turn, how many bytes it took, and what it tells
 pub record Said : Type 0 where

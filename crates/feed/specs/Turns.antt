@@ -7,7 +7,7 @@ use Rattle.plan.specs.Calls.{measure_prefix_of}
 use Rattle.stream.specs.declared.MonteCarloRng.{MonteCarloRng}
 use Rattle.stream.specs.Calls.{new_of}
 use Rattle.accumulator.specs.declared.Summary.{Summary}
-use Rattle.lent.specs.declared.Batched.{Batched}
+use Rattle.lent.specs.Batched.{Batched}
 use Rattle.lent.specs.Memory.{Memory}
 use Rattle.lent.specs.Calls.{FreshEnd, fresh_of, StateEnd, update_of, summary_of}
 use Rattle.lent.specs.Batched.{BatchEnd, batch_of}

@@ -5,7 +5,7 @@ ghost use Rattle.feed.specs.Fields.{missing_of, standing_of, is_sample, row_from
 use crate::numbers::{double_at, number_at};
 
 // A field that is due: all of it is there; its bytes may still come; or another stands there, or none, or it is cut by the input's end.
-#[derive(Clone, Copy)]
+#[derive(Clone, Copy, Debug, PartialEq, Eq)]
 pub enum Standing {
     Whole,
     Waiting,
@@ -13,6 +13,7 @@ pub enum Standing {
 }
 
 // Bytes are missing: they may come, unless these are the last.
+#[tactic(auto, unfolding(crate::specs::Fields::missing_of))]
 fn missing(last: bool) -> Standing
     ensures { result ≡ missing_of last }
 {
@@ -23,6 +24,7 @@ fn missing(last: bool) -> Standing
 }
 
 // The field of this tag and length.
+#[tactic(auto, using(std::proofs::lemmas::Bool::Decides::nat_tests), unfolding(crate::specs::Fields::standing_of))]
 pub fn stands(bytes: &[u8], tag: u8, size: usize, last: bool) -> Standing
     requires { size ≤ 16 }
     ensures { result ≡ standing_of bytes.now tag size last }
@@ -43,32 +45,25 @@ pub fn stands(bytes: &[u8], tag: u8, size: usize, last: bool) -> Standing
 }
 
 // Whether a whole 11 stands at a place.
+#[tactic(auto, using(std::proofs::lemmas::Bool::Decides::nat_tests), unfolding(crate::specs::Fields::is_sample))]
 fn is_sample(bytes: &[u8], at: usize) -> bool
     requires { at ≤ length bytes.now }
     ensures { result ≡ is_sample bytes.now at }
 {
-    if bytes.len() < at + 11 {
-        return false;
-    }
-    if bytes[at] != 0x11 {
-        return false;
-    }
-    number_at(bytes, at + 1, 2) == 8
+    at + 11 <= bytes.len() && bytes[at] == 0x11 && number_at(bytes, at + 1, 2) == 8
 }
 
 // The evaluations of the 11s that the bytes begin with, as many as there is room for; and how many they are.
 pub fn gather(bytes: &[u8], evaluations: &mut [f64]) -> usize
     ensures { (take result evaluations.new ≡ row_from bytes.now 0 (length evaluations.old)) × (result ≤ length evaluations.old) }
 {
-    let mut many = 0;
     let mut at = 0;
-    while many < evaluations.len() {
+    for (many, evaluation) in evaluations.iter_mut().enumerate() {
         if !is_sample(bytes, at) {
             return many;
         }
-        evaluations[many] = double_at(bytes, at + 3);
-        many += 1;
+        *evaluation = double_at(bytes, at + 3);
         at += 11;
     }
-    many
+    evaluations.len()
 }

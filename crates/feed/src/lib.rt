@@ -17,8 +17,12 @@ ghost use Rattle.lent.specs.Memory.{memory};
 ghost use Rattle.feed.specs.Said.{said, beginning_of, is_over_of};
 ghost use Rattle.feed.specs.Turns.{turn_end, turn_of};
 
+use accumulator::Summary;
+use doubles::Refusal;
+use stream::MonteCarloRng;
+
 // What is due next: the plan, the stream's field, samples and updates, or nothing any more.
-#[derive(Clone, Copy)]
+#[derive(Clone, Copy, Debug, PartialEq, Eq)]
 pub enum Phase {
     Plan,
     Stream,
@@ -30,35 +34,35 @@ pub enum Phase {
 #[derive(Clone, Copy)]
 pub struct Run {
     pub phase: Phase,
-    pub stream: stream::MonteCarloRng,
+    pub stream: MonteCarloRng,
     pub number: u64,
     pub at: u64,
 }
 
-// What a turn tells: nothing, an update's line, or a refusal with its field's offset.
-#[derive(Clone, Copy)]
-pub enum Told {
-    Nothing,
-    Line(accumulator::Summary),
-    Refused { number: u64, offset: u64 },
+// Why the input is refused, and the offset of the field where that shows.
+#[derive(Clone, Copy, Debug, PartialEq, Eq)]
+pub struct Refused {
+    pub why: Refusal,
+    pub offset: u64,
 }
 
-// A run after a turn: how many bytes it took, and what it tells. Where nothing was taken and the run is not over, it waits for more
-// bytes.
+// A run after a turn: how many bytes it took, and what it tells: nothing, an update's line, or a refusal. Where nothing was taken and
+// the run is not over, it waits for more bytes.
 #[derive(Clone, Copy)]
 pub struct Turned {
     pub run: Run,
     pub taken: usize,
-    pub told: Told,
+    pub told: Result<Option<Summary>, Refused>,
 }
 
 // The plan is due.
+#[tactic(auto, unfolding(crate::specs::Said::beginning_of))]
 pub fn beginning() -> Run
     ensures { result ≡ beginning_of }
 {
     Run {
         phase: Phase::Plan,
-        stream: stream::MonteCarloRng {
+        stream: MonteCarloRng {
             s0: 0,
             s1: 0,
             s2: 0,
@@ -73,13 +77,7 @@ pub fn beginning() -> Run
 pub fn is_over(run: Run) -> bool
     ensures { result ≡ is_over_of run }
 {
-    let phase = run.phase;
-    match phase {
-        Phase::Plan => false,
-        Phase::Stream => false,
-        Phase::Samples => false,
-        Phase::Over => true,
-    }
+    run.phase == Phase::Over
 }
 
 // One turn: the plan, the stream's field, a row of at most 256 samples, or an update. A turn that waits or refuses leaves the table and
@@ -98,8 +96,7 @@ pub fn turn(
         turn_of run bytes.now last table.old (memory reals.old counts.old) (length spare_reals.old) (length spare_counts.old) }
     ensures taken_in_bounds { result.taken ≤ length bytes.now }
 {
-    let phase = run.phase;
-    match phase {
+    match run.phase {
         Phase::Plan => planning::read_plan(run, bytes, last, table, reals, counts),
         Phase::Stream => turns::read_stream(run, bytes, last),
         Phase::Samples => turns::read_samples(

@@ -9,22 +9,14 @@ pub fn number_at(bytes: &[u8], at: usize, many: usize) -> u64
     ensures { result ≡ number_at bytes.now at many }
 {
     let mut value: u64 = 0;
-    let mut left = many;
-    while 0 < left {
-        left -= 1;
-        value = 256 * value + wide(bytes[at + left]);
+    for i in (0..many).rev() {
+        value = 256 * value + u64::from(bytes[at + i]);
     }
     value
 }
 
-// A byte as a word.
-fn wide(x: u8) -> u64
-    ensures { result ≡ x }
-{
-    x as u64
-}
-
 // The double of eight bytes.
+#[tactic(auto, unfolding(crate::specs::Fields::double_at))]
 pub fn double_at(bytes: &[u8], at: usize) -> f64
     requires { at + 8 ≤ length bytes.now }
     ensures { result ≡ double_at bytes.now at }

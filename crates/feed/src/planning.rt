@@ -1,5 +1,6 @@
 // The plan's turn.
 ghost use Rattle.std.specs.Prelude.{◌≡◌, ◌≤◌, length};
+ghost use Rattle.doubles.specs.Refusal.{number_of};
 ghost use Rattle.plan.specs.Paper.{plan_read};
 ghost use Rattle.lent.specs.Memory.{memory};
 ghost use Rattle.feed.specs.Said.{said};
@@ -7,9 +8,11 @@ ghost use Rattle.feed.specs.Turns.{turn_end, all_in, unread_of, found_of, plan_t
 
 use crate::saying::{goes_on, refuses, waits};
 use crate::{Phase, Run, Turned};
-use plan::{Needs, Read};
+use doubles::Refusal;
+use plan::{Misread, Read};
 
 // Whether no further byte can change the plan's answer.
+#[tactic(auto, unfolding(crate::specs::Turns::all_in))]
 fn is_all_in(bytes: &[u8], last: bool) -> bool
     ensures { result ≡ all_in bytes.now last }
 {
@@ -17,44 +20,44 @@ fn is_all_in(bytes: &[u8], last: bool) -> bool
 }
 
 // No plan: while more bytes may come, a 1 may be for their lack.
-fn unread(run: Run, all: bool, number: u64, offset: usize) -> Turned
-    ensures { said result ≡ unread_of run all number offset }
+fn unread(run: Run, all: bool, misread: Misread) -> Turned
+    ensures { said result ≡ unread_of run all (number_of misread.why) misread.at }
 {
-    if !all & (number == 1) {
+    if !all & (misread.why == Refusal::Malformed) {
         return waits(run);
     }
-    refuses(waits(run), number, offset as u64)
+    refuses(waits(run), misread.why, misread.at as u64)
 }
 
 // A plan: while more bytes may come, an 02 may follow one that ends with the bytes. Then its room, and its grid.
+#[tactic(auto, using(std::proofs::lemmas::Bool::Decides::nat_tests), unfolding(crate::specs::Turns::found_of, crate::specs::Turns::fresh_ends, crate::specs::Turns::fresh_said, crate::specs::Said::refusing_at))]
 fn found(
     run: Run,
     bytes: &[u8],
     all: bool,
-    end: usize,
-    needs: Needs,
+    read: Read,
     table: &mut [u64],
     reals: &mut [f64],
     counts: &mut [u64],
 ) -> Turned
-    requires { end ≤ length bytes.now }
+    requires { read.end ≤ length bytes.now }
     ensures { turn_end (said result) table.new (memory reals.new counts.new) ≡
-        found_of run bytes.now all (plan_read end needs) table.old (memory reals.old counts.old) }
+        found_of run bytes.now all (plan_read read.end read.needs) table.old (memory reals.old counts.old) }
 {
-    if !all & (end == bytes.len()) {
+    if !all & (read.end == bytes.len()) {
         return waits(run);
     }
-    if 128 < needs.bins {
-        return refuses(waits(run), 10, 0);
+    if 128 < read.needs.bins {
+        return refuses(waits(run), Refusal::Room, 0);
     }
-    let stream = run.stream;
-    match grid::fresh(&bytes[..end], table, reals, counts) {
-        Read::Refused { number, offset } => refuses(waits(run), number, offset as u64),
-        Read::Plan { end: _, needs: _ } => goes_on(run, Phase::Stream, stream, 0, end),
+    match grid::fresh(&bytes[..read.end], table, reals, counts) {
+        Ok(_) => goes_on(run, Phase::Stream, run.stream, 0, read.end),
+        Err(misread) => refuses(waits(run), misread.why, misread.at as u64),
     }
 }
 
 // The plan, which is only measured until it is laid, so that a turn that waits or refuses writes nothing.
+#[tactic(auto, using(std::proofs::lemmas::Bool::Decides::nat_tests), unfolding(crate::specs::Turns::plan_turn, crate::specs::Turns::plan_by))]
 pub fn read_plan(
     run: Run,
     bytes: &[u8],
@@ -68,7 +71,7 @@ pub fn read_plan(
 {
     let all = is_all_in(bytes, last);
     match plan::measure_prefix(bytes) {
-        Read::Refused { number, offset } => unread(run, all, number, offset),
-        Read::Plan { end, needs } => found(run, bytes, all, end, needs, table, reals, counts),
+        Ok(read) => found(run, bytes, all, read, table, reals, counts),
+        Err(misread) => unread(run, all, misread),
     }
 }

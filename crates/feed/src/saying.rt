@@ -1,37 +1,39 @@
 // The answers that turns give.
 ghost use Rattle.std.specs.Prelude.{◌≡◌};
-ghost use Rattle.feed.specs.Said.{said, over_of, waiting, ending, going, telling, refusing_at};
+ghost use Rattle.doubles.specs.Refusal.{number_of};
+ghost use Rattle.feed.specs.Said.{said, over_of, waiting, ending, going, telling, refusing_at, refusing};
 
-use crate::{Phase, Run, Told, Turned};
+use crate::{Phase, Refused, Run, Turned};
 use accumulator::Summary;
+use doubles::Refusal;
 use std::num::wrapping_add_u64;
 use stream::MonteCarloRng;
 
 // Nothing is due any more.
+#[tactic(auto, unfolding(crate::specs::Said::over_of))]
 fn over(run: Run) -> Run
     ensures { result ≡ over_of run }
 {
-    let stream = run.stream;
     Run {
         phase: Phase::Over,
-        stream,
-        number: run.number,
-        at: run.at,
+        ..run
     }
 }
 
 // Nothing taken, nothing told.
+#[tactic(auto, unfolding(crate::specs::Said::paper_told, crate::specs::Said::waiting))]
 pub fn waits(run: Run) -> Turned
     ensures { said result ≡ waiting run }
 {
     Turned {
         run,
         taken: 0,
-        told: Told::Nothing,
+        told: Ok(None),
     }
 }
 
 // The end.
+#[tactic(auto, unfolding(crate::specs::Said::ending))]
 pub fn ends(run: Run) -> Turned
     ensures { said result ≡ ending run }
 {
@@ -40,6 +42,7 @@ pub fn ends(run: Run) -> Turned
 
 // What is due then, the stream, and so many samples and bytes taken. The sums are those of words; a number past 2^53 is refused long
 // before one wraps.
+#[tactic(auto, unfolding(crate::specs::Said::paper_told, crate::specs::Said::going, stream::specs::Words::plus))]
 pub fn goes_on(
     run: Run,
     phase: Phase,
@@ -49,38 +52,47 @@ pub fn goes_on(
 ) -> Turned
     ensures { said result ≡ going run phase stream samples taken }
 {
+    let number = wrapping_add_u64(run.number, samples as u64);
+    let at = wrapping_add_u64(run.at, taken as u64);
     Turned {
         run: Run {
             phase,
             stream,
-            number: wrapping_add_u64(run.number, samples as u64),
-            at: wrapping_add_u64(run.at, taken as u64),
+            number,
+            at,
         },
         taken,
-        told: Told::Nothing,
+        told: Ok(None),
     }
 }
 
 // A line behind what was taken.
+#[tactic(auto, unfolding(crate::specs::Said::paper_told, crate::specs::Said::telling))]
 pub fn tells(turned: Turned, line: Summary) -> Turned
     ensures { said result ≡ telling (said turned) line }
 {
-    let run = turned.run;
     Turned {
-        run,
-        taken: turned.taken,
-        told: Told::Line(line),
+        told: Ok(Some(line)),
+        ..turned
     }
 }
 
 // A refusal behind what was taken, and the end.
-pub fn refuses(turned: Turned, number: u64, offset: u64) -> Turned
-    ensures { said result ≡ refusing_at (said turned) number offset }
+#[tactic(auto, unfolding(crate::specs::Said::paper_told, crate::specs::Said::refusing_at))]
+pub fn refuses(turned: Turned, why: Refusal, offset: u64) -> Turned
+    ensures { said result ≡ refusing_at (said turned) (number_of why) offset }
 {
-    let run = turned.run;
     Turned {
-        run: over(run),
-        taken: turned.taken,
-        told: Told::Refused { number, offset },
+        run: over(turned.run),
+        told: Err(Refused { why, offset }),
+        ..turned
     }
+}
+
+// A refusal of the field that is due, of which nothing is taken, and the end.
+#[tactic(auto, using(std::proofs::lemmas::Bool::Decides::nat_tests), unfolding(crate::specs::Said::refusing, crate::specs::Said::waiting))]
+pub fn refuses_due(run: Run, why: Refusal) -> Turned
+    ensures { said result ≡ refusing (waiting run) (number_of why) }
+{
+    refuses(waits(run), why, run.at)
 }

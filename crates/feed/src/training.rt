@@ -1,30 +1,33 @@
 // The turn of a row of 11s.
 ghost use Rattle.std.specs.Prelude.{◌≡◌, ◌≤◌, length};
 ghost use Rattle.lent.specs.Memory.{memory};
+ghost use Rattle.lent.specs.Batched.{said as batch_said};
 ghost use Rattle.feed.specs.Said.{said};
 ghost use Rattle.feed.specs.Fields.{row_from};
 ghost use Rattle.feed.specs.Turns.{turn_end, trained_of, train_of, row_turn};
 
 use crate::fields::{Standing, gather, stands};
-use crate::saying::{goes_on, refuses, waits};
+use crate::saying::{goes_on, refuses, refuses_due, waits};
 use crate::{Phase, Run, Turned};
+use doubles::Refusal;
 use grid::Batched;
 
 // What a row came to.
+#[tactic(auto, using(std::proofs::lemmas::Bool::Decides::nat_tests), unfolding(crate::specs::Turns::trained_of, crate::specs::Said::refusing))]
 fn trained(run: Run, batched: Batched) -> Turned
     requires { batched.done ≤ 256 }
-    ensures { said result ≡ trained_of run batched }
+    ensures { said result ≡ trained_of run (batch_said batched) }
 {
-    let stream = batched.stream;
-    let turned = goes_on(run, Phase::Samples, stream, batched.done, 11 * batched.done);
-    if batched.refused != 0 {
-        let after = turned.run;
-        return refuses(turned, batched.refused, after.at);
+    let taken = 11 * batched.done;
+    let turned = goes_on(run, Phase::Samples, batched.stream, batched.done, taken);
+    match batched.end {
+        Ok(()) => turned,
+        Err(why) => refuses(turned, why, turned.run.at),
     }
-    turned
 }
 
 // Draws and trains with each evaluation.
+#[tactic(auto, unfolding(crate::specs::Turns::train_of, crate::specs::Turns::batch_ends))]
 fn train(
     run: Run,
     table: &[u64],
@@ -36,8 +39,7 @@ fn train(
     ensures { turn_end (said result) table.now (memory reals.new counts.new) ≡
         train_of run table.now evaluations.now (memory reals.old counts.old) }
 {
-    let stream = run.stream;
-    let batched = grid::draw_and_train(table, reals, counts, stream, evaluations, run.number);
+    let batched = grid::draw_and_train(table, reals, counts, run.stream, evaluations, run.number);
     trained(run, batched)
 }
 
@@ -74,6 +76,7 @@ fn train_in(
 }
 
 // An 11 is due.
+#[tactic(auto, unfolding(crate::specs::Turns::row_turn, crate::specs::Turns::row_by))]
 pub fn read_row(
     run: Run,
     bytes: &[u8],
@@ -87,7 +90,7 @@ pub fn read_row(
 {
     match stands(bytes, 0x11, 8, last) {
         Standing::Waiting => waits(run),
-        Standing::Wrong => refuses(waits(run), 1, run.at),
+        Standing::Wrong => refuses_due(run, Refusal::Malformed),
         Standing::Whole => {
             let mut room = [0.0f64; 256];
             train_in(run, bytes, table, reals, counts, &mut room)

@@ -8,32 +8,35 @@ ghost use Rattle.feed.specs.Turns.{turn_end, made_of, stream_turn, samples_turn}
 
 use crate::fields::{Standing, stands};
 use crate::numbers::number_at;
-use crate::saying::{ends, goes_on, refuses, waits};
+use crate::saying::{ends, goes_on, refuses_due, waits};
 use crate::training::read_row;
 use crate::updating::read_update;
 use crate::{Phase, Run, Turned};
-use stream::Made;
+use doubles::Refusal;
+use stream::MonteCarloRng;
 
 // A whole 10.
+#[tactic(auto, using(std::proofs::lemmas::Bool::Decides::nat_tests), unfolding(crate::specs::Turns::made_of))]
 fn make_stream(run: Run, bytes: &[u8]) -> Turned
     requires { 13 ≤ length bytes.now }
     ensures { said result ≡ made_of run (new_of (number_at bytes.now 3 8) (number_at bytes.now 11 2)) }
 {
     let seed = number_at(bytes, 3, 8);
     let number = number_at(bytes, 11, 2);
-    match stream::MonteCarloRng::new(seed, number) {
-        Made::Refused(refused) => refuses(waits(run), refused, run.at),
-        Made::Stream(made) => goes_on(run, Phase::Samples, made, 0, 13),
+    match MonteCarloRng::new(seed, number) {
+        Err(why) => refuses_due(run, why),
+        Ok(made) => goes_on(run, Phase::Samples, made, 0, 13),
     }
 }
 
 // The stream's field.
+#[tactic(auto, unfolding(crate::specs::Turns::stream_turn, crate::specs::Turns::stream_by))]
 pub fn read_stream(run: Run, bytes: &[u8], last: bool) -> Turned
     ensures { said result ≡ stream_turn run bytes.now last }
 {
     match stands(bytes, 0x10, 10, last) {
         Standing::Waiting => waits(run),
-        Standing::Wrong => refuses(waits(run), 1, run.at),
+        Standing::Wrong => refuses_due(run, Refusal::Malformed),
         Standing::Whole => make_stream(run, bytes),
     }
 }
@@ -42,20 +45,18 @@ pub fn read_stream(run: Run, bytes: &[u8], last: bool) -> Turned
 fn is_end(bytes: &[u8], last: bool) -> bool
     ensures { result ≡ (last && length bytes.now == 0) }
 {
-    last & (bytes.len() == 0)
+    last && bytes.is_empty()
 }
 
 // Whether the bytes begin with the tag of an 11.
 fn begins_sample(bytes: &[u8]) -> bool
     ensures { result ≡ (slice_index bytes.now 0 == 0x11) }
 {
-    if bytes.len() == 0 {
-        return false;
-    }
-    bytes[0] == 0x11
+    !bytes.is_empty() && bytes[0] == 0x11
 }
 
 // Samples and updates. The input may end before any of them.
+#[tactic(auto, using(std::proofs::lemmas::Bool::Decides::nat_tests), unfolding(crate::specs::Turns::samples_turn))]
 pub fn read_samples(
     run: Run,
     bytes: &[u8],

@@ -7,22 +7,23 @@ ghost use Rattle.feed.specs.Turns.{turn_end, report_of, renew_of, update_turn};
 
 use crate::fields::{Standing, stands};
 use crate::numbers::double_at;
-use crate::saying::{goes_on, refuses, tells, waits};
+use crate::saying::{goes_on, refuses_due, tells, waits};
 use crate::{Phase, Run, Turned};
-use accumulator::Summed;
+use doubles::Refusal;
 
 // The line of an updated grid.
+#[tactic(auto, using(std::proofs::lemmas::Bool::Decides::nat_tests), unfolding(crate::specs::Turns::report_of))]
 fn report(run: Run, table: &[u64], reals: &[f64], counts: &[u64]) -> Turned
     ensures { said result ≡ report_of run (summary_of table.now reals.now counts.now) }
 {
-    let stream = run.stream;
     match grid::summary(table, reals, counts) {
-        Summed::Refused(number) => refuses(waits(run), number, run.at),
-        Summed::Summary(line) => tells(goes_on(run, Phase::Samples, stream, 0, 19), line),
+        Ok(line) => tells(goes_on(run, Phase::Samples, run.stream, 0, 19), line),
+        Err(why) => refuses_due(run, why),
     }
 }
 
 // A whole 12.
+#[tactic(auto, using(std::proofs::lemmas::Bool::Decides::nat_tests), unfolding(crate::specs::Turns::renew_of, crate::specs::Turns::update_ends))]
 fn update(
     run: Run,
     bytes: &[u8],
@@ -38,7 +39,7 @@ fn update(
 {
     let bins_rate = double_at(bytes, 3);
     let axes_rate = double_at(bytes, 11);
-    let refused = grid::update(
+    let updated = grid::update(
         table,
         reals,
         counts,
@@ -47,13 +48,14 @@ fn update(
         bins_rate,
         axes_rate,
     );
-    if refused != 0 {
-        return refuses(waits(run), refused, run.at);
+    match updated {
+        Ok(()) => report(run, table, reals, counts),
+        Err(why) => refuses_due(run, why),
     }
-    report(run, table, reals, counts)
 }
 
 // A 12 is due.
+#[tactic(auto, unfolding(crate::specs::Turns::update_turn, crate::specs::Turns::update_by))]
 pub fn read_update(
     run: Run,
     bytes: &[u8],
@@ -69,7 +71,7 @@ pub fn read_update(
 {
     match stands(bytes, 0x12, 16, last) {
         Standing::Waiting => waits(run),
-        Standing::Wrong => refuses(waits(run), 1, run.at),
+        Standing::Wrong => refuses_due(run, Refusal::Malformed),
         Standing::Whole => update(run, bytes, table, reals, counts, spare_reals, spare_counts),
     }
 }

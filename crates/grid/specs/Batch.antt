@@ -5,7 +5,7 @@ use Rattle.stream.specs.declared.MonteCarloRng.{MonteCarloRng}
 use Rattle.model.specs.Grid.{Grid}
 use Rattle.model.specs.Draw.{draw_grid}
 use Rattle.model.specs.Train.{train_of}
-use Rattle.lent.specs.declared.Batched.{Batched}
+use Rattle.lent.specs.Batched.{Batched}
 use Rattle.lent.specs.Memory.{Memory}
 use Rattle.lent.specs.Sampled.{laid_drawing}
 use Rattle.lent.specs.State.{root_of}

@@ -8,8 +8,8 @@ use Rattle.plan.specs.declared.BinsPlan.{BinsPlan}
 use Rattle.plan.specs.declared.BinPlan.{BinPlan}
 use Rattle.plan.specs.declared.Child.{Child}
 use Rattle.plan.specs.declared.Child.TheVariants as child
-use Rattle.plan.specs.declared.Field.{Field}
-use Rattle.plan.specs.declared.Field.TheVariants as field
+use Rattle.plan.specs.Judged.{Field}
+use Rattle.plan.specs.Judged as field
 use Rattle.plan.specs.Numbers.{number_at, values_at}
 use Rattle.plan.specs.Ranges.{within, floor_fits, ratio_fits, bounded}
 use Rattle.plan.specs.Fields.{formed, values_in, axes_at, bins_at, field_of}

@@ -1,8 +1,14 @@
 -- Every exported call answers on any input, and its promise allows one answer.
 use mathlib.Core.Path.{◌≡◌, sym, ap, ◌∙◌}
+use mathlib.Core.List.{[]}
 use contract.Lifetimes.{Lfts}
+use contract.BorrowLft.{⊑_static}
 use borrow.Fn.Kinds.{Dens, ended_of}
 use denote.Triple.Clauses.{AtExit}
+use denote.RattleType.{RattleType}
+use denote.Param.Laws.{Laws, IsCopy}
+use mir.Syntax.{Dict}
+use Rattle.std.specs.declared.clone.Clone.{Ghosts}
 use lib.Ieee.{Float}
 use Rattle.lent.specs.Memory.{Memory}
 use Rattle.accumulator.specs.declared.StatisticsAccumulator.{StatisticsAccumulator}
@@ -14,10 +20,8 @@ use Rattle.ground.proofs.accounts.store.Kinds as store
 use Rattle.ground.proofs.accounts.store.Reads as store-reads
 use Rattle.ground.proofs.accounts.clear.Kinds as clear
 use Rattle.ground.proofs.accounts.clear.Reads as clear_reads
-use Rattle.ground.proofs.parts.set_reals.Kinds as set-reals
-use Rattle.ground.proofs.parts.set_reals.Reads as set-reals-reads
-use Rattle.ground.proofs.parts.set_counts.Kinds as set-counts
-use Rattle.ground.proofs.parts.set_counts.Reads as set-counts-reads
+use Rattle.ground.proofs.parts.set.Kinds as set
+use Rattle.ground.proofs.parts.set.Reads as set-reads
 use Rattle.ground.proofs.laying.clear_waiting.Kinds as clear-waiting
 use Rattle.ground.proofs.laying.clear_waiting.Reads as clear-waiting-reads
 use Rattle.ground.proofs.laying.empty_axis.Kinds as empty-axis
@@ -55,19 +59,14 @@ clear-unique κs a r r' s s' p q =
     let e = p ∙ sym q in
     (ap (λ (x : Memory). x.reals) e, ap (λ (x : Memory). x.counts) e)
 
-pub set-reals-total : (κs : Lfts 2) (a : Dens κs set-reals.ps) → set-reals-reads.Pre κs a
-set-reals-total κs a = tt
+-- whatever the entries are; the call is there for all that borrow nothing, as reals and counts
+module _ (T : RattleType) (laws : Laws T) (copies : IsCopy T) (clone : Ghosts T.Denot) (dict : Dict) where
+  pub set-total : T.lives ≡ [] → (κs : Lfts 3) (a : Dens κs (set.ps T laws copies)) → set-reads.Pre T laws copies clone dict κs a
+  set-total e κs a = rw e (⊑_static κs.1.1.0)
 
-pub set-reals-unique : (κs : Lfts 2) (a : Dens κs set-reals.ps) (r r' : Unit {0}) (s s' : AtExit (ended_of 2 set-reals.ps set-reals.r) κs)
-    → set-reals-reads.Post κs a r s → set-reals-reads.Post κs a r' s' → s.0.now ≡ s'.0.now
-set-reals-unique κs a r r' s s' p q = p ∙ sym q
-
-pub set-counts-total : (κs : Lfts 2) (a : Dens κs set-counts.ps) → set-counts-reads.Pre κs a
-set-counts-total κs a = tt
-
-pub set-counts-unique : (κs : Lfts 2) (a : Dens κs set-counts.ps) (r r' : Unit {0}) (s s' : AtExit (ended_of 2 set-counts.ps set-counts.r) κs)
-    → set-counts-reads.Post κs a r s → set-counts-reads.Post κs a r' s' → s.0.now ≡ s'.0.now
-set-counts-unique κs a r r' s s' p q = p ∙ sym q
+  pub set-unique : (κs : Lfts 3) (a : Dens κs (set.ps T laws copies)) (r r' : Unit {0}) (s s' : AtExit (ended_of 3 (set.ps T laws copies) (set.r T laws copies)) κs)
+      → set-reads.Post T laws copies clone dict κs a r s → set-reads.Post T laws copies clone dict κs a r' s' → s.0.now ≡ s'.0.now
+  set-unique κs a r r' s s' p q = p ∙ sym q
 
 pub clear-waiting-total : (κs : Lfts 2) (a : Dens κs clear-waiting.ps) → clear-waiting-reads.Pre κs a
 clear-waiting-total κs a = tt

@@ -7,24 +7,13 @@ ghost use Rattle.lent.specs.Cleared.{cleared_at};
 use crate::parts;
 use accumulator::StatisticsAccumulator;
 
-// The reals of a record that begins at r: NaN past the last real.
-fn reals_from(reals: &[f64], r: usize) -> [f64; 14]
-    ensures { result ≡ from_on 14 nan r reals.now }
+// The N entries from a place on; past the last entry a value in their stead.
+fn from_on<T: Copy, const N: usize>(entries: &[T], at: usize, missing: T) -> [T; N]
+    ensures { result ≡ from_on N missing at entries.now }
 {
-    let mut x = [0.0 / 0.0; 14];
-    if r < reals.len() {
-        parts::set_reals(&mut x, 0, &reals[r..]);
-    }
-    x
-}
-
-// The counts of a record that begins at c: 0 past the last count.
-fn counts_from(counts: &[u64], c: usize) -> [u64; 7]
-    ensures { result ≡ from_on 7 0 c counts.now }
-{
-    let mut x = [0; 7];
-    if c < counts.len() {
-        parts::set_counts(&mut x, 0, &counts[c..]);
+    let mut x = [missing; N];
+    if at < entries.len() {
+        parts::set(&mut x, 0, &entries[at..]);
     }
     x
 }
@@ -33,8 +22,8 @@ fn counts_from(counts: &[u64], c: usize) -> [u64; 7]
 pub fn load(reals: &[f64], counts: &[u64], r: usize, c: usize) -> StatisticsAccumulator
     ensures { result ≡ record_at reals.now counts.now r c }
 {
-    let x = reals_from(reals, r);
-    let n = counts_from(counts, c);
+    let x: [f64; 14] = from_on(reals, r, f64::NAN);
+    let n: [u64; 7] = from_on(counts, c, 0);
     StatisticsAccumulator {
         sum: x[0],
         sum_sq: x[1],
@@ -89,8 +78,8 @@ pub fn store(reals: &mut [f64], counts: &mut [u64], r: usize, c: usize, a: Stati
         a.max_eval_negative_number,
         a.num_zero_evaluations,
     ];
-    parts::set_reals(reals, r, &x);
-    parts::set_counts(counts, c, &n);
+    parts::set(reals, r, &x);
+    parts::set(counts, c, &n);
 }
 
 // Nothing waits in the record at r and c.
@@ -99,6 +88,6 @@ pub fn clear(reals: &mut [f64], counts: &mut [u64], r: usize, c: usize)
 {
     let x = [0.0; 2];
     let n = [0; 2];
-    parts::set_reals(reals, r, &x);
-    parts::set_counts(counts, c, &n);
+    parts::set(reals, r, &x);
+    parts::set(counts, c, &n);
 }

@@ -18,10 +18,10 @@ fn clear_waiting_there(
     requires { Roomy most n r c reals.old counts.old }
     ensures { memory reals.new counts.new ≡ waitless_at most r c n (memory reals.old counts.old) }
 {
-    clearing::clear_reals_from(reals, r + (2 * most + 1), n);
-    clearing::clear_reals_from(reals, r + (3 * most + 1), n);
-    clearing::clear_counts_from(counts, c + 2, n);
-    clearing::clear_counts_from(counts, c + (most + 2), n);
+    clearing::clear(reals, r + (2 * most + 1), n, 0.0);
+    clearing::clear(reals, r + (3 * most + 1), n, 0.0);
+    clearing::clear(counts, c + 2, n, 0);
+    clearing::clear(counts, c + (most + 2), n, 0);
 }
 
 // The first n bins have no importances, extremes and counters.
@@ -29,10 +29,10 @@ fn forget(reals: &mut [f64], counts: &mut [u64], most: usize, r: usize, c: usize
     requires { Roomy most n r c reals.old counts.old }
     ensures { memory reals.new counts.new ≡ forgotten_at most r c n (memory reals.old counts.old) }
 {
-    clearing::clear_reals_from(reals, r + (most + 1), n);
-    clearing::clear_reals_from(reals, r + (4 * most + 1), n);
-    clearing::clear_reals_from(reals, r + (5 * most + 1), n);
-    clearing::clear_counts_from(counts, c + (2 * most + 2), n);
+    clearing::clear(reals, r + (most + 1), n, 0.0);
+    clearing::clear(reals, r + (4 * most + 1), n, 0.0);
+    clearing::clear(reals, r + (5 * most + 1), n, 0.0);
+    clearing::clear(counts, c + (2 * most + 2), n, 0);
 }
 
 // The axis, for which there is room, holds n bins after so many re-cuts, nothing trained in them.

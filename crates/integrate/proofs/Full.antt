@@ -17,7 +17,7 @@ use Rattle.plan.proofs.Here.{pick}
 use Rattle.stream.specs.declared.MonteCarloRng.{MonteCarloRng}
 use Rattle.stream.specs.Calls.{new_of}
 use Rattle.accumulator.specs.declared.Summary.{Summary}
-use Rattle.lent.specs.declared.Batched.{Batched}
+use Rattle.lent.specs.Batched.{Batched}
 use Rattle.lent.specs.Memory.{Memory}
 use Rattle.lent.specs.Calls.{StateEnd, fresh_of, update_of, summary_of}
 use Rattle.lent.specs.Batched.{batch_of}

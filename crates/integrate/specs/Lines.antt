@@ -1,11 +1,11 @@
 -- The lines that the program prints, as bytes.
-use Rattle.std.specs.Prelude.{ℕ, zero, suc, ◌+◌, ◌^◌, cond, List, [], ◌∷◌, ◌++◌, ltb, Float}
+use Rattle.std.specs.Prelude.{ℕ, zero, suc, ◌+◌, ◌^◌, cond, List, [], ◌∷◌, ◌++◌, ltb, Float, Option, Some, None, Result, Ok, Err}
+use Rattle.doubles.specs.Refusal.{number_of}
 use Rattle.std.specs.Float.{binary64}
 use Rattle.std.specs.Float.Ieee.{to_bits}
 use Rattle.io.specs.Digits.{last_digits}
 use Rattle.accumulator.specs.declared.Summary.{Summary}
-use Rattle.feed.specs.declared.Told.{Told}
-use Rattle.feed.specs.declared.Told.TheVariants.{Nothing, Line, Refused}
+use Rattle.feed.specs.declared.Refused.{Refused}
 
 -- how many digits from k on hold n in decimal, k and f more at most
 unfoldable pub places_of : ℕ → ℕ → ℕ → ℕ
@@ -38,7 +38,7 @@ unfoldable pub refusal_of : ℕ → ℕ → List ℕ
 refusal_of number offset = refused ++ decimal_of number ++ at ++ decimal_of offset ++ (10 ∷ [])
 
 -- what a turn tells, as it is printed
-unfoldable pub text_of : Told → List ℕ
-text_of Nothing = []
-text_of (Line s) = line_of s
-text_of (Refused number offset) = refusal_of number offset
+unfoldable pub text_of : Result (Option Summary) Refused → List ℕ
+text_of (Ok None) = []
+text_of (Ok (Some s)) = line_of s
+text_of (Err r) = refusal_of (number_of r.why) r.offset

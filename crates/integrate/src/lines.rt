@@ -4,19 +4,16 @@ ghost use Rattle.integrate.specs.Lines.{decimal_of, double_of, line_of, refusal_
 
 use accumulator::Summary;
 use answers::bits;
-use feed::Told;
+use feed::Refused;
 
 // Bytes from a place on; and the place behind them.
 fn put_bytes(bytes: &[u8], out: &mut [u8], from: usize) -> usize
     requires { from + length bytes.now ≤ length out.old }
     ensures { (result ≡ from + length bytes.now) × (take result out.new ≡ take from out.old ++ bytes.now) }
 {
-    let mut done = 0;
-    while done < bytes.len() {
-        out[from + done] = bytes[done];
-        done += 1;
-    }
-    from + done
+    let end = from + bytes.len();
+    out[from..end].copy_from_slice(bytes);
+    end
 }
 
 // A number in decimal.
@@ -67,13 +64,14 @@ fn put_refusal(number: u64, offset: u64, out: &mut [u8]) -> usize
 }
 
 // What a turn tells; and its length.
-pub fn put_told(told: Told, out: &mut [u8]) -> usize
+#[tactic(auto, unfolding(crate::specs::Lines::text_of))]
+pub fn put_told(told: Result<Option<Summary>, Refused>, out: &mut [u8]) -> usize
     requires { 93 ≤ length out.old }
     ensures { (result ≤ 93) × (take result out.new ≡ text_of told) }
 {
     match told {
-        Told::Nothing => 0,
-        Told::Line(s) => put_line(s, out),
-        Told::Refused { number, offset } => put_refusal(number, offset, out),
+        Ok(None) => 0,
+        Ok(Some(s)) => put_line(s, out),
+        Err(refused) => put_refusal(refused.why.number(), refused.offset, out),
     }
 }

@@ -10,7 +10,8 @@ ghost use Rattle.lent.specs.Memory.{memory};
 ghost use Rattle.feed.specs.Said.{is_over_of};
 ghost use Rattle.integrate.specs.Pouring.{place, goes_on, Turns, Stepped, TakenIn};
 
-use feed::{Run, Turned, beginning, is_over, turn};
+use accumulator::Summary;
+use feed::{Refused, Run, Turned, beginning, is_over, turn};
 use std::io::Read;
 
 // A table of 16,832 words holds any plan; 128 bins in 64 grids need at most 2,816 reals and 1,344 counts (`rooms-hold` in feed's
@@ -21,7 +22,8 @@ type Reals = [f64; 2816];
 
 type Counts = [u64; 1344];
 
-// A run after turns on some bytes: how many they took, whether what they told could be written, and whether another turn follows.
+// A run after turns on some bytes: how many they took, whether what they told could be written, and whether another turn follows. The run
+// counts in either case, so that neither flag is an Option's.
 #[derive(Clone, Copy)]
 struct Poured {
     run: Run,
@@ -43,31 +45,23 @@ fn keep(text: &mut [u8], from: usize, to: usize) -> usize
     requires { (from ≤ to) × (to ≤ length text.old) }
     ensures { (result ≡ to - from) × (take result text.new ≡ take result (drop from text.old)) }
 {
-    let many = to - from;
-    let mut done = 0;
-    while done < many {
-        text[done] = text[from + done];
-        done += 1;
-    }
-    many
+    text.copy_within(from..to, 0);
+    to - from
 }
 
 // Writes what a turn tells; and whether that could be written.
-fn tell(rt: &HostRuntime, told: feed::Told) -> bool {
+fn tell(rt: &HostRuntime, told: Result<Option<Summary>, Refused>) -> bool {
     let mut out = [0u8; 128];
     let put = lines::put_told(told, &mut out);
     rt.write_all(&out[..put]).is_ok()
 }
 
 // Whether another turn follows on the bytes that are left: one that took nothing waits for more of them.
+#[tactic(auto, using(std::proofs::lemmas::Bool::Decides::nat_tests), unfolding(crate::specs::Pouring::goes_on))]
 fn goes_on(turned: Turned, written: bool) -> bool
     ensures { result ≡ goes_on turned.taken turned.run && written }
 {
-    if turned.taken == 0 {
-        return false;
-    }
-    let run = turned.run;
-    !is_over(run) & written
+    turned.taken != 0 && !is_over(turned.run) && written
 }
 
 // One turn on the bytes from a place on, and its line.
@@ -98,19 +92,17 @@ fn step(
         spare_reals,
         spare_counts,
     );
-    let told = turned.told;
-    let written = tell(rt, told);
+    let written = tell(rt, turned.told);
     let goes = goes_on(turned, written);
-    let after = turned.run;
     Poured {
-        run: after,
+        run: turned.run,
         taken: from + turned.taken,
         written,
         goes,
     }
 }
 
-// Turn by turn, as far as these bytes go.
+// Turn by turn, as far as these bytes go: a `loop`, since a turn says whether another follows.
 fn pour(
     rt: &HostRuntime,
     run: Run,
@@ -146,8 +138,7 @@ fn pour(
         if !poured.goes {
             return poured;
         }
-        let after = poured.run;
-        now = after;
+        now = poured.run;
         taken = poured.taken;
     }
 }
@@ -171,12 +162,11 @@ fn take_in(
     ensures held_bound { result.goes ≡ true → result.held < 131072 }
 {
     let poured = pour(rt, run, &text[..full], full == held, table, reals, counts);
-    let after = poured.run;
     let rest = keep(text, poured.taken, full);
     Fed {
-        run: after,
+        run: poured.run,
         held: rest,
-        goes: poured.written & (held < full) & !is_over(after),
+        goes: poured.written & (held < full) & !is_over(poured.run),
     }
 }
 
@@ -204,8 +194,8 @@ fn feed_once(
     }
 }
 
-// Read by read, to the input's end, a refusal, or a read or a write that fails. The reads are counted down from a number that no run uses
-// up, since a proved loop has to end and nothing says that an input does.
+// Read by read, to the input's end, a refusal, or a read or a write that fails. The reads are as many as no run
+// uses up, since a proved loop has to end and nothing says that an input does.
 fn integrate(rt: &HostRuntime, text: &mut [u8])
     requires { 131072 ≤ length text.old }
 {
@@ -214,16 +204,13 @@ fn integrate(rt: &HostRuntime, text: &mut [u8])
     let mut counts = [0u64; 1344];
     let mut run = beginning();
     let mut held = 0;
-    let mut left = u64::MAX;
-    while 0 < left {
+    for _ in 0..u64::MAX {
         let fed = feed_once(rt, run, text, held, &mut table, &mut reals, &mut counts);
         if !fed.goes {
             return;
         }
-        let after = fed.run;
-        run = after;
+        run = fed.run;
         held = fed.held;
-        left -= 1;
     }
 }
 

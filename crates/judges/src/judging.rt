@@ -6,6 +6,7 @@ ghost use Rattle.model.specs.Sound.{listed};
 ghost use Rattle.lent.specs.Layout.{stretch};
 ghost use Rattle.lent.specs.Judged.{reals_fit, counts_fit, axis_fits, axes_fit, AllUpto, all_upto, axes_fit_of};
 
+use axis::scans::{are_bounded, are_finite, is_well_formed};
 use lent::{AxesAt, room};
 
 // Whether n is the plan's bin number or a value of its bin evolution.
@@ -13,28 +14,18 @@ fn is_listed(n: u64, bins: u64, values: &[u64]) -> bool
     ensures { result ≡ listed n (bins ∷ values.now) }
 {
     let mut found = n == bins;
-    let mut i = 0;
-    while i < values.len() {
-        found = found | (n == values[i]);
-        i += 1;
+    for value in values {
+        found = found | (n == *value);
     }
     found
 }
 
-// Whether n doubles from `at` on are finite.
-fn are_finite_from(reals: &[f64], at: usize, n: usize) -> bool
-    requires { at + n ≤ length reals.now }
-    ensures { result ≡ all_finite (stretch at n reals.now) }
+// The n entries from `at` on.
+fn part<T>(entries: &[T], at: usize, n: usize) -> &[T]
+    requires { at + n ≤ length entries.now }
+    ensures { result.now ≡ stretch at n entries.now }
 {
-    axis::scans::are_finite(&reals[at..at + n])
-}
-
-// Whether n counts from `at` on are within their bound.
-fn are_bounded_from(counts: &[u64], at: usize, n: usize) -> bool
-    requires { at + n ≤ length counts.now }
-    ensures { result ≡ all_bounded (stretch at n counts.now) }
-{
-    axis::scans::are_bounded(&counts[at..at + n])
+    &entries[at..at + n]
 }
 
 // Whether the count at i is within its bound.
@@ -50,10 +41,10 @@ fn reals_fit(reals: &[f64], most: usize, r: usize, n: usize) -> bool
     requires { (n ≤ most) × (most ≤ 1024) × (r + (6 * most + 1) ≤ length reals.now) }
     ensures { result ≡ reals_fit most n r reals.now }
 {
-    let rising = axis::scans::is_well_formed(&reals[r..r + n + 1]);
-    let gathered = are_finite_from(reals, r + (most + 1), n);
-    let summed = are_finite_from(reals, r + (2 * most + 1), n);
-    let squared = are_finite_from(reals, r + (3 * most + 1), n);
+    let rising = is_well_formed(part(reals, r, n + 1));
+    let gathered = are_finite(part(reals, r + (most + 1), n));
+    let summed = are_finite(part(reals, r + (2 * most + 1), n));
+    let squared = are_finite(part(reals, r + (3 * most + 1), n));
     (rising & gathered) & (summed & squared)
 }
 
@@ -62,9 +53,9 @@ fn counts_fit(counts: &[u64], most: usize, c: usize, n: usize) -> bool
     requires { (n ≤ most) × (most ≤ 1024) × (c + (3 * most + 2) ≤ length counts.now) }
     ensures { result ≡ counts_fit most n c counts.now }
 {
-    let waits = are_bounded_from(counts, c + 2, n);
-    let nils = are_bounded_from(counts, c + (most + 2), n);
-    let counted = are_bounded_from(counts, c + (2 * most + 2), n);
+    let waits = are_bounded(part(counts, c + 2, n));
+    let nils = are_bounded(part(counts, c + (most + 2), n));
+    let counted = are_bounded(part(counts, c + (2 * most + 2), n));
     (waits & nils) & (counted & is_bounded_at(counts, c + 1))
 }
 
@@ -105,12 +96,10 @@ pub(crate) fn axes_fit_there(
     let mut ok = true;
     let mut at = g.reals;
     let mut place = g.counts;
-    let mut done = 0;
-    while done < g.axes {
+    for _ in 0..g.axes {
         ok = ok & axis_fits(reals, counts, g.most, at, place, bins, values);
         at = at + (6 * g.most + 1);
         place = place + (3 * g.most + 2);
-        done += 1;
     }
     ok
 }
@@ -121,10 +110,8 @@ fn are_upto(most: usize, bins: u64, values: &[u64]) -> bool
 {
     let top = most as u64;
     let mut ok = (1 <= bins) & (bins <= top);
-    let mut i = 0;
-    while i < values.len() {
-        ok = ok & ((1 <= values[i]) & (values[i] <= top));
-        i += 1;
+    for value in values {
+        ok = ok & ((1 <= *value) & (*value <= top));
     }
     ok
 }

@@ -1,137 +1,94 @@
 // What stands against a call: each judges the table, the room and the state that it is lent.
 ghost use Rattle.std.specs.Prelude.{◌≡◌};
+ghost use Rattle.doubles.specs.Refusal.{fault_of};
 ghost use Rattle.plan.specs.Paper.{gives};
 ghost use Rattle.plan.specs.Calls.{sizes_of};
-ghost use Rattle.lent.specs.State.{judged_by, judged_to, state_fault, fault_to, both_judged, second_by, pair_fault};
+ghost use Rattle.lent.specs.Lent.{Worded};
+ghost use Rattle.lent.specs.State.{judged_to, state_fault, fault_to, both_judged, pair_fault};
 
 use crate::judge;
-use plan::{Needs, Sized};
+use doubles::Refusal;
+use lent::Lent;
+use plan::Needs;
 
-// The room that the plan needs, then the state in it.
-fn judged(table: &[u64], reals: &[f64], counts: &[u64], needs: Needs) -> u64
-    requires { sizes_of table.now ≡ gives needs }
-    ensures { result ≡ judged_by table.now reals.now counts.now needs }
+// The room that the plan needs, then that of a destination of so many reals and counts, then the state.
+fn judged_to(m: Lent<'_>, places: usize, tallies: usize, needs: Needs) -> Result<(), Refusal>
+    requires { (sizes_of m.table.now ≡ gives needs) × Worded m }
+    ensures { fault_of result ≡ judged_to m.entry.table.now m.entry.reals.now m.entry.counts.now places tallies needs }
 {
-    if reals.len() < needs.reals {
-        return 10;
+    if m.reals.len() < needs.reals {
+        return Err(Refusal::Room);
     }
-    if counts.len() < needs.counts {
-        return 10;
+    if m.counts.len() < needs.counts {
+        return Err(Refusal::Room);
     }
-    if !judge::grid_fits(table, reals, counts, 4, 0) {
-        return 12;
+    if places < needs.reals {
+        return Err(Refusal::Room);
     }
-    0
+    if tallies < needs.counts {
+        return Err(Refusal::Room);
+    }
+    if !judge::grid_fits(m, 4, 0) {
+        return Err(Refusal::State);
+    }
+    Ok(())
 }
 
-// The same with a destination of so many reals and counts, which is judged behind the source's room and before its state.
-fn judged_to(
+// What stands against a call with a destination of so many reals and counts: 12 for a table that is no plan's; 10 for slices, or a
+// destination, that are too short for it; 12 for a state that is not well formed.
+pub fn fault_to(
     table: &[u64],
     reals: &[f64],
     counts: &[u64],
     places: usize,
     tallies: usize,
-    needs: Needs,
-) -> u64
-    requires { sizes_of table.now ≡ gives needs }
-    ensures { result ≡ judged_to table.now reals.now counts.now places tallies needs }
+) -> Result<(), Refusal>
+    ensures { fault_of result ≡ fault_to table.now reals.now counts.now places tallies }
 {
-    if reals.len() < needs.reals {
-        return 10;
-    }
-    if counts.len() < needs.counts {
-        return 10;
-    }
-    if places < needs.reals {
-        return 10;
-    }
-    if tallies < needs.counts {
-        return 10;
-    }
-    if !judge::grid_fits(table, reals, counts, 4, 0) {
-        return 12;
-    }
-    0
+    let needs = plan::sizes(table)?;
+    let m = Lent {
+        table,
+        reals,
+        counts,
+    };
+    judged_to(m, places, tallies, needs)
 }
 
-// 12 for a table that is no plan's; 10 for slices that are too short for it; 12 for a state that is not well formed; else 0.
-pub fn fault(table: &[u64], reals: &[f64], counts: &[u64]) -> u64
-    ensures { result ≡ state_fault table.now reals.now counts.now }
+// The same of a call without one: a state is its own destination.
+pub fn fault(table: &[u64], reals: &[f64], counts: &[u64]) -> Result<(), Refusal>
+    ensures { fault_of result ≡ state_fault table.now reals.now counts.now }
 {
-    match plan::sizes(table) {
-        Sized::Plan(needs) => judged(table, reals, counts, needs),
-        Sized::Refused(_) => 12,
-    }
-}
-
-// The same with a destination of so many reals and counts.
-pub fn fault_to(table: &[u64], reals: &[f64], counts: &[u64], places: usize, tallies: usize) -> u64
-    ensures { result ≡ fault_to table.now reals.now counts.now places tallies }
-{
-    match plan::sizes(table) {
-        Sized::Plan(needs) => judged_to(table, reals, counts, places, tallies, needs),
-        Sized::Refused(_) => 12,
-    }
+    fault_to(table, reals, counts, reals.len(), counts.len())
 }
 
 // Of two states whose plans are known: the room of both, then both states.
-fn both_judged(
-    table: &[u64],
-    reals: &[f64],
-    counts: &[u64],
-    needs: Needs,
-    other: &[u64],
-    theirs: &[f64],
-    tallies: &[u64],
-    asked: Needs,
-) -> u64
-    requires { (sizes_of table.now ≡ gives needs) × (sizes_of other.now ≡ gives asked) }
-    ensures { result ≡ both_judged table.now reals.now counts.now needs other.now theirs.now tallies.now asked }
+fn both_judged(mine: Lent<'_>, needs: Needs, theirs: Lent<'_>, asked: Needs) -> Result<(), Refusal>
+    requires { (sizes_of mine.table.now ≡ gives needs) × Worded mine × (sizes_of theirs.table.now ≡ gives asked) × Worded theirs }
+    ensures { fault_of result ≡ both_judged mine.entry.table.now mine.entry.reals.now mine.entry.counts.now needs theirs.entry.table.now theirs.entry.reals.now theirs.entry.counts.now asked }
 {
-    if reals.len() < needs.reals {
-        return 10;
+    if mine.reals.len() < needs.reals {
+        return Err(Refusal::Room);
     }
-    if counts.len() < needs.counts {
-        return 10;
+    if mine.counts.len() < needs.counts {
+        return Err(Refusal::Room);
     }
-    if theirs.len() < asked.reals {
-        return 10;
+    if theirs.reals.len() < asked.reals {
+        return Err(Refusal::Room);
     }
-    if tallies.len() < asked.counts {
-        return 10;
+    if theirs.counts.len() < asked.counts {
+        return Err(Refusal::Room);
     }
-    if !judge::grid_fits(table, reals, counts, 4, 0) {
-        return 12;
+    if !judge::grid_fits(mine, 4, 0) {
+        return Err(Refusal::State);
     }
-    if !judge::grid_fits(other, theirs, tallies, 4, 0) {
-        return 12;
+    if !judge::grid_fits(theirs, 4, 0) {
+        return Err(Refusal::State);
     }
-    0
-}
-
-// Of two states, the first of whose plans is known: the other's plan, then both.
-fn second_fault(
-    table: &[u64],
-    reals: &[f64],
-    counts: &[u64],
-    needs: Needs,
-    other: &[u64],
-    theirs: &[f64],
-    tallies: &[u64],
-) -> u64
-    requires { sizes_of table.now ≡ gives needs }
-    ensures { result ≡ second_by table.now reals.now counts.now needs other.now theirs.now tallies.now (sizes_of other.now) }
-{
-    match plan::sizes(other) {
-        Sized::Plan(asked) => {
-            both_judged(table, reals, counts, needs, other, theirs, tallies, asked)
-        }
-        Sized::Refused(_) => 12,
-    }
+    Ok(())
 }
 
 // What stands against a call on two states: 12 for a table that is no plan's; 10 for slices that are too short; 12 for a state that is
-// not well formed; each of both states before the next; else 0.
+// not well formed; each of both states before the next.
 pub fn pair_fault(
     table: &[u64],
     reals: &[f64],
@@ -139,11 +96,20 @@ pub fn pair_fault(
     other: &[u64],
     theirs: &[f64],
     tallies: &[u64],
-) -> u64
-    ensures { result ≡ pair_fault table.now reals.now counts.now other.now theirs.now tallies.now }
+) -> Result<(), Refusal>
+    ensures { fault_of result ≡ pair_fault table.now reals.now counts.now other.now theirs.now tallies.now }
 {
-    match plan::sizes(table) {
-        Sized::Plan(needs) => second_fault(table, reals, counts, needs, other, theirs, tallies),
-        Sized::Refused(_) => 12,
-    }
+    let needs = plan::sizes(table)?;
+    let asked = plan::sizes(other)?;
+    let mine = Lent {
+        table,
+        reals,
+        counts,
+    };
+    let theirs = Lent {
+        table: other,
+        reals: theirs,
+        counts: tallies,
+    };
+    both_judged(mine, needs, theirs, asked)
 }

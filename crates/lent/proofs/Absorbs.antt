@@ -18,7 +18,7 @@ use Rattle.lent.specs.Tree.{axes_place, head_at, child_in, bins_in, grid_at, Bin
 use Rattle.lent.specs.Sampled.{sound_child}
 use Rattle.lent.specs.Trained.{bins_on, trained_over}
 use Rattle.lent.specs.Absorbed.{places_in, Takes, gain_at, gained, absorbed_axes, absorbed_child, absorbed_bin, absorbed_bins, absorbed_node, absorbed, admitted}
-use Rattle.lent.specs.Found.{Held, HeldChild, held}
+use Rattle.lent.specs.Found.{Held, HeldChild}
 use Rattle.lent.proofs.Same.{same_alike, same-sym}
 use Rattle.lent.proofs.FoundedOwn.{Within}
 use Rattle.lent.proofs.Alike.{child-alike}
@@ -80,12 +80,12 @@ module _ (l : ℕ) (table : List ℕ) (w : ℕ) (m : Memory) (laid : BinsLaid (L
         (same_alike 0 C (length m.counts) m.counts u.counts (same-sym 0 C (length m.counts) u.counts m.counts (o.many C (length m.counts) (omega arith))))
 
     -- so what is handed over for the grid holds for it there
-    abbrev pub held-past : {path : List ℕ} {weights : List Float} {spots : List ℕ} {d number : ℕ} (h : Held path weights spots whole d number)
-        → t ≡ gained (get_or table (w + 5) 0 + 14 + get_or table (w + 2) 0 + 14 * get_or path d 0) (get_or table (w + 6) 0 + 7 + 7 * get_or path d 0) inner m
+    pub held-past : {a : Sample} {spots : List ℕ} {d number : ℕ} (h : Held a spots whole d number)
+        → t ≡ gained (get_or table (w + 5) 0 + 14 + get_or table (w + 2) 0 + 14 * get_or a.path d 0) (get_or table (w + 6) 0 + 7 + 7 * get_or a.path d 0) inner m
         → u ≡ gained (get_or table (w + 5) 0) (get_or table (w + 6) 0) own t
-        → HeldChild path weights spots (child_in (grid_at l table u.reals u.counts) (get_or table (w + 7 + get_or path d 0) 0)) (d + 1) number
-    held-past {path} {weights} {spots} {d} {number} h p q =
-        held-child-as (child-still (held h) d number h.offer.takes p q) (held_below f table m.reals m.counts w (get_or table (w + 2) 0) (head_at table m.reals m.counts w) h)
+        → HeldChild a spots (child_in (grid_at l table u.reals u.counts) (get_or table (w + 7 + get_or a.path d 0) 0)) (d + 1) number
+    held-past {a} {spots} {d} {number} h p q =
+        held-child-as (child-still a d number h.takes p q) (held_below f table m.reals m.counts w (get_or table (w + 2) 0) (head_at table m.reals m.counts w) h)
 
 -- ---- what hangs at a link
 

@@ -30,7 +30,7 @@ use Rattle.lent.specs.Tree.{axes_place, axes_grid_at, bin_in, child_in, bins_in,
 use Rattle.lent.specs.Judged.{sound_bin}
 use Rattle.lent.specs.Sampled.{entries, sound_child}
 use Rattle.lent.specs.Trained.{all_in_unit, bins_on, Cell, cell_fits, cells_fit, form_fault, CellsOf}
-use Rattle.lent.specs.Absorbed.{path_left, weights_left, places_in, Takes, TakesChild, Offered, OfferedChild, offered, offered_child}
+use Rattle.lent.specs.Absorbed.{path_left, weights_left, places_in, Takes, TakesChild}
 use Rattle.lent.proofs.Judges.{sound-bin}
 use Rattle.lent.proofs.Reading.{length-axes, length-bins, get_d-all}
 use Rattle.lent.proofs.Samples.{sound-in, sound-below, child-sound, sound-stands}
@@ -390,25 +390,11 @@ module _ (f : ℕ → Grid) (link : ℕ) where
   takes-grid s d number z t =
       record { well = child-sound f link z t.well; form = link-grid f link (path_left s d) (weights_left s d) (places_in s) z ∙ t.form; number = t.number }
 
--- ---- a sample that is taken, by its lists
+-- ---- the same by another name of the grid
 
-abbrev pub offered-of : {g : Grid} {d number : ℕ} (s : Sample) → Takes g s d number → Offered s.path s.weights s.coordinates g d number
-offered-of s t = record { levels = s.levels; weighed = s.given; many = s.axes; takes = t }
+module _ (s : Sample) {d number : ℕ} where
+  pub takes-as : {g g' : Grid} → g ≡ g' → Takes g s d number → Takes g' s d number
+  takes-as e t = subst (λ (g : Grid). Takes g s d number) e t
 
-abbrev pub offered-child : {c : Child} {d number : ℕ} (s : Sample) → TakesChild c s d number → OfferedChild s.path s.weights s.coordinates c d number
-offered-child s t = record { levels = s.levels; weighed = s.given; many = s.axes; takes = t }
-
-module _ {path : List ℕ} {weights coordinates : List Float} {d number : ℕ} where
-  abbrev pub offered-as : {g g' : Grid} → g ≡ g' → Offered path weights coordinates g d number → Offered path weights coordinates g' d number
-  offered-as e o = offered-of (offered o) (subst (λ (g : Grid). Takes g (offered o) d number) e o.takes)
-
-  abbrev pub offered-child-as : {c c' : Child} → c ≡ c' → OfferedChild path weights coordinates c d number → OfferedChild path weights coordinates c' d number
-  offered-child-as e o = offered-child (offered_child o) (subst (λ (c : Child). TakesChild c (offered_child o) d number) e o.takes)
-
-  module _ (f : ℕ → Grid) where
-    abbrev pub offered-below : (table : List ℕ) (reals : List Float) (counts : List ℕ) (w n : ℕ) (h : Head) → Offered path weights coordinates (bins h (bins_in f table reals counts w 0 n)) d number
-        → OfferedChild path weights coordinates (child_in f (get_or table (w + 7 + get_or path d 0) 0)) (d + 1) number
-    offered-below table reals counts w n h o = offered-child (offered o) (takes-below f table reals counts w n h (offered o) d number o.takes)
-
-    abbrev pub offered-grid : (link : ℕ) → (link ≡ 0 → ⊥) → OfferedChild path weights coordinates (child_in f link) d number → Offered path weights coordinates (f link) d number
-    offered-grid link z o = offered-of (offered_child o) (takes-grid f link (offered_child o) d number z o.takes)
+  pub takes-child-as : {c c' : Child} → c ≡ c' → TakesChild c s d number → TakesChild c' s d number
+  takes-child-as e t = subst (λ (c : Child). TakesChild c s d number) e t

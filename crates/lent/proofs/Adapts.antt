@@ -9,7 +9,8 @@ use lib.ListN.{get_or}
 use lib.Ieee.{Float}
 use Rattle.accumulator.specs.declared.StatisticsAccumulator.{StatisticsAccumulator}
 use Rattle.accumulator.specs.declared.Updated.{Updated}
-use Rattle.accumulator.specs.declared.Updated.TheVariants as updated
+use Rattle.std.specs.Prelude.{Result, Ok, Err}
+use Rattle.doubles.specs.declared.refusal.Refusal.{Refusal}
 use Rattle.accumulator.specs.Calls.{paper_updated}
 use Rattle.accumulator.specs.Calls as account
 use Rattle.model.specs.Update.{Outcome}
@@ -28,12 +29,12 @@ followed-on o f g =
     ap₂ (λ (x y : Bool). finding x y (g q.after).after) (or_assoc o.eight q.eight (g q.after).eight) (or_assoc o.nine q.nine (g q.after).nine)
 
 -- a finding so far, and one more
-pub followed-next : (e n : Bool) (s t : Memory) (f : Found) (step rest : Memory → Outcome Memory) → found f t ≡ step s
-    → followed (finding (e || f.eight) (n || f.nine) t) rest ≡ followed (finding e n s) (λ (u : Memory). followed (step u) rest)
+pub followed-next : (a b r : Found) (s t : Memory) (step rest : Memory → Outcome Memory) → (r.eight ≡ (a.eight || b.eight)) × (r.nine ≡ (a.nine || b.nine)) → found b t ≡ step s
+    → followed (found r t) rest ≡ followed (found a s) (λ (u : Memory). followed (step u) rest)
 unfolding followed
-followed-next e n s t f step rest h =
-    let one : finding (e || f.eight) (n || f.nine) t ≡ followed (finding e n s) step = rw (sym h) in
-    ap (λ (o : Outcome Memory). followed o rest) one ∙ followed-on (finding e n s) step rest
+followed-next a b r s t step rest e h =
+    let one : found r t ≡ followed (found a s) step = rw (e.0, e.1, sym h) in
+    ap (λ (o : Outcome Memory). followed o rest) one ∙ followed-on (found a s) step rest
 
 -- two findings together
 pub both_found : (a b r : Found) (s t u : Memory) (f g : Memory → Outcome Memory) → (r.eight ≡ (a.eight || b.eight)) × (r.nine ≡ (a.nine || b.nine))
@@ -43,28 +44,29 @@ both_found a b r s t u f g e h k = rw (sym h, sym k, e.0, e.1)
 
 -- ---- an accumulator
 
-module _ (r c : ℕ) (s : Memory) (x : Updated) (own : StatisticsAccumulator) (l : own ≡ record_at s.reals s.counts r c) (p : paper_updated x ≡ account.update_of false own) where
-  answer : (y : Updated) → y ≡ x → account.update_of false (record_at s.reals s.counts r c) ≡ paper_updated y
+module _ (r c : ℕ) (s : Memory) (x : Result Updated Refusal) (own : StatisticsAccumulator) (l : own ≡ record_at s.reals s.counts r c) (p : paper_updated x ≡ account.update_of false own) where
+  answer : (y : Result Updated Refusal) → y ≡ x → account.update_of false (record_at s.reals s.counts r c) ≡ paper_updated y
   answer y e = ap (account.update_of false) (sym l) ∙ sym p ∙ ap paper_updated (sym e)
 
-  pub account-stepped : (b : Bool) (a : StatisticsAccumulator) (t : Memory) → x ≡ updated.Record b a → t ≡ stored r c a s → finding false false t ≡ account_updated r c s
-  unfolding account_updated account_stepped paper_updated
-  account-stepped b a t e h = rw (h, answer (updated.Record b a) (sym e))
+  pub account-stepped : (u : Updated) (t : Memory) → x ≡ Ok u → t ≡ stored r c u.after s → finding false false t ≡ account_updated r c s
+  unfolding account_updated account_stepped
+  account-stepped u t e h = rw (h, answer (Ok u) (sym e))
 
-  pub account-refused : (n : ℕ) → x ≡ updated.Refused n → finding true false s ≡ account_updated r c s
-  unfolding account_updated account_stepped paper_updated
-  account-refused n e = rw (answer (updated.Refused n) (sym e))
+  pub account-refused : (n : Refusal) → x ≡ Err n → finding true false s ≡ account_updated r c s
+  unfolding account_updated account_stepped
+  account-refused n e = rw (answer (Err n) (sym e))
 
 -- ---- loops over bins
 
 module _ (table : List ℕ) (w n : ℕ) where
-  pub turned-next : (f : ℕ → Memory → Outcome Memory) (i : ℕ) (e m : Bool) (s t : Memory) (o : Found) → i < n → found o t ≡ child_turned f (get_or table (w + 7 + i) 0) s
-      → followed (finding (e || o.eight) (m || o.nine) t) (children_turned f table w (i + 1) (n - (i + 1))) ≡ followed (finding e m s) (children_turned f table w i (n - i))
+  pub turned-next : (f : ℕ → Memory → Outcome Memory) (i : ℕ) (a b r : Found) (s t : Memory) → i < n → (r.eight ≡ (a.eight || b.eight)) × (r.nine ≡ (a.nine || b.nine))
+      → found b t ≡ child_turned f (get_or table (w + 7 + i) 0) s
+      → followed (found r t) (children_turned f table w (i + 1) (n - (i + 1))) ≡ followed (found a s) (children_turned f table w i (n - i))
   unfolding children_turned followed
-  turned-next f i e m s t o h k =
+  turned-next f i a b r s t h e k =
       let g : n - i ≡ suc (n - (i + 1)) = omega arith in
-      followed-next e m s t o (child_turned f (get_or table (w + 7 + i) 0)) (children_turned f table w (i + 1) (n - (i + 1))) k
-      ∙ ap (λ (q : ℕ). followed (finding e m s) (children_turned f table w i q)) (sym g)
+      followed-next a b r s t (child_turned f (get_or table (w + 7 + i) 0)) (children_turned f table w (i + 1) (n - (i + 1))) e k
+      ∙ ap (λ (q : ℕ). followed (found a s) (children_turned f table w i q)) (sym g)
 
   pub turned-done : (f : ℕ → Memory → Outcome Memory) (i : ℕ) (o : Outcome Memory) → n ≤ i → followed o (children_turned f table w i (n - i)) ≡ o
   unfolding children_turned followed

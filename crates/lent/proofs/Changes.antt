@@ -148,9 +148,9 @@ module _ (rule : Rule) (values : List ℕ) (rate : Float) (m : ℕ) (reals₀ : 
           let n = next m reals₀ counts₀ k done r c h g.standing in
           record { room = omega (arith, n.room, g.size); places = omega (arith, n.places, g.places) }
 
-      pub going_next : Within m rule values → (f : Found) (reals' : List Float) (counts' : List ℕ) → found f (memory reals' counts') ≡ update_at rule values rate m r c (memory reals counts)
-          → Going o reals' counts' (eight || f.eight) (nine || f.nine) (r + (6 * m + 1)) (c + (3 * m + 2)) (done + 1)
-      going_next w f reals' counts' e =
+      pub going_next : Within m rule values → (f b : Found) (reals' : List Float) (counts' : List ℕ) → found f (memory reals' counts') ≡ update_at rule values rate m r c (memory reals counts)
+          → (b.eight ≡ (eight || f.eight)) × (b.nine ≡ (nine || f.nine)) → Going o reals' counts' b.eight b.nine (r + (6 * m + 1)) (c + (3 * m + 2)) (done + 1)
+      going_next w f b reals' counts' e p =
           let s = memory reals counts in
           let n = next m reals₀ counts₀ k done r c h g.standing in
           let i = inside-update m r c s going-here rule values rate w going-held in
@@ -161,5 +161,5 @@ module _ (rule : Rule) (values : List ℕ) (rate : Float) (m : ℕ) (reals₀ : 
             size = (j.apart.reals-below 0 0 (omega arith)).size ∙ g.size;
             places = (j.apart.counts-below 0 0 (omega arith)).size ∙ g.places;
             rest = λ lo hi l. same-on 0 lo hi counts' counts counts₀ (j.apart.counts-above lo hi l) (g.rest lo hi (omega arith));
-            whole = whole-next rule values rate m k done r c eight nine f s (memory reals' counts') h e ∙ g.whole;
+            whole = rw (p.0, p.1) (whole-next rule values rate m k done r c eight nine f s (memory reals' counts') h e ∙ g.whole);
           }

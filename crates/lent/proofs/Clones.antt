@@ -11,8 +11,8 @@ use lib.Seq.{get_or-take, length-take-le}
 use lib.Ieee.{Float, nan}
 use Rattle.doubles.proofs.Truth.{both}
 use Rattle.plan.specs.declared.Needs.{Needs}
-use Rattle.plan.specs.declared.Sized.{Sized}
-use Rattle.plan.specs.declared.Sized.TheVariants as sized
+use Rattle.std.specs.Prelude.{Result, Ok, Err}
+use Rattle.doubles.specs.declared.refusal.Refusal.{Refusal}
 use Rattle.plan.specs.Paper.{paper_sized}
 use Rattle.plan.specs.Paper as plan
 use Rattle.plan.specs.Needs.{after, untaken, needs_of}
@@ -156,10 +156,10 @@ module _ (table : List ℕ) (s to : Memory) (n : Needs) (fault : ℕ) (judged : 
   unfolding cloned_by
   clone-made t u z e f = rw (sym judged, z) (ap (clone_end 0) (f ∙ ap (cleared_root table) e))
 
-pub clone-planned : (table : List ℕ) (s to : Memory) (r : Sized) (n : Needs) (e : CloneEnd) → paper_sized r ≡ sizes_of table → sized.Plan n ≡ r → e ≡ cloned_by table s to n → e ≡ clone_of table s to
-unfolding clone_of paper_sized
+pub clone-planned : (table : List ℕ) (s to : Memory) (r : Result Needs Refusal) (n : Needs) (e : CloneEnd) → paper_sized r ≡ sizes_of table → Ok n ≡ r → e ≡ cloned_by table s to n → e ≡ clone_of table s to
+unfolding clone_of
 clone-planned table s to r n e p q j = j ∙ ap (λ (o : plan.Paper Needs). clone_by table s to o) (ap paper_sized q ∙ p)
 
-pub clone-strayed : (table : List ℕ) (s to : Memory) (r : Sized) (n : ℕ) → paper_sized r ≡ sizes_of table → sized.Refused n ≡ r → clone_end 12 to ≡ clone_of table s to
-unfolding clone_of paper_sized
+pub clone-strayed : (table : List ℕ) (s to : Memory) (r : Result Needs Refusal) (n : Refusal) → paper_sized r ≡ sizes_of table → Err n ≡ r → clone_end 12 to ≡ clone_of table s to
+unfolding clone_of
 clone-strayed table s to r n p q = ap (λ (o : plan.Paper Needs). clone_by table s to o) (ap paper_sized q ∙ p)

@@ -15,13 +15,12 @@ use Rattle.plan.specs.Numbers.{words_at}
 use Rattle.stream.specs.declared.MonteCarloRng.{MonteCarloRng}
 use Rattle.model.specs.Grid.{Grid, bins}
 use Rattle.model.specs.Sound.{sound}
-use Rattle.model.specs.Draw.{Sample, Drawing, draw_grid}
+use Rattle.model.specs.Draw.{Sample, draw_grid}
 use Rattle.model.specs.Train.{fault_of}
 use Rattle.model.proofs.Drawn.{FewBins, Sized, SizedBins, SizedChild, drawn-formed}
 use Rattle.lent.specs.Drawn.{padded}
 use Rattle.lent.specs.declared.Sample as given
-use Rattle.lent.specs.declared.Traced.{Traced}
-use Rattle.lent.specs.Sampled.{entries, sample_in, sample_of, laid_sample, Short, traced_of, Traces}
+use Rattle.lent.specs.Sampled.{entries, sample_of, laid_sample, Short, WrittenOver}
 use Rattle.lent.specs.State.{root_of}
 use Rattle.lent.specs.Absorbed.{form_of}
 use Rattle.lent.specs.Tree.{axes_plan_at, axes_grid_at, head_at, child_in, bins_in, grid_at, AxesLaid, Laid}
@@ -90,23 +89,20 @@ written_back {A} z xs vs h =
     let e : 0 + length vs ≤ length xs = omega arith in
     entries-take z (sets xs 0 vs) (length vs) (omega (arith, h, length-sets xs 0 vs)) ∙ ap (take (length vs)) (sets-eq vs xs 0 e) ∙ take_at vs (drop (0 + length vs) xs) (length vs) refl
 
--- a draw below no level, written over any arrays, is the model's
-pub drawn-back : (m : Drawing) (t : Traced) (ps ps' : List ℕ) (ws ws' xs xs' : List Float) → length ps ≡ 4 → length ws ≡ 5 → length xs ≡ 8 → Traces 4 0 m t ps ps' ws ws' xs xs'
-    → sample_of (sample_in ps' t.levels ws' t.given xs' t.axes) ≡ m.sample
-unfolding sample_of traced_of
-drawn-back m t ps ps' ws ws' xs xs' p w x q =
-    let e : 0 + length m.sample.path ≡ length m.sample.path = omega arith in
-    let f : 0 + length m.sample.weights ≡ length m.sample.weights = omega arith in
+-- a drawn sample, written over any other, is the model's
+pub drawn-back : (m : Sample) (s s' : given.Sample) → length s.path ≡ 4 → length s.weights ≡ 5 → length s.coordinates ≡ 8 → WrittenOver s s' m → sample_of s' ≡ m
+unfolding sample_of
+drawn-back m s s' p w x q =
     rw (
-      q.0,
-      q.1,
-      q.2,
-      q.3,
-      e,
-      f,
-      written_back 0 ps m.sample.path (omega (arith, q.4.levels, p)),
-      written_back nan ws m.sample.weights (omega (arith, q.4.given, w)),
-      written_back nan xs m.sample.coordinates (omega (arith, q.4.axes, x)),
+      q.path,
+      q.levels,
+      q.weights,
+      q.given,
+      q.coordinates,
+      q.axes,
+      written_back 0 s.path m.path (omega (arith, q.short.levels, p)),
+      written_back nan s.weights m.weights (omega (arith, q.short.given, w)),
+      written_back nan s.coordinates m.coordinates (omega (arith, q.short.axes, x)),
     )
 
 -- a struct that is a drawn sample has the form of the grid that it was drawn from

@@ -15,9 +15,9 @@ use Rattle.lent.specs.Tree.{axes_place, axes_grid_at, child_in, bins_in, AxesLai
 use Rattle.lent.specs.Sampled.{entries}
 use Rattle.lent.specs.Trained.{bins_on, Cell}
 use Rattle.lent.specs.Absorbed.{path_left, places_in, Takes}
-use Rattle.lent.specs.Found.{spots_of, spots_of_bin, spots_of_child, Begins, Found, FoundChild, Held, HeldChild, held, held_child}
+use Rattle.lent.specs.Found.{spots_of, spots_of_bin, spots_of_child, Begins, Found, FoundChild, Held, HeldChild}
 use Rattle.lent.proofs.Fitting.{one_left}
-use Rattle.lent.proofs.Accepts.{spots-there, spots-many, cells_of, formed, offered-of, offered-as, offered-child-as, offered-below, offered-grid}
+use Rattle.lent.proofs.Accepts.{spots-there, spots-many, cells_of, formed, takes-below, takes-grid, takes-as, takes-child-as}
 
 -- ---- an axes grid
 
@@ -87,26 +87,21 @@ module _ (f : ℕ → Grid) (link : ℕ) (s : Sample) (d : ℕ) (spots : List �
 
 -- ---- what is handed over
 
-abbrev pub held_of : {spots : List ℕ} {d number : ℕ} {g : Grid} (s : Sample) → Takes g s d number → Found spots g s d → Held s.path s.weights spots g d number
-held_of s t k = record { coordinates = s.coordinates; offer = offered-of s t; found = k }
+module _ {s : Sample} {spots : List ℕ} {d number : ℕ} where
+  pub held-as : {g g' : Grid} → g ≡ g' → Held s spots g d number → Held s spots g' d number
+  held-as e h = record { takes = takes-as s e h.takes; found = subst (λ (g : Grid). Found spots g s d) e h.found }
 
-module _ {path : List ℕ} {weights : List Float} {spots : List ℕ} {d number : ℕ} where
-  abbrev pub held-as : {g g' : Grid} → g ≡ g' → Held path weights spots g d number → Held path weights spots g' d number
-  held-as e h = record { coordinates = h.coordinates; offer = offered-as e h.offer; found = subst (λ (g : Grid). Found spots g (held h) d) e h.found }
-
-  abbrev pub held-child-as : {c c' : Child} → c ≡ c' → HeldChild path weights spots c d number → HeldChild path weights spots c' d number
-  held-child-as e h =
-      record { coordinates = h.coordinates; offer = offered-child-as e h.offer; found = subst (λ (c : Child). FoundChild spots c (held_child h) d) e h.found }
+  pub held-child-as : {c c' : Child} → c ≡ c' → HeldChild s spots c d number → HeldChild s spots c' d number
+  held-child-as e h = record { takes = takes-child-as s e h.takes; found = subst (λ (c : Child). FoundChild spots c s d) e h.found }
 
   module _ (f : ℕ → Grid) where
-    abbrev pub held_below : (table : List ℕ) (reals : List Float) (counts : List ℕ) (w n : ℕ) (o : Head) → Held path weights spots (bins o (bins_in f table reals counts w 0 n)) d number
-        → HeldChild path weights spots (child_in f (get_or table (w + 7 + get_or path d 0) 0)) (d + 1) number
+    pub held_below : (table : List ℕ) (reals : List Float) (counts : List ℕ) (w n : ℕ) (o : Head) → Held s spots (bins o (bins_in f table reals counts w 0 n)) d number
+        → HeldChild s spots (child_in f (get_or table (w + 7 + get_or s.path d 0) 0)) (d + 1) number
     held_below table reals counts w n o h =
         record {
-          coordinates = h.coordinates;
-          offer = offered-below f table reals counts w n o h.offer;
-          found = found_below f table reals counts w n o (held h) d number h.offer.takes spots h.found;
+          takes = takes-below f table reals counts w n o s d number h.takes;
+          found = found_below f table reals counts w n o s d number h.takes spots h.found;
         }
 
-    abbrev pub held-grid : (link : ℕ) → (link ≡ 0 → ⊥) → HeldChild path weights spots (child_in f link) d number → Held path weights spots (f link) d number
-    held-grid link z h = record { coordinates = h.coordinates; offer = offered-grid f link z h.offer; found = found-grid f link (held_child h) d spots z h.found }
+    pub held-grid : (link : ℕ) → (link ≡ 0 → ⊥) → HeldChild s spots (child_in f link) d number → Held s spots (f link) d number
+    held-grid link z h = record { takes = takes-grid f link s d number z h.takes; found = found-grid f link s d spots z h.found }

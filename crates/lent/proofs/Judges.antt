@@ -51,10 +51,6 @@ pub part : {A : Type 0} (at n : ℕ) (xs : List A) → take (at + n - at) (drop 
 unfolding stretch
 part at n xs = let e : at + n - at ≡ n = omega arith in rw e
 
-pub part-one : {A : Type 0} (at n : ℕ) (xs : List A) → take (at + n + 1 - at) (drop at xs) ≡ stretch at (n + 1) xs
-unfolding stretch
-part-one at n xs = let e : at + n + 1 - at ≡ n + 1 = omega arith in rw e
-
 -- ---- axis after axis
 
 -- k stretches of s places: the first lies there, and so do the others

@@ -7,11 +7,10 @@ use native.Mathlib.Omega.{arith}
 use lib.ListN.{length, take, drop, replicate, length-drop}
 use lib.Seq.{length-take-le}
 use lib.Ieee.{Float}
-use Rattle.doubles.specs.Numbers.{zero64}
 use Rattle.axis.specs.Edges.{bins_of, even_from, even_edges}
 use Rattle.lent.specs.Layout.{stretch, axis_reals, axis_counts}
 use Rattle.lent.specs.Memory.{Memory, memory, put, over_axes}
-use Rattle.lent.specs.Laid.{cleared_reals, cleared_counts, edged_at}
+use Rattle.lent.specs.Laid.{edged_at}
 
 module _ {A : Type 0} where
   -- a part that is lent has as many entries as its ends are apart
@@ -24,16 +23,6 @@ module _ {A : Type 0} where
   pub lent_back : (at n : ℕ) (ys zs xs : List A) → ys ≡ zs → take at xs ++ (ys ++ drop (at + n - at) (drop at xs)) ≡ put at n zs xs
   unfolding put
   lent_back at n ys zs xs e = let f : at + n - at ≡ n = omega arith in rw (e, f)
-
-pub cleared-reals : (at n : ℕ) (ys xs : List Float) → at + n ≤ length xs → ys ≡ replicate (length (take (at + n - at) (drop at xs))) zero64
-    → take at xs ++ (ys ++ drop (at + n - at) (drop at xs)) ≡ cleared_reals at n xs
-unfolding cleared_reals
-cleared-reals at n ys xs h e = lent_back at n ys (replicate n zero64) xs (e ∙ ap (λ (k : ℕ). replicate k zero64) (lent_length at n xs h))
-
-pub cleared-counts : (at n : ℕ) (ys xs : List ℕ) → at + n ≤ length xs → ys ≡ replicate (length (take (at + n - at) (drop at xs))) 0
-    → take at xs ++ (ys ++ drop (at + n - at) (drop at xs)) ≡ cleared_counts at n xs
-unfolding cleared_counts
-cleared-counts at n ys xs h e = lent_back at n ys (replicate n 0) xs (e ∙ ap (λ (k : ℕ). replicate k 0) (lent_length at n xs h))
 
 pub laid-even : (r n : ℕ) (ys reals : List Float) (counts : List ℕ) → r + (n + 1) ≤ length reals
     → ys ≡ even_from (length (take (r + (n + 1) - r) (drop r reals))) 0 (bins_of (take (r + (n + 1) - r) (drop r reals)))

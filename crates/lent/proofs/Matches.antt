@@ -8,14 +8,16 @@ use borrow.Author.Tests.{ne_eqb}
 use lib.Dec.{eqb}
 use lib.ListN.{length, get_or}
 use lib.Ieee.{Float, eq}
+use Rattle.std.specs.Prelude.{Result, Ok, Err}
+use Rattle.std.specs.Result.{is_ok}
 use Rattle.doubles.specs.Paper.{Paper, gives, refuses}
+use Rattle.doubles.specs.Refusal.{paper}
+use Rattle.doubles.specs.declared.refusal.Refusal.{Refusal}
 use Rattle.doubles.proofs.Truth.{both}
 use Rattle.accumulator.specs.declared.StatisticsAccumulator.{StatisticsAccumulator}
-use Rattle.accumulator.specs.declared.Changed.{Changed}
-use Rattle.accumulator.specs.declared.Changed.TheVariants as changed
 use Rattle.accumulator.specs.Record.{well_formed}
 use Rattle.accumulator.specs.Steps.{merged_of}
-use Rattle.accumulator.specs.Calls.{paper_changed, merge_of, kept_of}
+use Rattle.accumulator.specs.Calls.{merge_of, kept_of}
 use Rattle.model.specs.Grid.{Grid, Bins, Child, Head, Bin, axes, bins, none, more, with_head, with_bin}
 use Rattle.model.specs.Sound.{chance, sound, formed_grid, formed_child, kept_grid, kept_bins, kept_child, kept_axis_list}
 use Rattle.model.specs.Merge.{same_lengths, same_shape, same_bins, same_child, equal_edges, equal_grid, equal_bins, equal_child, merge_all, merge_grid, merge_bins, merge_child, merge_fault}
@@ -66,13 +68,10 @@ unfolding merge_of
 accepts-merge a b p q = rw (p, q) (accepts-kept (merged_of a b))
 
 -- the accumulator's own answer on two that are well formed
-pub account-taken : (r : Changed) (a b x : StatisticsAccumulator) → well_formed a ≡ true → well_formed b ≡ true → paper_changed r ≡ merge_of a b → changed.Record x ≡ r → true ≡ well_formed (merged_of a b)
-unfolding paper_changed accepts
-account-taken r a b x p q e d = ap accepts (ap paper_changed d ∙ e) ∙ accepts-merge a b p q
-
-pub account-refused : (r : Changed) (a b : StatisticsAccumulator) (n : ℕ) → well_formed a ≡ true → well_formed b ≡ true → paper_changed r ≡ merge_of a b → changed.Refused n ≡ r → false ≡ well_formed (merged_of a b)
-unfolding paper_changed accepts
-account-refused r a b n p q e d = ap accepts (ap paper_changed d ∙ e) ∙ accepts-merge a b p q
+pub account-fits : (r : Result StatisticsAccumulator Refusal) (a b : StatisticsAccumulator) → well_formed a ≡ true → well_formed b ≡ true → paper r ≡ merge_of a b → is_ok r ≡ well_formed (merged_of a b)
+unfolding accepts
+account-fits (Ok x) a b p q e = ap accepts e ∙ accepts-merge a b p q
+account-fits (Err n) a b p q e = ap accepts e ∙ accepts-merge a b p q
 
 -- ---- two axes grids
 

@@ -11,10 +11,10 @@ use lib.Ieee.{Float, nan, binary64, mul}
 use Rattle.doubles.specs.Numbers.{one64}
 use Rattle.doubles.specs.Inverse.{inv_of}
 use Rattle.doubles.proofs.Truth.{both}
+use Rattle.std.specs.Prelude.{Result, Ok, Err}
 use Rattle.doubles.specs.Paper.{gives, refuses}
-use Rattle.axis.specs.declared.Probed.{Probed}
-use Rattle.axis.specs.declared.Probed.TheVariants as probed
-use Rattle.axis.specs.Calls.{paper_probed}
+use Rattle.doubles.specs.Refusal.{paper}
+use Rattle.doubles.specs.declared.refusal.Refusal.{Refusal}
 use Rattle.model.specs.Axes.{AxesGrid}
 use Rattle.model.specs.Grid.{Grid, Bins, Child, Head, axes, bins, nothing, grid, many}
 use Rattle.model.specs.Probe.{Coordinate, through, probe_axes, probe_grid, probe_bin, probe_child}
@@ -163,13 +163,11 @@ child-hung f link p d b e n z = rw (ne_eqb link 0 z) (grid-left (f link) (path_f
 
 -- ---- the answers as the code makes them
 
-pub through-weight : (f : Float → Float) (w : Float) (p : Probed) → p ≡ probed.Weight w → paper_probed (probed.Weight (f w)) ≡ through f (paper_probed p)
-unfolding paper_probed
+pub through-weight : (f : Float → Float) (w : Float) (p : Result Float Refusal) → p ≡ Ok w → paper {A = Float} (Ok (f w)) ≡ through f (paper p)
 through-weight f w p e = rw e
 
-pub through-refusal : (f : Float → Float) (n : ℕ) (p : Probed) → p ≡ probed.Refused n → paper_probed (probed.Refused n) ≡ through f (paper_probed p)
-unfolding paper_probed
-through-refusal f n p e = rw e
+pub through-refusal : (f : Float → Float) (r : Refusal) (p : Result Float Refusal) → p ≡ Err r → paper {A = Float} (Err r) ≡ through f (paper p)
+through-refusal f r p e = rw e
 
 -- the axes where the code finds them
 pub axes-probed : (table : List ℕ) (reals : List Float) (counts : List ℕ) (w : ℕ) (g : AxesAt) (xs : List Coordinate) → g ≡ axes_place table w

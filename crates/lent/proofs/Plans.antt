@@ -6,10 +6,10 @@ use Prim.Native.Nat.{ℕ, ◌≤◌, ◌<◌}
 use borrow.Author.Tests.{le-ltb, lt-ltb}
 use lib.Dec.{ltb}
 use lib.ListN.{length}
-use Rattle.plan.specs.declared.Needs.{Needs}
 use Rattle.plan.specs.declared.Place.{Place}
+use Rattle.std.specs.Prelude.{Result, Ok, Err}
 use Rattle.plan.specs.declared.Read.{Read}
-use Rattle.plan.specs.declared.Read.TheVariants as read
+use Rattle.plan.specs.declared.Misread.{Misread}
 use Rattle.plan.specs.Bounds.{Bytes}
 use Rattle.plan.specs.Plan.{Tree}
 use Rattle.plan.specs.Needs.{needs_of}
@@ -82,15 +82,14 @@ module _ (bs table : List ℕ) (s : Memory) (r : PlanRead) where
       let t : ys ≡ (read_plan_of bs table).table = ap (λ (x : End). x.table) f in
       rw (le-ltb _ _ h, le-ltb _ _ i, le-ltb _ _ j, l, ap (λ (x : End). x.answer) f, t)
 
-pub fresh-refused : (bs table : List ℕ) (s : Memory) (x : Read) (n at : ℕ) → paper_read x ≡ measure_of bs → x ≡ read.Refused n at → fresh_end (paper_read (read.Refused n at)) table s ≡ fresh_of bs table s
-unfolding fresh_of paper_read
-fresh-refused bs table s x n at e q = ap (λ (p : plan.Paper PlanRead). fresh_by bs p table s) (ap paper_read (sym q) ∙ e)
+pub fresh-refused : (bs table : List ℕ) (s : Memory) (x : Result Read Misread) (m : Misread) → paper_read x ≡ measure_of bs → x ≡ Err m → fresh_end (paper_read (Err m)) table s ≡ fresh_of bs table s
+unfolding fresh_of
+fresh-refused bs table s x m e q = ap (λ (p : plan.Paper PlanRead). fresh_by bs p table s) (ap paper_read (sym q) ∙ e)
 
-pub fresh-measured : (bs table : List ℕ) (s : Memory) (x : Read) (n : ℕ) (needs : Needs) (o : FreshEnd) → paper_read x ≡ measure_of bs → x ≡ read.Plan n needs
-    → o ≡ founded_of bs (plan_read n needs) table s → o ≡ fresh_of bs table s
-unfolding fresh_of paper_read
-fresh-measured bs table s x n needs o e q f = f ∙ ap (λ (p : plan.Paper PlanRead). fresh_by bs p table s) (ap paper_read (sym q) ∙ e)
+pub fresh-measured : (bs table : List ℕ) (s : Memory) (x : Result Read Misread) (r : Read) (o : FreshEnd) → paper_read x ≡ measure_of bs → x ≡ Ok r
+    → o ≡ founded_of bs (plan_read r.end r.needs) table s → o ≡ fresh_of bs table s
+unfolding fresh_of
+fresh-measured bs table s x r o e q f = f ∙ ap (λ (p : plan.Paper PlanRead). fresh_by bs p table s) (ap paper_read (sym q) ∙ e)
 
-pub measured-by : (bs : List ℕ) (x : Read) (n : ℕ) (needs : Needs) → paper_read x ≡ measure_of bs → x ≡ read.Plan n needs → measure_of bs ≡ plan.gives (plan_read n needs)
-unfolding paper_read
-measured-by bs x n needs e q = sym e ∙ ap paper_read q
+pub measured-by : (bs : List ℕ) (x : Result Read Misread) (r : Read) → paper_read x ≡ measure_of bs → x ≡ Ok r → measure_of bs ≡ plan.gives (plan_read r.end r.needs)
+measured-by bs x r e q = sym e ∙ ap paper_read q

@@ -6,11 +6,11 @@ use Prim.Native.Nat.{ℕ, zero, suc, ◌+◌, ◌-◌, ◌≤◌, ◌<◌}
 use native.Mathlib.Omega.{arith}
 use lib.ListN.{length, get_or, take, drop}
 use lib.Ieee.{Float, nan, binary64, mul}
+use Rattle.std.specs.Prelude.{Result, Ok, Err}
 use Rattle.doubles.specs.Paper.{Paper, gives, refuses}
+use Rattle.doubles.specs.Refusal.{paper}
+use Rattle.doubles.specs.declared.refusal.Refusal.{Refusal}
 use Rattle.axis.specs.Edges.{in_unit, bin_of, weight_of}
-use Rattle.axis.specs.declared.Probed.{Probed}
-use Rattle.axis.specs.declared.Probed.TheVariants as probed
-use Rattle.axis.specs.Calls.{paper_probed}
 use Rattle.model.specs.Axes.{Axis, AxesGrid}
 use Rattle.model.specs.Draw.{floored_of}
 use Rattle.model.specs.Probe.{Coordinate, probe_all, probe_axes, through}
@@ -79,10 +79,8 @@ module _ (reals : List Float) (counts : List ℕ) (p : Coordinates) where
   probed-out g d w h = let e : g.axes ≡ 0 = omega arith in rw e
 
 -- the floor on a probe's answer
-pub floors-weight : (f w v : Float) (p : Probed) → p ≡ probed.Weight w → v ≡ floored_of f w → paper_probed (probed.Weight v) ≡ through (floored_of f) (paper_probed p)
-unfolding paper_probed
+pub floors-weight : (f w v : Float) (p : Result Float Refusal) → p ≡ Ok w → v ≡ floored_of f w → paper {A = Float} (Ok v) ≡ through (floored_of f) (paper p)
 floors-weight f w v p e g = rw (e, g)
 
-pub floors-refusal : (f : Float) (n : ℕ) (p : Probed) → p ≡ probed.Refused n → paper_probed (probed.Refused n) ≡ through (floored_of f) (paper_probed p)
-unfolding paper_probed
-floors-refusal f n p e = rw e
+pub floors-refusal : (f : Float) (r : Refusal) (p : Result Float Refusal) → p ≡ Err r → paper {A = Float} (Err r) ≡ through (floored_of f) (paper p)
+floors-refusal f r p e = rw e

@@ -15,8 +15,9 @@ use Rattle.axis.specs.Scans.{all_bounded}
 use Rattle.recut.specs.Gather.{gathered_of, joined_counts, reaches_of}
 use mathlib.Core.Bool.{Bool, true, false, ◌&&◌}
 use Rattle.doubles.specs.Paper.{Paper, gives, refuses}
-use Rattle.recut.specs.declared.Renewed.{Renewed}
-use Rattle.recut.specs.declared.Renewed.TheVariants as renewed
+use Rattle.std.specs.Prelude.{Result, Ok, Err}
+use Rattle.doubles.specs.Refusal.{number_of}
+use Rattle.doubles.specs.declared.refusal.Refusal.{Refusal}
 use Rattle.recut.specs.Renew.{paper_renewed, renew_of}
 use Rattle.model.specs.Update.{Outcome, last_or}
 use Rattle.lent.specs.declared.Rule.{Rule}
@@ -80,19 +81,19 @@ within_all m rule vs h v k = get_d-within m (last_or rule.bins vs) vs k (last_wi
 
 -- ---- the re-cut
 
-module _ (m r c n recuts : ℕ) (qs : List Float) (ns : List ℕ) (rate : Float) (reals : List Float) (counts : List ℕ) (a : Renewed) (places : ℕ) (room : List Float)
+module _ (m r c n recuts : ℕ) (qs : List Float) (ns : List ℕ) (rate : Float) (reals : List Float) (counts : List ℕ) (a : Result (Unit {0}) Refusal) (places : ℕ) (room : List Float)
     (h : places ≡ n + 1) (answer : paper_renewed a room ≡ renew_of (take (r + (length qs + 1) - r) (drop r reals)) qs ns rate places) where
   renewed-is : paper_renewed a room ≡ renew_of (stretch r (length qs + 1) reals) qs ns rate (n + 1)
   renewed-is = answer ∙ ap₂ (λ (es : List Float) (p : ℕ). renew_of es qs ns rate p) (lent-stretch r (length qs + 1) reals) h
 
-  pub into-refused : (k : ℕ) → a ≡ renewed.Refused k
-      → finding (eqb k 8) (eqb k 9) (memory reals counts) ≡ recut_into m r c n recuts (renew_of (stretch r (length qs + 1) reals) qs ns rate (n + 1)) (memory reals counts)
+  pub into-refused : (k : Refusal) → a ≡ Err k
+      → finding (eqb (number_of k) 8) (eqb (number_of k) 9) (memory reals counts) ≡ recut_into m r c n recuts (renew_of (stretch r (length qs + 1) reals) qs ns rate (n + 1)) (memory reals counts)
   unfolding recut_into paper_renewed
   into-refused k e =
-      let f : refuses k ≡ renew_of (stretch r (length qs + 1) reals) qs ns rate (n + 1) = rw e at renewed-is in
+      let f : refuses (number_of k) ≡ renew_of (stretch r (length qs + 1) reals) qs ns rate (n + 1) = rw e at renewed-is in
       ap (λ (p : Paper (List Float)). recut_into m r c n recuts p (memory reals counts)) f
 
-  pub into-done : (reals₁ : List Float) (s : Memory) → a ≡ renewed.Done → length room ≡ places → reals₁ ≡ put r (length room) room reals → s ≡ empty_at m r c n recuts (memory reals₁ counts)
+  pub into-done : (reals₁ : List Float) (s : Memory) → a ≡ Ok tt → length room ≡ places → reals₁ ≡ put r (length room) room reals → s ≡ empty_at m r c n recuts (memory reals₁ counts)
       → finding false false s ≡ recut_into m r c n recuts (renew_of (stretch r (length qs + 1) reals) qs ns rate (n + 1)) (memory reals counts)
   unfolding recut_into paper_renewed edged_at
   into-done reals₁ s e l g t =

@@ -36,7 +36,8 @@ use Rattle.lent.specs.Layout.{stretch}
 use Rattle.lent.specs.Drawn.{Stands, axes_at, under_floor, padded, Places}
 use Rattle.lent.specs.Tree.{axes_plan_at, axes_place, axes_grid_at, bin_in, child_in, bins_in, AxesLaid}
 use Rattle.lent.specs.Judged.{sound_bin, sound_bins}
-use Rattle.lent.specs.Sampled.{laid_sample, laid_drawing, Short, pushed, sound_child, traced_of, TracesAxes, Traces}
+use Rattle.lent.specs.declared.Sample as given
+use Rattle.lent.specs.Sampled.{empty, laid_sample, WrittenOver, Short, pushed, sound_child, traced_of, TracesAxes, Traces}
 use Rattle.lent.proofs.Judges.{stretch-one, part, fit-stands}
 use Rattle.lent.proofs.Sounds.{numbers-upto, sound-axes, sound_more, sound-bins}
 
@@ -165,18 +166,37 @@ written-padded {A} n d vs h =
     ∙ sym (take-append-add vs (replicate n d) k)
     ∙ ap (λ (j : ℕ). take j (vs ++ replicate n d)) (sym m)
 
--- a draw below no level, written over zeros
-pub root-made : (m : Drawing) (t : Traced) (ps : List ℕ) (ws xs : List Float)
-    → Traces 4 0 m t (replicate 4 0) ps (replicate 5 zero64) ws (replicate 8 zero64) xs
-    → record { sample = record { path = ps; levels = t.levels; weights = ws; given = t.given; coordinates = xs; axes = t.axes }; stream = t.stream } ≡ laid_drawing m
-unfolding laid_drawing laid_sample traced_of
-root-made m t ps ws xs q =
-    let p : ps ≡ padded 4 0 m.sample.path = q.1 ∙ written-padded 4 0 m.sample.path q.4.levels in
-    let w : ws ≡ padded 5 zero64 m.sample.weights = q.2 ∙ written-padded 5 zero64 m.sample.weights q.4.given in
-    let x : xs ≡ padded 8 zero64 m.sample.coordinates = q.3 ∙ written-padded 8 zero64 m.sample.coordinates q.4.axes in
+-- a draw below no level, with its numbers set
+pub written-there : (m : Drawing) (t : Traced) (s s' : given.Sample) → Traces 4 0 m t s.path s'.path s.weights s'.weights s.coordinates s'.coordinates
+    → (t.stream ≡ m.stream) × WrittenOver s (record { path = s'.path; levels = t.levels; weights = s'.weights; given = t.given; coordinates = s'.coordinates; axes = t.axes }) m.sample
+unfolding traced_of
+written-there m t s s' q =
     let e : 0 + length m.sample.path ≡ length m.sample.path = omega arith in
-    let f : 0 + length m.sample.weights ≡ length m.sample.weights = omega arith in
-    rw (q.0, p, w, x, e, f)
+    let f : 0 + length m.sample.weights ≡ length m.sample.weights = omega arith in (
+      ap (λ (u : Traced). u.stream) q.0,
+      record {
+        path = q.1;
+        levels = ap (λ (u : Traced). u.levels) q.0 ∙ e;
+        weights = q.2;
+        given = ap (λ (u : Traced). u.given) q.0 ∙ f;
+        coordinates = q.3;
+        axes = ap (λ (u : Traced). u.axes) q.0;
+        short = q.4;
+      },
+    )
+
+-- written over a sample of nothing, it is the struct of the model's
+pub written-laid : (m : Sample) (s s' : given.Sample) → s ≡ laid_sample empty → WrittenOver s s' m → s' ≡ laid_sample m
+unfolding laid_sample padded
+written-laid m s s' z q =
+    let p : s'.path ≡ padded 4 0 m.path = q.path ∙ ap (λ (t : given.Sample). sets t.path 0 m.path) z ∙ written-padded 4 0 m.path q.short.levels in
+    let w : s'.weights ≡ padded 5 zero64 m.weights = q.weights ∙ ap (λ (t : given.Sample). sets t.weights 0 m.weights) z ∙ written-padded 5 zero64 m.weights q.short.given in
+    let x : s'.coordinates ≡ padded 8 zero64 m.coordinates = q.coordinates ∙ ap (λ (t : given.Sample). sets t.coordinates 0 m.coordinates) z ∙ written-padded 8 zero64 m.coordinates q.short.axes in
+    same-sample p q.levels w q.given x q.axes
+  where
+    same-sample : {p p' : List ℕ} {l l' : ℕ} {w w' : List Float} {g g' : ℕ} {x x' : List Float} {a a' : ℕ} → p ≡ p' → l ≡ l' → w ≡ w' → g ≡ g' → x ≡ x' → a ≡ a'
+        → ◌≡◌ {A = given.Sample} (record { path = p; levels = l; weights = w; given = g; coordinates = x; axes = a }) (record { path = p'; levels = l'; weights = w'; given = g'; coordinates = x'; axes = a' })
+    same-sample p l w g x a = rw (p, l, w, g, x, a)
 
 -- ---- a draw from a bin
 

@@ -8,8 +8,8 @@ use lib.ListN.{length, take, drop}
 use lib.Ieee.{Float}
 use Rattle.doubles.proofs.Truth.{passed}
 use Rattle.plan.specs.declared.Needs.{Needs}
-use Rattle.plan.specs.declared.Sized.{Sized}
-use Rattle.plan.specs.declared.Sized.TheVariants as sized
+use Rattle.std.specs.Prelude.{Result, Ok, Err}
+use Rattle.doubles.specs.declared.refusal.Refusal.{Refusal}
 use Rattle.plan.specs.Paper.{paper_sized}
 use Rattle.plan.specs.Paper as plan
 use Rattle.plan.specs.Calls.{sizes_of}
@@ -80,12 +80,12 @@ front-ready table s to n large planned r =
       root-laid table n _ _ large planned (omega arith) (omega arith),
     )
 
-pub update-planned : (table : List ℕ) (bins_rate axes_rate : Float) (R C : ℕ) (s : Memory) (r : Sized) (n : Needs) (e : StateEnd) → paper_sized r ≡ sizes_of table → sized.Plan n ≡ r
+pub update-planned : (table : List ℕ) (bins_rate axes_rate : Float) (R C : ℕ) (s : Memory) (r : Result Needs Refusal) (n : Needs) (e : StateEnd) → paper_sized r ≡ sizes_of table → Ok n ≡ r
     → e ≡ updated_by table bins_rate axes_rate R C s n → e ≡ update_of table bins_rate axes_rate R C s
-unfolding update_of paper_sized
+unfolding update_of
 update-planned table bins_rate axes_rate R C s r n e p q j = j ∙ ap (λ (o : plan.Paper Needs). update_by table bins_rate axes_rate R C s o) (ap paper_sized q ∙ p)
 
-pub update-strayed : (table : List ℕ) (bins_rate axes_rate : Float) (R C : ℕ) (s : Memory) (r : Sized) (n : ℕ) → paper_sized r ≡ sizes_of table → sized.Refused n ≡ r
+pub update-strayed : (table : List ℕ) (bins_rate axes_rate : Float) (R C : ℕ) (s : Memory) (r : Result Needs Refusal) (n : Refusal) → paper_sized r ≡ sizes_of table → Err n ≡ r
     → state_end 12 s ≡ update_of table bins_rate axes_rate R C s
-unfolding update_of paper_sized
+unfolding update_of
 update-strayed table bins_rate axes_rate R C s r n p q = ap (λ (o : plan.Paper Needs). update_by table bins_rate axes_rate R C s o) (ap paper_sized q ∙ p)

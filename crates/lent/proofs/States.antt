@@ -9,8 +9,8 @@ use lib.Dec.{eqb, ltb}
 use lib.ListN.{length, get_or}
 use lib.Ieee.{Float}
 use Rattle.plan.specs.declared.Needs.{Needs}
-use Rattle.plan.specs.declared.Sized.{Sized}
-use Rattle.plan.specs.declared.Sized.TheVariants as sized
+use Rattle.std.specs.Prelude.{Result, Ok, Err}
+use Rattle.doubles.specs.declared.refusal.Refusal.{Refusal}
 use Rattle.plan.specs.Paper.{paper_sized}
 use Rattle.plan.specs.Paper as plan
 use Rattle.plan.specs.Calls.{sizes_of}
@@ -58,26 +58,25 @@ unfolding state_fault
 clear table reals counts large f = clear-by table reals counts (sizes_of table) large refl f
 
 -- what the plan's own answer comes to
-pub fault-planned : (table : List ℕ) (reals : List Float) (counts : List ℕ) (r : Sized) (n : Needs) (k : ℕ) → paper_sized r ≡ sizes_of table → sized.Plan n ≡ r → k ≡ judged_by table reals counts n → k ≡ state_fault table reals counts
-unfolding state_fault fault_by paper_sized
+pub fault-planned : (table : List ℕ) (reals : List Float) (counts : List ℕ) (r : Result Needs Refusal) (n : Needs) (k : ℕ) → paper_sized r ≡ sizes_of table → Ok n ≡ r → k ≡ judged_by table reals counts n → k ≡ state_fault table reals counts
+unfolding state_fault fault_by
 fault-planned table reals counts r n k e q j = j ∙ ap (λ (p : plan.Paper Needs). fault_by table reals counts p) (ap paper_sized q ∙ e)
 
-pub sizes-planned : (table : List ℕ) (r : Sized) (n : Needs) → paper_sized r ≡ sizes_of table → sized.Plan n ≡ r → sizes_of table ≡ plan.gives n
-unfolding paper_sized
+pub sizes-planned : (table : List ℕ) (r : Result Needs Refusal) (n : Needs) → paper_sized r ≡ sizes_of table → Ok n ≡ r → sizes_of table ≡ plan.gives n
 sizes-planned table r n e q = sym e ∙ sym (ap paper_sized q)
 
-pub fault-strayed : (table : List ℕ) (reals : List Float) (counts : List ℕ) (r : Sized) (n : ℕ) → paper_sized r ≡ sizes_of table → sized.Refused n ≡ r → 12 ≡ state_fault table reals counts
-unfolding state_fault fault_by paper_sized
+pub fault-strayed : (table : List ℕ) (reals : List Float) (counts : List ℕ) (r : Result Needs Refusal) (n : Refusal) → paper_sized r ≡ sizes_of table → Err n ≡ r → 12 ≡ state_fault table reals counts
+unfolding state_fault fault_by
 fault-strayed table reals counts r n e q = ap (λ (p : plan.Paper Needs). fault_by table reals counts p) (ap paper_sized q ∙ e)
 
 -- with a destination
 module _ (table : List ℕ) (reals : List Float) (counts : List ℕ) (R C : ℕ) where
-  pub fault-to-planned : (r : Sized) (n : Needs) (k : ℕ) → paper_sized r ≡ sizes_of table → sized.Plan n ≡ r → k ≡ judged_to table reals counts R C n → k ≡ fault_to table reals counts R C
+  pub fault-to-planned : (r : Result Needs Refusal) (n : Needs) (k : ℕ) → paper_sized r ≡ sizes_of table → Ok n ≡ r → k ≡ judged_to table reals counts R C n → k ≡ fault_to table reals counts R C
   unfolding fault_to fault_to_by
   fault-to-planned r n k e q j = j ∙ ap (fault_to_by table reals counts R C) (sym (sizes-planned table r n e q))
 
-  pub fault-to-strayed : (r : Sized) (n : ℕ) → paper_sized r ≡ sizes_of table → sized.Refused n ≡ r → 12 ≡ fault_to table reals counts R C
-  unfolding fault_to fault_to_by paper_sized
+  pub fault-to-strayed : (r : Result Needs Refusal) (n : Refusal) → paper_sized r ≡ sizes_of table → Err n ≡ r → 12 ≡ fault_to table reals counts R C
+  unfolding fault_to fault_to_by
   fault-to-strayed r n e q = ap (fault_to_by table reals counts R C) (ap paper_sized q ∙ e)
 
   -- where the plan's needs are known already
@@ -135,23 +134,23 @@ module _ (table : List ℕ) (reals : List Float) (counts : List ℕ) (other : Li
   pair-clear large wide z = first-clear (sizes_of table) large wide refl z
 
   -- what each plan's own answer comes to
-  pub second-planned : (n : Needs) (r : Sized) (k : Needs) (f : ℕ) → paper_sized r ≡ sizes_of other → sized.Plan k ≡ r
+  pub second-planned : (n : Needs) (r : Result Needs Refusal) (k : Needs) (f : ℕ) → paper_sized r ≡ sizes_of other → Ok k ≡ r
       → f ≡ both_judged table reals counts n other theirs tallies k → f ≡ second_by table reals counts n other theirs tallies (sizes_of other)
-  unfolding second_by paper_sized
+  unfolding second_by
   second-planned n r k f e q j = j ∙ ap (second_by table reals counts n other theirs tallies) (ap paper_sized q ∙ e)
 
-  pub second-strayed : (n : Needs) (r : Sized) (k : ℕ) → paper_sized r ≡ sizes_of other → sized.Refused k ≡ r
+  pub second-strayed : (n : Needs) (r : Result Needs Refusal) (k : Refusal) → paper_sized r ≡ sizes_of other → Err k ≡ r
       → 12 ≡ second_by table reals counts n other theirs tallies (sizes_of other)
-  unfolding second_by paper_sized
+  unfolding second_by
   second-strayed n r k e q = ap (second_by table reals counts n other theirs tallies) (ap paper_sized q ∙ e)
 
-  pub first-planned : (r : Sized) (n : Needs) (f : ℕ) → paper_sized r ≡ sizes_of table → sized.Plan n ≡ r
+  pub first-planned : (r : Result Needs Refusal) (n : Needs) (f : ℕ) → paper_sized r ≡ sizes_of table → Ok n ≡ r
       → f ≡ second_by table reals counts n other theirs tallies (sizes_of other) → f ≡ pair_fault table reals counts other theirs tallies
-  unfolding pair_fault first_by paper_sized
+  unfolding pair_fault first_by
   first-planned r n f e q j = j ∙ ap (λ (p : plan.Paper Needs). first_by table reals counts p other theirs tallies) (ap paper_sized q ∙ e)
 
-  pub first-strayed : (r : Sized) (k : ℕ) → paper_sized r ≡ sizes_of table → sized.Refused k ≡ r → 12 ≡ pair_fault table reals counts other theirs tallies
-  unfolding pair_fault first_by paper_sized
+  pub first-strayed : (r : Result Needs Refusal) (k : Refusal) → paper_sized r ≡ sizes_of table → Err k ≡ r → 12 ≡ pair_fault table reals counts other theirs tallies
+  unfolding pair_fault first_by
   first-strayed r k e q = ap (λ (p : plan.Paper Needs). first_by table reals counts p other theirs tallies) (ap paper_sized q ∙ e)
 
 -- ---- answers on a state

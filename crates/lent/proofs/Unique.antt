@@ -1,10 +1,15 @@
 -- Every exported call answers on any input, and its promise allows one answer.
-use mathlib.Core.Path.{◌≡◌, sym, ◌∙◌}
+use mathlib.Core.Path.{◌≡◌, sym, ap₂, ◌∙◌}
 use mathlib.Core.Bool.{Bool}
 use contract.Lifetimes.{Lfts}
 use borrow.Fn.Kinds.{Dens, ended_of}
 use denote.Triple.Clauses.{AtExit}
 use Rattle.lent.specs.declared.AxesAt.{AxesAt}
+use Rattle.lent.specs.declared.Found.{Found}
+use Rattle.lent.proofs.FoundBitOr.bitor.Kinds as bitor
+use Rattle.lent.proofs.FoundBitOr.bitor.Reads as bitor-reads
+use Rattle.lent.proofs.FoundBitOrAssign.bitor_assign.Kinds as bitor-assign
+use Rattle.lent.proofs.FoundBitOrAssign.bitor_assign.Reads as bitor-assign-reads
 use Rattle.lent.proofs.layout.axes_place.Kinds as axes-place
 use Rattle.lent.proofs.layout.axes_place.Reads as axes-place-reads
 use Rattle.lent.proofs.room.has_axes.Kinds as has-axes
@@ -32,3 +37,22 @@ is-roomy-total κs a = tt
 pub is-roomy-unique : (κs : Lfts 0) (a : Dens κs is-roomy.ps) (r r' : Bool) (s s' : AtExit (ended_of 0 is-roomy.ps is-roomy.r) κs)
     → is-roomy-reads.Post κs a r s → is-roomy-reads.Post κs a r' s' → r ≡ r'
 is-roomy-unique κs a r r' s s' p q = p ∙ sym q
+
+-- two findings with the same flags are one
+found-one : (x y : Found) → x.eight ≡ y.eight → x.nine ≡ y.nine → x ≡ y
+found-one x y e n = ap₂ {C = Found} (λ (a b : Bool). record { eight = a; nine = b }) e n
+
+pub bitor-total : (κs : Lfts 0) (a : Dens κs bitor.ps) → bitor-reads.Pre κs a
+bitor-total κs a = tt
+
+pub bitor-unique : (κs : Lfts 0) (a : Dens κs bitor.ps) (r r' : Found) (s s' : AtExit (ended_of 0 bitor.ps bitor.r) κs)
+    → bitor-reads.Post κs a r s → bitor-reads.Post κs a r' s' → r ≡ r'
+bitor-unique κs a r r' s s' p q = found-one r r' (p.0 ∙ sym q.0) (p.1 ∙ sym q.1)
+
+pub bitor-assign-total : (κs : Lfts 1) (a : Dens κs bitor-assign.ps) → bitor-assign-reads.Pre κs a
+bitor-assign-total κs a = tt
+
+-- what it leaves; it answers nothing
+pub bitor-assign-unique : (κs : Lfts 1) (a : Dens κs bitor-assign.ps) (r r' : Unit {0}) (s s' : AtExit (ended_of 1 bitor-assign.ps bitor-assign.r) κs)
+    → bitor-assign-reads.Post κs a r s → bitor-assign-reads.Post κs a r' s' → s.0.now ≡ s'.0.now
+bitor-assign-unique κs a r r' s s' p q = found-one _ _ (p.0 ∙ sym q.0) (p.1 ∙ sym q.1)

@@ -7,10 +7,11 @@ use native.Mathlib.Nat.{suc-mul}
 use native.Mathlib.Omega.{arith}
 use borrow.Author.Tests.{lt-ltb, le-ltb, ne_eqb, eq-eqb}
 use lib.ListN.{get_or}
+use Rattle.std.specs.Prelude.{Result, Ok, Err}
 use Rattle.doubles.specs.Paper.{Paper, gives, refuses}
+use Rattle.doubles.specs.Refusal.{paper}
+use Rattle.doubles.specs.declared.refusal.Refusal.{Refusal}
 use Rattle.accumulator.specs.declared.StatisticsAccumulator.{StatisticsAccumulator}
-use Rattle.accumulator.specs.declared.Changed.{Changed}
-use Rattle.accumulator.specs.declared.Changed.TheVariants as changed
 use Rattle.accumulator.specs.Calls as account
 use Rattle.model.specs.Grid.{Grid}
 use Rattle.model.specs.Sound.{kept_grid}
@@ -69,16 +70,16 @@ module _ (m r c : ℕ) (o : AxesAt) (others s : Memory) where
 -- ---- one record
 
 module _ (r c q d : ℕ) (others s : Memory) where
-  pub record-joined : (p : Changed) (a b x : StatisticsAccumulator) (t : Memory) → a ≡ record_at s.reals s.counts r c → b ≡ record_at others.reals others.counts q d
-      → account.paper_changed p ≡ account.merge_of a b → changed.Record x ≡ p → t ≡ stored r c x s → t ≡ joined_record r c q d others s
-  unfolding joined_record stored_by account.paper_changed
+  pub record-joined : (p : Result StatisticsAccumulator Refusal) (a b x : StatisticsAccumulator) (t : Memory) → a ≡ record_at s.reals s.counts r c → b ≡ record_at others.reals others.counts q d
+      → paper p ≡ account.merge_of a b → Ok x ≡ p → t ≡ stored r c x s → t ≡ joined_record r c q d others s
+  unfolding joined_record stored_by
   record-joined p a b x t e f m k u =
-      u ∙ ap (λ (n : Paper StatisticsAccumulator). stored_by r c n s) (ap account.paper_changed k ∙ m ∙ ap₂ account.merge_of e f)
+      u ∙ ap (λ (n : Paper StatisticsAccumulator). stored_by r c n s) (ap paper k ∙ m ∙ ap₂ account.merge_of e f)
 
-  pub record-stays : (p : Changed) (a b : StatisticsAccumulator) (n : ℕ) → a ≡ record_at s.reals s.counts r c → b ≡ record_at others.reals others.counts q d
-      → account.paper_changed p ≡ account.merge_of a b → changed.Refused n ≡ p → s ≡ joined_record r c q d others s
-  unfolding joined_record stored_by account.paper_changed
-  record-stays p a b n e f m k = ap (λ (n : Paper StatisticsAccumulator). stored_by r c n s) (ap account.paper_changed k ∙ m ∙ ap₂ account.merge_of e f)
+  pub record-stays : (p : Result StatisticsAccumulator Refusal) (a b : StatisticsAccumulator) (n : Refusal) → a ≡ record_at s.reals s.counts r c → b ≡ record_at others.reals others.counts q d
+      → paper p ≡ account.merge_of a b → Err n ≡ p → s ≡ joined_record r c q d others s
+  unfolding joined_record stored_by
+  record-stays p a b n e f m k = ap (λ (n : Paper StatisticsAccumulator). stored_by r c n s) (ap paper k ∙ m ∙ ap₂ account.merge_of e f)
 
 module _ (table other : List ℕ) (others : Memory) where
   -- ---- two axes grids

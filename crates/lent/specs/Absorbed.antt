@@ -13,7 +13,7 @@ use Rattle.lent.specs.declared.Gain.{Gain}
 use Rattle.lent.specs.Memory.{Memory, memory, record_at}
 use Rattle.lent.specs.Drawn.{axes_at}
 use Rattle.lent.specs.Tree.{axes_place}
-use Rattle.lent.specs.Sampled.{entries, sample_in, sound_child}
+use Rattle.lent.specs.Sampled.{entries, sound_child}
 use Rattle.lent.specs.Trained.{bins_on, trained_over}
 
 -- ---- what is left of a sample below d bins grids
@@ -42,27 +42,6 @@ pub record TakesChild (c : Child) (s : Sample) (d n : ℕ) : Type 0 where
   pub well : sound_child c ≡ true
   pub form : fault_of_child c (path_left s d) (weights_left s d) (places_in s) ≡ 0
   pub number : numbered n ≡ true
-
--- ---- a grid takes a sample whose lists are these, however many of their entries it has
-
-pub record Offered (path : List ℕ) (weights coordinates : List Float) (g : Grid) (d n : ℕ) : Type 0 where
-  pub levels : ℕ
-  pub weighed : ℕ
-  pub many : ℕ
-  pub takes : Takes g (sample_in path levels weights weighed coordinates many) d n
-
-pub record OfferedChild (path : List ℕ) (weights coordinates : List Float) (c : Child) (d n : ℕ) : Type 0 where
-  pub levels : ℕ
-  pub weighed : ℕ
-  pub many : ℕ
-  pub takes : TakesChild c (sample_in path levels weights weighed coordinates many) d n
-
--- that sample
-abbrev pub offered : {path : List ℕ} {weights coordinates : List Float} {g : Grid} {d n : ℕ} → Offered path weights coordinates g d n → Sample
-offered {path} {weights} {coordinates} o = sample_in path o.levels weights o.weighed coordinates o.many
-
-abbrev pub offered_child : {path : List ℕ} {weights coordinates : List Float} {c : Child} {d n : ℕ} → OfferedChild path weights coordinates c d n → Sample
-offered_child {path} {weights} {coordinates} o = sample_in path o.levels weights o.weighed coordinates o.many
 
 -- ---- what it leaves
 

@@ -1,11 +1,13 @@
 -- Draws and trainings in one call, by the calls one by one: each evaluation's sample is drawn by `draw` and trained by `train`.
 use Rattle.std.specs.Prelude.{ℕ, ◌+◌, not, cond, List, [], ◌∷◌, eqb, Float}
 use Rattle.stream.specs.declared.MonteCarloRng.{MonteCarloRng}
-use Rattle.lent.specs.declared.Batched.{Batched}
-use Rattle.lent.specs.declared.Drawn.{Drawn}
+use Rattle.std.specs.Prelude.{Result, Ok, Err}
+use Rattle.doubles.specs.Refusal.{number_of, fault_of}
+use Rattle.doubles.specs.declared.refusal.Refusal.{Refusal}
+use Rattle.lent.specs.declared.Batched as given
 use Rattle.lent.specs.Memory.{Memory}
 use Rattle.lent.specs.State.{state_fault}
-use Rattle.lent.specs.Calls.{StateEnd, drawn_as, draw_of, train_call_of}
+use Rattle.lent.specs.Calls.{StateEnd, Drawn, drawn_as, draw_of, train_call_of}
 
 -- ---- one evaluation
 
@@ -17,6 +19,11 @@ pub record StepEnd : Type 0 where
 
 abbrev pub step_end : ℕ → MonteCarloRng → Memory → StepEnd
 step_end n s m = record { refused = n; stream = s; state = m }
+
+-- what the code answers of one: the stream afterwards, or a refusal, and the stream is the one before
+abbrev pub step_said : MonteCarloRng → Result MonteCarloRng Refusal → Memory → StepEnd
+step_said s (Ok s') m = step_end 0 s' m
+step_said s (Err r) m = step_end (number_of r) s m
 
 -- a training's end from the stream before the draw and the one after it: refused, it is the one before
 unfoldable pub trained_from : MonteCarloRng → MonteCarloRng → StateEnd → StepEnd
@@ -32,6 +39,16 @@ unfoldable pub step_of : List ℕ → Memory → MonteCarloRng → Float → ℕ
 step_of table m s e number = step_by table m s e number (drawn_as s (draw_of table m.reals m.counts s))
 
 -- ---- the evaluations in order
+
+-- a refusal's number or 0, how many were trained, and the stream afterwards
+pub record Batched : Type 0 where
+  pub refused : ℕ
+  pub done : ℕ
+  pub stream : MonteCarloRng
+
+-- what the struct says
+abbrev pub said : given.Batched → Batched
+said b = record { refused = fault_of b.end; done = b.done; stream = b.stream }
 
 -- the answer, and the two lists afterwards
 pub record BatchEnd : Type 0 where

@@ -9,7 +9,7 @@ use Rattle.model.specs.Draw.{Drawing, draw_grid, draw_nothing}
 use Rattle.model.specs.Probe.{probe_grid}
 use Rattle.model.specs.Grid.{Grid}
 use Rattle.model.specs.Train.{train_of}
-use Rattle.lent.specs.declared.Drawn.{Drawn}
+use Rattle.lent.specs.declared.Drawing as laid
 use Rattle.plan.specs.Paper as plan
 use Rattle.plan.specs.declared.Needs.{Needs}
 use Rattle.plan.specs.Calls.{measure_of, read_plan_of, sizes_of}
@@ -45,7 +45,16 @@ state_end n s = record { answer = n; state = s }
 unfoldable pub draw_of : List ℕ → List Float → List ℕ → MonteCarloRng → Paper Drawing
 draw_of table reals counts s = on_state (state_fault table reals counts) (gives (draw_grid (root_of table reals counts) s))
 
--- the answer as the struct: where it is refused no sample, and the stream as it was
+-- a drawing as the struct
+abbrev pub laid_paper : Paper Drawing → Paper laid.Drawing
+laid_paper (gives d) = gives (laid_drawing d)
+laid_paper (refuses n) = refuses n
+
+-- 0, the sample and the stream after it; or a refusal's number, no sample and the stream as it was
+pub record Drawn : Type 0 where
+  pub refused : ℕ
+  pub drawing : laid.Drawing
+
 unfoldable pub drawn_as : MonteCarloRng → Paper Drawing → Drawn
 drawn_as start (gives d) = record { refused = 0; drawing = laid_drawing d }
 drawn_as start (refuses n) = record { refused = n; drawing = laid_drawing (draw_nothing start) }

@@ -4,7 +4,7 @@ use Rattle.model.specs.Grid.{Grid, Bins, Child, axes, bins, none, more, nothing,
 use Rattle.lent.specs.declared.Sample.{Sample}
 use Rattle.lent.specs.Sampled.{entries}
 use Rattle.lent.specs.Trained.{bins_on}
-use Rattle.lent.specs.Absorbed.{path_left, places_in, Offered, OfferedChild, offered, offered_child}
+use Rattle.lent.specs.Absorbed.{path_left, places_in, Takes, TakesChild}
 
 unfoldable mutual
   pub spots_of : Grid → List ℕ → List Float → List ℕ
@@ -32,21 +32,12 @@ Found spots g s d = Begins spots (spots_of g (path_left s d) (places_in s))
 abbrev pub FoundChild : List ℕ → Child → Sample → ℕ → Type 0
 FoundChild spots c s d = Begins spots (spots_of_child c (path_left s d) (places_in s))
 
--- ---- a grid takes a sample with this path and these weights, and an array begins with its bins
+-- ---- a grid takes a sample, and an array begins with its bins
 
-pub record Held (path : List ℕ) (weights : List Float) (spots : List ℕ) (g : Grid) (d number : ℕ) : Type 0 where
-  pub coordinates : List Float
-  pub offer : Offered path weights coordinates g d number
-  pub found : Found spots g (offered offer) d
+pub record Held (s : Sample) (spots : List ℕ) (g : Grid) (d number : ℕ) : Type 0 where
+  pub takes : Takes g s d number
+  pub found : Found spots g s d
 
-pub record HeldChild (path : List ℕ) (weights : List Float) (spots : List ℕ) (c : Child) (d number : ℕ) : Type 0 where
-  pub coordinates : List Float
-  pub offer : OfferedChild path weights coordinates c d number
-  pub found : FoundChild spots c (offered_child offer) d
-
--- that sample
-abbrev pub held : {path : List ℕ} {weights : List Float} {spots : List ℕ} {g : Grid} {d number : ℕ} → Held path weights spots g d number → Sample
-held h = offered h.offer
-
-abbrev pub held_child : {path : List ℕ} {weights : List Float} {spots : List ℕ} {c : Child} {d number : ℕ} → HeldChild path weights spots c d number → Sample
-held_child h = offered_child h.offer
+pub record HeldChild (s : Sample) (spots : List ℕ) (c : Child) (d number : ℕ) : Type 0 where
+  pub takes : TakesChild c s d number
+  pub found : FoundChild spots c s d

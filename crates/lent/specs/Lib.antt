@@ -24,3 +24,4 @@ pub mod Turns
 pub mod Adapted
 pub mod Calls
 pub mod Batched
+pub mod Lent

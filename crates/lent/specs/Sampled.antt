@@ -17,10 +17,6 @@ unfoldable pub entries : {A : Type 0} → A → List A → ℕ → ℕ → List 
 entries d xs i zero = []
 entries d xs i (suc n) = get_or xs i d ∷ entries d xs (i + 1) n
 
--- a sample whose lists lie apart
-abbrev pub sample_in : List ℕ → ℕ → List Float → ℕ → List Float → ℕ → given.Sample
-sample_in p l w g x n = record { path = p; levels = l; weights = w; given = g; coordinates = x; axes = n }
-
 unfoldable pub sample_of : given.Sample → Sample
 sample_of s =
     record { path = entries 0 s.path 0 s.levels; weights = entries nan s.weights 0 s.given; coordinates = entries nan s.coordinates 0 s.axes }
@@ -35,6 +31,10 @@ ChildLaid l table R C link = link ≢ 0 → Laid l table R C link
 
 unfoldable pub sound_child : Child → Bool
 sound_child c = formed_child c && kept_child c
+
+-- a sample of nothing
+abbrev pub empty : Sample
+empty = record { path = []; weights = []; coordinates = [] }
 
 -- ---- a sample as the struct: what is not given is 0
 
@@ -68,6 +68,16 @@ traced_of d m =
       weight = weight_at m.sample.weights;
       stream = m.stream;
     }
+
+-- a drawn sample written over another: its entries before those that were there, and how many they are
+pub record WrittenOver (s s' : given.Sample) (m : Sample) : Type 0 where
+  pub path : s'.path ≡ sets s.path 0 m.path
+  pub levels : s'.levels ≡ length m.path
+  pub weights : s'.weights ≡ sets s.weights 0 m.weights
+  pub given : s'.given ≡ length m.weights
+  pub coordinates : s'.coordinates ≡ sets s.coordinates 0 m.coordinates
+  pub axes : s'.axes ≡ length m.coordinates
+  pub short : Short 4 m
 
 -- a draw below d levels is this one of the model's: its answer, and its lists written over those that were there
 abbrev pub TracesAxes : ℕ → Drawing → Traced → List Float → List Float → List Float → List Float → Type 0

@@ -6,7 +6,22 @@
 pub mod layout;
 pub mod room;
 
+ghost use Rattle.std.specs.Prelude.{◌≡◌, ◌||◌};
+
+use doubles::Refusal;
+use std::ops::{BitOr, BitOrAssign};
 use stream::MonteCarloRng;
+
+// A grid in lent memory, to be read: its plan's table, its reals and its counts. A call that writes is lent the three one by one: of a struct
+// of `&mut` slices each promise would have to say that they stay where they are and as long as they are, which parameters give for nothing.
+// Public calls take them one by one too, as a caller has them. The table's numbers, a run's kind and its links among them, are its format
+// (docs/DESIGN.md, "Lent memory"), which a plan's reader writes and no heap can stand for.
+#[derive(Clone, Copy)]
+pub struct Lent<'a> {
+    pub table: &'a [u64],
+    pub reals: &'a [f64],
+    pub counts: &'a [u64],
+}
 
 // An axes grid's plan in numbers, and where its axes' reals and counts begin: each axis has room for `most` bins.
 #[derive(Clone, Copy)]
@@ -19,7 +34,7 @@ pub struct AxesAt {
 }
 
 // A sample: a bin for each bins grid on its path, a weight for each of them and for the axes grid at its end, and that grid's
-// coordinates. Of each as many are there as its number says.
+// coordinates. Of each as many are there as its number says: no heap, so an array with its number beside it stands for each list.
 #[derive(Clone, Copy)]
 pub struct Sample {
     pub path: [usize; 4],
@@ -37,7 +52,7 @@ pub struct Drawing {
     pub stream: MonteCarloRng,
 }
 
-// The coordinates of a probe: `many` of them, each given or, where it is free, left open.
+// The coordinates of a probe: `many` of them (no heap), each given or, where it is free, left open.
 #[derive(Clone, Copy)]
 pub struct Coordinates {
     pub at: [f64; 8],
@@ -53,17 +68,11 @@ pub struct Region {
     pub coordinates: Coordinates,
 }
 
-// What a draw answers: 0, the sample and the stream after it; or a refusal's number, no sample and the stream as it was.
-#[derive(Clone, Copy)]
-pub struct Drawn {
-    pub refused: u64,
-    pub drawing: Drawing,
-}
-
-// What a batch answers: 0 or the first refusal's number, how many evaluations were trained, and the stream after their draws.
+// What a batch answers: how it ended, by the first refusal where there was one; how many evaluations were trained; and the stream after
+// their draws.
 #[derive(Clone, Copy)]
 pub struct Batched {
-    pub refused: u64,
+    pub end: Result<(), Refusal>,
     pub done: usize,
     pub stream: MonteCarloRng,
 }
@@ -108,8 +117,42 @@ pub struct Rule {
 }
 
 // Whether some 8 or some 9 was found.
-#[derive(Clone, Copy)]
+#[derive(Clone, Copy, Debug, PartialEq, Eq)]
 pub struct Found {
     pub eight: bool,
     pub nine: bool,
+}
+
+impl Found {
+    pub const NOTHING: Found = Found {
+        eight: false,
+        nine: false,
+    };
+
+    pub const EIGHT: Found = Found {
+        eight: true,
+        nine: false,
+    };
+}
+
+// What was found in either of two.
+impl BitOr for Found {
+    type Output = Found;
+
+    ghost bitor_gives = { λ a b r. (r.eight ≡ (a.eight || b.eight)) × (r.nine ≡ (a.nine || b.nine)) };
+
+    fn bitor(self, other: Found) -> Found {
+        Found {
+            eight: self.eight | other.eight,
+            nine: self.nine | other.nine,
+        }
+    }
+}
+
+impl BitOrAssign for Found {
+    ghost bitor_assign_gives = { λ a b r. (r.eight ≡ (a.eight || b.eight)) × (r.nine ≡ (a.nine || b.nine)) };
+
+    fn bitor_assign(&mut self, other: Found) {
+        *self = *self | other;
+    }
 }

@@ -2,12 +2,17 @@
 ghost use Rattle.std.specs.Prelude.{◌≡◌, ◌+◌, ◌≤◌, length};
 ghost use Rattle.std.specs.Float.{binary64};
 ghost use Rattle.std.specs.Float.Ieee.{add};
-ghost use Rattle.recut.specs.Pairs.{pairwise};
-ghost use Rattle.recut.specs.Gather.{joined_count};
 ghost use Rattle.lent.specs.Merged.{higher_of, lower_of, join_at};
 
+// Both together.
+pub fn sum(a: f64, b: f64) -> f64
+    ensures { result ≡ add binary64 a b }
+{
+    a + b
+}
+
 // The second where it is above the first, else the first.
-fn higher(a: f64, b: f64) -> f64
+pub fn higher(a: f64, b: f64) -> f64
     ensures { result ≡ higher_of a b }
 {
     if a < b {
@@ -17,7 +22,7 @@ fn higher(a: f64, b: f64) -> f64
 }
 
 // The second where it is below the first, else the first.
-fn lower(a: f64, b: f64) -> f64
+pub fn lower(a: f64, b: f64) -> f64
     ensures { result ≡ lower_of a b }
 {
     if b < a {
@@ -26,64 +31,20 @@ fn lower(a: f64, b: f64) -> f64
     a
 }
 
-// Each entry the higher of the two, over the shorter length.
-fn raise(column: &mut [f64], theirs: &[f64])
-    ensures { column.new ≡ pairwise higher_of column.old theirs.now }
+// The n entries from a place on, each made what f answers of it and the other's.
+pub fn join<T: Copy, F: Fn(T, T) -> T>(
+    entries: &mut [T],
+    start: usize,
+    theirs: &[T],
+    from: usize,
+    n: usize,
+    f: F,
+)
+    requires { (start + n ≤ length entries.old) × (from + n ≤ length theirs.now) × F.IsAlwaysCallable f }
+    ensures { (g : T → T → T) → ((x y z : T) → F.post f x y z → z ≡ g x y) → entries.new ≡ join_at g start from n theirs.now entries.old }
 {
-    let mut i = 0;
-    while i < column.len() && i < theirs.len() {
-        column[i] = higher(column[i], theirs[i]);
-        i += 1;
+    let others = &theirs[from..from + n];
+    for (i, entry) in entries[start..start + n].iter_mut().enumerate() {
+        *entry = f(*entry, others[i]);
     }
-}
-
-// Each entry the lower of the two, over the shorter length.
-fn sink(column: &mut [f64], theirs: &[f64])
-    ensures { column.new ≡ pairwise lower_of column.old theirs.now }
-{
-    let mut i = 0;
-    while i < column.len() && i < theirs.len() {
-        column[i] = lower(column[i], theirs[i]);
-        i += 1;
-    }
-}
-
-// The n reals from a place on with the other's added.
-pub fn add_reals(reals: &mut [f64], start: usize, theirs: &[f64], from: usize, n: usize)
-    requires { (start + n ≤ length reals.old) × (from + n ≤ length theirs.now) }
-    ensures { reals.new ≡ join_at (add binary64) start from n theirs.now reals.old }
-{
-    let end = start + n;
-    let last = from + n;
-    recut::gather(&mut reals[start..end], &theirs[from..last]);
-}
-
-// The n counts from a place on with the other's added.
-pub fn add_counts(counts: &mut [u64], start: usize, theirs: &[u64], from: usize, n: usize)
-    requires { (start + n ≤ length counts.old) × (from + n ≤ length theirs.now) }
-    ensures { counts.new ≡ join_at joined_count start from n theirs.now counts.old }
-{
-    let end = start + n;
-    let last = from + n;
-    recut::gather_counts(&mut counts[start..end], &theirs[from..last]);
-}
-
-// The n reals from a place on, or the other's where it is higher.
-pub fn raise_reals(reals: &mut [f64], start: usize, theirs: &[f64], from: usize, n: usize)
-    requires { (start + n ≤ length reals.old) × (from + n ≤ length theirs.now) }
-    ensures { reals.new ≡ join_at higher_of start from n theirs.now reals.old }
-{
-    let end = start + n;
-    let last = from + n;
-    raise(&mut reals[start..end], &theirs[from..last]);
-}
-
-// The n reals from a place on, or the other's where it is lower.
-pub fn sink_reals(reals: &mut [f64], start: usize, theirs: &[f64], from: usize, n: usize)
-    requires { (start + n ≤ length reals.old) × (from + n ≤ length theirs.now) }
-    ensures { reals.new ≡ join_at lower_of start from n theirs.now reals.old }
-{
-    let end = start + n;
-    let last = from + n;
-    sink(&mut reals[start..end], &theirs[from..last]);
 }

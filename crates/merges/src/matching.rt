@@ -1,6 +1,7 @@
 // Whether two trees may be merged: what stands against it, 4, 11 or 8, each over both trees before the next.
 ghost use Rattle.std.specs.Prelude.{◌≡◌, true, ◌+◌, ◌-◌, ◌≤◌, ◌<◌, length, get_or};
 ghost use Rattle.std.specs.Float.Ieee.{eq};
+ghost use Rattle.doubles.specs.Refusal.{fault_of};
 ghost use Rattle.accumulator.specs.Record.{well_formed};
 ghost use Rattle.accumulator.specs.Steps.{merged_of};
 ghost use Rattle.model.specs.Grid.{axes, bins};
@@ -12,43 +13,40 @@ ghost use Rattle.lent.specs.Sampled.{ChildLaid, sound_child};
 ghost use Rattle.lent.specs.Matched.{obstacle, worse_of, grid_obstacle, child_obstacle, bin_obstacle, BinRoom};
 
 use crate::{bins, merging};
-use accumulator::Changed;
+use doubles::Refusal;
 use ground::accounts;
 use lent::layout;
 
 // Of two findings the one that comes first: 4, 11, 8.
-fn worse(a: u64, b: u64) -> u64
-    ensures { result ≡ worse_of a b }
+fn worse(a: Result<(), Refusal>, b: Result<(), Refusal>) -> Result<(), Refusal>
+    ensures { fault_of result ≡ worse_of (fault_of a) (fault_of b) }
 {
-    if a == 4 {
-        return 4;
+    let form = Err(Refusal::Form);
+    if a == form || b == form {
+        return form;
     }
-    if b == 4 {
-        return 4;
+    let unequal = Err(Refusal::Unequal);
+    if a == unequal || b == unequal {
+        return unequal;
     }
-    if a == 11 {
-        return 11;
-    }
-    if b == 11 {
-        return 11;
-    }
-    if a == 8 {
-        return 8;
+    let overflow = Err(Refusal::Overflow);
+    if a == overflow {
+        return overflow;
     }
     b
 }
 
 // What is found of two of the same shape: 11 where their numbers differ, 8 where what they make would not be kept.
-fn found_of(equal: bool, fits: bool) -> u64
-    ensures { result ≡ obstacle true equal fits }
+fn found_of(equal: bool, fits: bool) -> Result<(), Refusal>
+    ensures { fault_of result ≡ obstacle true equal fits }
 {
     if !equal {
-        return 11;
+        return Err(Refusal::Unequal);
     }
     if !fits {
-        return 8;
+        return Err(Refusal::Overflow);
     }
-    0
+    Ok(())
 }
 
 // Whether the record at r and c may be kept with the waiting samples of the other at q and d, both being well formed.
@@ -68,10 +66,7 @@ fn account_fits(
 {
     let mine = accounts::load(reals, counts, r, c);
     let joining = accounts::load(theirs, tallies, q, d);
-    match mine.merge_samples_no_reset(joining) {
-        Changed::Record(_) => true,
-        Changed::Refused(_) => false,
-    }
+    mine.merge_samples_no_reset(joining).is_ok()
 }
 
 // Two axes grids: the bins of each axis, floors and edges, then their accumulators and the axes' bins.
@@ -84,34 +79,34 @@ fn axes_obstacle(
     theirs: &[f64],
     tallies: &[u64],
     v: usize,
-) -> u64
+) -> Result<(), Refusal>
     requires { AxesLaid table.now (length reals.now) (length counts.now) w × AxesLaid other.now (length theirs.now) (length tallies.now) v
         × (sound (axes (axes_grid_at table.now reals.now counts.now w)) ≡ true) × (sound (axes (axes_grid_at other.now theirs.now tallies.now v)) ≡ true) }
-    ensures { result ≡ grid_obstacle (axes (axes_grid_at table.now reals.now counts.now w)) (axes (axes_grid_at other.now theirs.now tallies.now v)) }
+    ensures { fault_of result ≡ grid_obstacle (axes (axes_grid_at table.now reals.now counts.now w)) (axes (axes_grid_at other.now theirs.now tallies.now v)) }
 {
     let g = layout::axes_place(table, w);
     let o = layout::axes_place(other, v);
     if !merging::same_lengths(reals, counts, g, theirs, tallies, o) {
-        return 4;
+        return Err(Refusal::Form);
     }
     let same_floor = g.floor == o.floor;
     if !same_floor {
-        return 11;
+        return Err(Refusal::Unequal);
     }
     if !merging::equal_edges(reals, counts, g, theirs, tallies, o) {
-        return 11;
+        return Err(Refusal::Unequal);
     }
     let r = table[w + 9] as usize;
     let c = table[w + 10] as usize;
     let q = other[v + 9] as usize;
     let d = other[v + 10] as usize;
     if !account_fits(reals, counts, r, c, theirs, tallies, q, d) {
-        return 8;
+        return Err(Refusal::Overflow);
     }
     if !merging::merged_fit(reals, counts, g, theirs, tallies, o) {
-        return 8;
+        return Err(Refusal::Overflow);
     }
-    0
+    Ok(())
 }
 
 // Two bins' own: their probabilities, then their accumulators.
@@ -125,10 +120,10 @@ fn bin_own_obstacle(
     tallies: &[u64],
     v: usize,
     i: usize,
-) -> u64
+) -> Result<(), Refusal>
     requires { BinRoom table.now (length reals.now) (length counts.now) w i × BinRoom other.now (length theirs.now) (length tallies.now) v i
         × (well_formed (bin_in table.now reals.now counts.now w i).own ≡ true) × (well_formed (bin_in other.now theirs.now tallies.now v i).own ≡ true) }
-    ensures { result ≡ obstacle true
+    ensures { fault_of result ≡ obstacle true
         (eq (bin_in table.now reals.now counts.now w i).probability (bin_in other.now theirs.now tallies.now v i).probability)
         (well_formed (merged_of (bin_in table.now reals.now counts.now w i).own (bin_in other.now theirs.now tallies.now v i).own)) }
 {
@@ -156,13 +151,13 @@ fn bin_obstacle(
     tallies: &[u64],
     v: usize,
     i: usize,
-) -> u64
+) -> Result<(), Refusal>
     requires { BinsLaid (Laid level table.now (length reals.now) (length counts.now)) table.now (length reals.now) (length counts.now) w
         × BinsLaid (Laid level other.now (length theirs.now) (length tallies.now)) other.now (length theirs.now) (length tallies.now) v
         × (i < get_or table.now (w + 2) 0) × (i < get_or other.now (v + 2) 0)
         × (sound_bin (bin_in table.now reals.now counts.now w i) (child_in (grid_at level table.now reals.now counts.now) (get_or table.now (w + 7 + i) 0)) ≡ true)
         × (sound_bin (bin_in other.now theirs.now tallies.now v i) (child_in (grid_at level other.now theirs.now tallies.now) (get_or other.now (v + 7 + i) 0)) ≡ true) }
-    ensures { result ≡ bin_obstacle (bin_in table.now reals.now counts.now w i)
+    ensures { fault_of result ≡ bin_obstacle (bin_in table.now reals.now counts.now w i)
         (child_in (grid_at level table.now reals.now counts.now) (get_or table.now (w + 7 + i) 0))
         (bin_in other.now theirs.now tallies.now v i)
         (child_in (grid_at level other.now theirs.now tallies.now) (get_or other.now (v + 7 + i) 0)) }
@@ -188,20 +183,20 @@ fn child_obstacle(
     theirs: &[f64],
     tallies: &[u64],
     far: usize,
-) -> u64
+) -> Result<(), Refusal>
     requires { ChildLaid level table.now (length reals.now) (length counts.now) link × ChildLaid level other.now (length theirs.now) (length tallies.now) far
         × (sound_child (child_in (grid_at level table.now reals.now counts.now) link) ≡ true) × (sound_child (child_in (grid_at level other.now theirs.now tallies.now) far) ≡ true) }
-    ensures { result ≡ child_obstacle (child_in (grid_at level table.now reals.now counts.now) link)
+    ensures { fault_of result ≡ child_obstacle (child_in (grid_at level table.now reals.now counts.now) link)
         (child_in (grid_at level other.now theirs.now tallies.now) far) }
 {
     if link == 0 {
         if far == 0 {
-            return 0;
+            return Ok(());
         }
-        return 4;
+        return Err(Refusal::Form);
     }
     if far == 0 {
-        return 4;
+        return Err(Refusal::Form);
     }
     grid_obstacle(
         table, reals, counts, level, link, other, theirs, tallies, far,
@@ -220,19 +215,19 @@ fn bins_obstacle(
     theirs: &[f64],
     tallies: &[u64],
     v: usize,
-) -> u64
+) -> Result<(), Refusal>
     requires { BinsLaid (Laid level table.now (length reals.now) (length counts.now)) table.now (length reals.now) (length counts.now) w
         × BinsLaid (Laid level other.now (length theirs.now) (length tallies.now)) other.now (length theirs.now) (length tallies.now) v
         × (sound (bins (head_at table.now reals.now counts.now w) (bins_in (grid_at level table.now reals.now counts.now) table.now reals.now counts.now w 0 (get_or table.now (w + 2) 0))) ≡ true)
         × (sound (bins (head_at other.now theirs.now tallies.now v) (bins_in (grid_at level other.now theirs.now tallies.now) other.now theirs.now tallies.now v 0 (get_or other.now (v + 2) 0))) ≡ true) }
-    ensures { result ≡ grid_obstacle
+    ensures { fault_of result ≡ grid_obstacle
         (bins (head_at table.now reals.now counts.now w) (bins_in (grid_at level table.now reals.now counts.now) table.now reals.now counts.now w 0 (get_or table.now (w + 2) 0)))
         (bins (head_at other.now theirs.now tallies.now v) (bins_in (grid_at level other.now theirs.now tallies.now) other.now theirs.now tallies.now v 0 (get_or other.now (v + 2) 0))) }
 {
     let n = table[w + 2] as usize;
     let many = other[v + 2] as usize;
     if n != many {
-        return 4;
+        return Err(Refusal::Form);
     }
     let r = table[w + 5] as usize;
     let c = table[w + 6] as usize;
@@ -240,16 +235,14 @@ fn bins_obstacle(
     let d = other[v + 6] as usize;
     let fits = account_fits(reals, counts, r, c, theirs, tallies, q, d);
     let mut found = found_of(true, fits);
-    let mut i = 0;
-    while i < n {
+    for i in 0..n {
         let here = bin_obstacle(table, reals, counts, level, w, other, theirs, tallies, v, i);
         found = worse(found, here);
-        i += 1;
     }
     found
 }
 
-// The grids whose runs begin at words w and v: 0, or what stands first against a merge of all that they hold.
+// The grids whose runs begin at words w and v: what stands first against a merge of all that they hold.
 #[cycle(bin_obstacle_bins_obstacle_child_obstacle_grid_obstacle)]
 pub fn grid_obstacle(
     table: &[u64],
@@ -261,19 +254,19 @@ pub fn grid_obstacle(
     theirs: &[f64],
     tallies: &[u64],
     v: usize,
-) -> u64
+) -> Result<(), Refusal>
     requires { Laid level table.now (length reals.now) (length counts.now) w × Laid level other.now (length theirs.now) (length tallies.now) v
         × (sound (grid_at level table.now reals.now counts.now w) ≡ true) × (sound (grid_at level other.now theirs.now tallies.now v) ≡ true) }
-    ensures { result ≡ grid_obstacle (grid_at level table.now reals.now counts.now w) (grid_at level other.now theirs.now tallies.now v) }
+    ensures { fault_of result ≡ grid_obstacle (grid_at level table.now reals.now counts.now w) (grid_at level other.now theirs.now tallies.now v) }
 {
     if table[w] == 1 {
         if other[v] == 1 {
             return axes_obstacle(table, reals, counts, w, other, theirs, tallies, v);
         }
-        return 4;
+        return Err(Refusal::Form);
     }
     if other[v] == 1 {
-        return 4;
+        return Err(Refusal::Form);
     }
     bins_obstacle(
         table,

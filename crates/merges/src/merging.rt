@@ -1,4 +1,6 @@
 // Merging the axes of a grid with those of another in another memory: whether the two fit together, and the merge itself.
+//
+// The loops over axes stay `while`: the axes left are counted in `left`, and a range beside it would count them twice.
 ghost use Rattle.std.specs.Prelude.{◌≡◌, true, ◌+◌, ◌≤◌, length, get_or};
 ghost use Rattle.doubles.specs.Total.{all_finite};
 ghost use Rattle.axis.specs.Scans.{all_bounded};
@@ -11,8 +13,10 @@ ghost use Rattle.lent.specs.Laid.{Roomy};
 ghost use Rattle.lent.specs.Merged.{merged_reals, merged_counts, merge_at, merged_memory, Spaced};
 ghost use Rattle.lent.specs.Drawn.{axes_at, Stands};
 
-use crate::{joining, onward};
+use crate::joining::{higher, join, lower, sum};
+use crate::onward;
 use lent::AxesAt;
+use recut::joined_count;
 
 // Whether both have as many axes, and each axis as many bins now held as the other's.
 pub fn same_lengths(
@@ -48,10 +52,8 @@ fn are_equal(reals: &[f64], start: usize, theirs: &[f64], from: usize, n: usize)
     ensures { result ≡ equal_all (stretch start n reals.now) (stretch from n theirs.now) }
 {
     let mut ok = true;
-    let mut k = 0;
-    while k < n {
+    for k in 0..n {
         ok = ok & (reals[start + k] == theirs[from + k]);
-        k += 1;
     }
     ok
 }
@@ -62,25 +64,22 @@ fn are_finite_with(reals: &[f64], start: usize, theirs: &[f64], from: usize, n: 
     ensures { result ≡ all_finite (gathered_of (stretch start n reals.now) (stretch from n theirs.now)) }
 {
     let mut ok = true;
-    let mut k = 0;
-    while k < n {
+    for k in 0..n {
         ok = ok & plain::finite(reals[start + k] + theirs[from + k]);
-        k += 1;
     }
     ok
 }
 
 // Whether n counts with the other's are at most 2^53, where each of them is.
+// No twin of the test before: it adds only what is within its bound, which a test of any entries could not ask.
 fn are_bounded_with(counts: &[u64], start: usize, theirs: &[u64], from: usize, n: usize) -> bool
     requires { (start + n ≤ length counts.now) × (from + n ≤ length theirs.now)
         × (all_bounded (stretch start n counts.now) ≡ true) × (all_bounded (stretch from n theirs.now) ≡ true) }
     ensures { result ≡ all_bounded (joined_counts (stretch start n counts.now) (stretch from n theirs.now)) }
 {
     let mut ok = true;
-    let mut k = 0;
-    while k < n {
+    for k in 0..n {
         ok = ok & (counts[start + k] + theirs[from + k] <= 9007199254740992);
-        k += 1;
     }
     ok
 }
@@ -177,10 +176,10 @@ fn merge_reals(reals: &mut [f64], g: AxesAt, theirs: &[f64], o: AxesAt, n: usize
     let k = o.most;
     let r = g.reals;
     let q = o.reals;
-    joining::add_reals(reals, r + (2 * m + 1), theirs, q + (2 * k + 1), n);
-    joining::add_reals(reals, r + (3 * m + 1), theirs, q + (3 * k + 1), n);
-    joining::raise_reals(reals, r + (4 * m + 1), theirs, q + (4 * k + 1), n);
-    joining::sink_reals(reals, r + (5 * m + 1), theirs, q + (5 * k + 1), n);
+    join(reals, r + (2 * m + 1), theirs, q + (2 * k + 1), n, sum);
+    join(reals, r + (3 * m + 1), theirs, q + (3 * k + 1), n, sum);
+    join(reals, r + (4 * m + 1), theirs, q + (4 * k + 1), n, higher);
+    join(reals, r + (5 * m + 1), theirs, q + (5 * k + 1), n, lower);
 }
 
 // The n bins of the first axis take the other's waiting samples and zeros; counters and re-cuts stay.
@@ -193,8 +192,8 @@ fn merge_counts(counts: &mut [u64], g: AxesAt, tallies: &[u64], o: AxesAt, n: us
     let k = o.most;
     let c = g.counts;
     let d = o.counts;
-    joining::add_counts(counts, c + 2, tallies, d + 2, n);
-    joining::add_counts(counts, c + (m + 2), tallies, d + (k + 2), n);
+    join(counts, c + 2, tallies, d + 2, n, joined_count);
+    join(counts, c + (m + 2), tallies, d + (k + 2), n, joined_count);
 }
 
 // The first axis takes the other's waiting samples. Bins held are within both rooms on a well-formed state; else it stays.

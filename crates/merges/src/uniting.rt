@@ -6,7 +6,6 @@ ghost use Rattle.lent.specs.Sampled.{ChildLaid};
 ghost use Rattle.lent.specs.United.{joined_record, united_axes, united_own, united_child, united_children, united_grid, OwnRoom};
 
 use crate::{bins, merging};
-use accumulator::Changed;
 use ground::accounts;
 use lent::layout;
 
@@ -27,9 +26,8 @@ fn join_account(
 {
     let mine = accounts::load(reals, counts, r, c);
     let joining = accounts::load(theirs, tallies, q, d);
-    match mine.merge_samples_no_reset(joining) {
-        Changed::Record(after) => accounts::store(reals, counts, r, c, after),
-        Changed::Refused(_) => return,
+    if let Ok(after) = mine.merge_samples_no_reset(joining) {
+        accounts::store(reals, counts, r, c, after);
     }
 }
 
@@ -83,14 +81,12 @@ fn merge_own(
     let q = other[v + 5] as usize;
     let d = other[v + 6] as usize;
     join_account(reals, counts, r, c, theirs, tallies, q, d);
-    let mut i = 0;
-    while i < n {
+    for i in 0..n {
         let b = bins::bin_place(table, w, i);
         let o = bins::bin_place(other, v, i);
         join_account(
             reals, counts, b.reals, b.counts, theirs, tallies, o.reals, o.counts,
         );
-        i += 1;
     }
 }
 
@@ -144,14 +140,12 @@ fn merge_children(
         (united_grid table.now other.now (memory theirs.now tallies.now) level) w v 0 (get_or table.now (w + 2) 0) (memory reals.old counts.old) }
 {
     let n = table[w + 2] as usize;
-    let mut i = 0;
-    while i < n {
+    for i in 0..n {
         let link = table[w + 7 + i] as usize;
         let far = other[v + 7 + i] as usize;
         merge_child(
             table, reals, counts, level, link, other, theirs, tallies, far,
         );
-        i += 1;
     }
 }
 

@@ -9,7 +9,7 @@ use borrow.Author.Tests.{ne_eqb}
 use Rattle.plan.specs.declared.Place.{Place}
 use Rattle.plan.specs.declared.AxesPlan.{AxesPlan}
 use Rattle.plan.specs.declared.BinsPlan.{BinsPlan}
-use Rattle.plan.specs.declared.Step.TheVariants as step
+use Rattle.plan.specs.Judged.{Found}
 use Rattle.plan.specs.Numbers.{number_at, bytes_of, run_of, values_at}
 use Rattle.plan.specs.Plan.{Tree, Trees, nothing, axes, bins, none, more, count}
 use Rattle.plan.specs.Needs.{bins_taken, after, after_all}
@@ -200,7 +200,7 @@ module _ (bs : List ℕ) (small : Bytes bs) where
 pub sound-inside : {bs : List ℕ} {l : ℕ} {p : Place} {t : Tree} {q : Place} → Inside bs p → Sound bs l p t q → Inside bs q
 sound-inside {bs} {l} {p} {t} i s = record { small = i.small; reach = s.reach i.reach; roomy = rw s.end (roomy_after l t p.tally s.plan i.roomy) }
 
-pub step-inside : (bs : List ℕ) (l : ℕ) (p q : Place) → Inside bs p → step.Done q ≡ step_of (tree_of (from_bytes bs) l p) → Inside bs q
+pub step-inside : (bs : List ℕ) (l : ℕ) (p q : Place) → Inside bs p → Found q ≡ step_of (tree_of (from_bytes bs) l p) → Inside bs q
 step-inside bs l p q i e =
     let s = some (tree_of (from_bytes bs) l p) q e in
     sound-inside i (sound bs i.small l p s.tree q s.read)

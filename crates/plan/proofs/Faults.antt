@@ -1,6 +1,6 @@
 -- What a field without fault shows of its numbers, and that it can then be taken.
-use mathlib.Core.Path.{◌≡◌, refl}
-use mathlib.Core.Bool.{Bool, true, false, not}
+use mathlib.Core.Path.{◌≡◌, refl, sym, ◌∙◌}
+use mathlib.Core.Bool.{Bool, true, false, not, cond}
 use mathlib.Core.List.{List}
 use Prim.Native.Nat.{ℕ, ◌+◌, ◌*◌, ◌/◌, ◌%◌, ◌≤◌, ◌<◌}
 use native.Mathlib.Nat.{mul-le-mul}
@@ -8,9 +8,16 @@ use native.Mathlib.Omega.{arith}
 use lib.Dec.{leb, eqb}
 use lib.ListN.{length, get_or}
 use borrow.Author.Tests.{not-false, leb-true, eqb-true, eqb-false, ne_eqb}
+use Rattle.std.specs.Prelude.{Option, None, Some, Result, Ok, Err}
+use Rattle.std.specs.Result.{MatchResult, IsErrAnd, result_ok}
+use Rattle.doubles.specs.Refusal.{number_of, fault_of}
+use Rattle.doubles.specs.declared.refusal.Refusal.{Refusal}
+use Rattle.plan.specs.declared.Misread.{Misread}
 use Rattle.plan.specs.declared.Tally.{Tally}
 use Rattle.plan.specs.declared.AxesPlan.{AxesPlan}
 use Rattle.plan.specs.declared.BinsPlan.{BinsPlan}
+use Rattle.doubles.proofs.Refusals.{number-above}
+use Rattle.plan.specs.Judged.{Judged, Stop}
 use Rattle.plan.specs.Numbers.{number_at, run_of, values_at}
 use Rattle.plan.specs.Ranges.{within, floor_fits, ratio_fits, bounded}
 use Rattle.plan.specs.Fields.{values_in, evolution_fault, span_of, axes_fault, bins_fault}
@@ -136,3 +143,29 @@ pub bins-fit : {y : Tally} → Roomy y → (b : BinsPlan) (l : ℕ) → bins_fau
 bins-fit {y} r b l e =
     let o = bins-free b y.left l e in
     record { some = o.some; room = r; bins = at_most 1 256 b.bins o.bins }
+
+-- 4. A fault and where it stands ----------------------------------------------------------------------
+
+above : (r : Refusal) → eqb (number_of r) 0 ≡ false
+above r = ne_eqb (number_of r) 0 (λ z. absurd (omega (arith, z, number-above r)))
+
+-- `map_err` gives a fault its offset, and leaves what has none
+pub faulted : (P : Refusal → Misread → Type 0) (r : Result (Unit {0}) Refusal) {q : Result (Unit {0}) Misread} (at : ℕ) {m : Misread}
+    → MatchResult r (λ x. q ≡ Ok x) (λ e. IsErrAnd q (P e)) → q ≡ Err m → ((e : Refusal) → P e m → m ≡ record { why = e; at = at }) → {A : Type 0} (x : Judged A)
+    → Stop (number_of m.why) m.at ≡ cond (not (eqb (fault_of r) 0)) (Stop (fault_of r) at) x
+faulted P (Ok y) at h e f x = absurd (let k : ◌≡◌ {A = Result (Unit {0}) Misread} (Ok y) (Err _) = sym h ∙ e in cc)
+faulted P (Err w) at h e f x = rw (f w (rw e at h), above w)
+
+pub faultless : (P : Refusal → Misread → Type 0) (r : Result (Unit {0}) Refusal) {q : Result (Unit {0}) Misread} {u : Unit {0}}
+    → MatchResult r (λ x. q ≡ Ok x) (λ e. IsErrAnd q (P e)) → q ≡ Ok u → fault_of r ≡ 0
+faultless P (Ok x) h e = refl
+faultless P (Err w) h e = absurd (rw e at h)
+
+-- `ok` is nothing where a fault stands
+pub some-fault : (r : Result (Unit {0}) Refusal) → None ≡ result_ok r → eqb (fault_of r) 0 ≡ false
+some-fault (Ok x) e = absurd (let k : ◌≡◌ {A = Option (Unit {0})} None (Some x) = e in cc)
+some-fault (Err w) e = above w
+
+pub no-fault : (r : Result (Unit {0}) Refusal) {u : Unit {0}} → Some u ≡ result_ok r → fault_of r ≡ 0
+no-fault (Ok x) e = refl
+no-fault (Err w) {u} e = absurd (let k : ◌≡◌ {A = Option (Unit {0})} (Some u) None = e in cc)

@@ -14,8 +14,7 @@ use Rattle.plan.specs.declared.BinsPlan.{BinsPlan}
 use Rattle.plan.specs.declared.BinPlan.{BinPlan}
 use Rattle.plan.specs.declared.Child.{Child}
 use Rattle.plan.specs.declared.Child.TheVariants as child
-use Rattle.plan.specs.declared.Field.{Field}
-use Rattle.plan.specs.declared.Field.TheVariants as field
+use Rattle.plan.specs.Judged.{Field, Stop, Found}
 use Rattle.plan.specs.Numbers.{number_at, values_at}
 use Rattle.plan.specs.Ranges.{bounded, most_of}
 use Rattle.plan.specs.Fields.{formed, span_of, evolution_fault, axes_at, bins_at, axes_fault, bins_fault, axes_field, bins_field, nothing_field, field_of}
@@ -28,11 +27,11 @@ use Rattle.plan.proofs.Trees.{roomy-axes, roomy-bins}
 
 -- a field that was found
 abbrev pub found : Child → ℕ → Tally → Field
-found x at y = field.Found (record { child = x; past = record { at = at; tally = y } })
+found x at y = Found (record { child = x; past = record { at = at; tally = y } })
 
 -- a bin's record, with what it holds
-pub as-found : {F : Field} {x : BinPlan} {k : Child} → field.Found x ≡ F → x.child ≡ k → F ≡ field.Found (record { child = k; past = x.past })
-as-found {F} {x} e h = sym e ∙ ap (λ (c : Child). field.Found (record { child = c; past = x.past })) h
+pub as-found : {F : Field} {x : BinPlan} {k : Child} → Found x ≡ F → x.child ≡ k → F ≡ Found (record { child = k; past = x.past })
+as-found {F} {x} e h = sym e ∙ ap (λ (c : Child). Found (record { child = c; past = x.past })) h
 
 pub record NothingHere (bs : List ℕ) (p : Place) : Type 0 where
   pub tag : get_or bs p.at 0 ≡ 4
@@ -50,7 +49,7 @@ pub record BinsHere (bs : List ℕ) (l : ℕ) (p : Place) : Type 0 where
 
 -- every field is one of these
 pub data Here (bs : List ℕ) (l : ℕ) (p : Place) : Field → Type 0 where
-  stop : (n at : ℕ) → Here bs l p (field.Stop n at)
+  stop : (n at : ℕ) → Here bs l p (Stop n at)
   nothing : NothingHere bs p → Here bs l p (found child.Nothing (p.at + 3) p.tally)
   axes : get_or bs p.at 0 ≡ 1 → AxesHere bs p → Here bs l p (found (child.Axes (axes_at bs p.at)) (p.at + span_of (axes_at bs p.at).values) (axes_taken (axes_at bs p.at) p.tally))
   bins : BinsHere bs l p → Here bs l p (found (child.Bins (bins_at bs p.at)) (p.at + 14) (bins_taken (bins_at bs p.at) p.tally))
@@ -97,12 +96,12 @@ length-here bs at n e = eqb-true _ n (and_left (eqb (number_at bs (at + 1) 2) n)
 
 -- what a field that was found shows
 abbrev pub hangs : Field → Child
-hangs (field.Stop n at) = child.Nothing
-hangs (field.Found x) = x.child
+hangs (Stop n at) = child.Nothing
+hangs (Found x) = x.child
 
 abbrev pub past : Place → Field → Place
-past p (field.Stop n at) = p
-past p (field.Found x) = x.past
+past p (Stop n at) = p
+past p (Found x) = x.past
 
 pub record BinsFound (bs : List ℕ) (l : ℕ) (p : Place) (b : BinsPlan) (q : Place) : Type 0 where
   pub at : BinsHere bs l p
@@ -119,7 +118,7 @@ pub record NothingFound (bs : List ℕ) (p : Place) (q : Place) : Type 0 where
   pub at : NothingHere bs p
   pub past : q ≡ record { at = p.at + 3; tally = p.tally }
 
-pub stop-found : {P : Type 0} {n at : ℕ} {x : BinPlan} → field.Stop n at ≡ field.Found x → P
+pub stop-found : {P : Type 0} {n at : ℕ} {x : BinPlan} → Stop n at ≡ Found x → P
 stop-found e = let z : ◌≡◌ {A = ℕ} 0 1 = cc in absurd (omega arith)
 
 pub other-child : {P : Type 0} (x : Child) (b : BinsPlan) → x ≡ child.Bins b → (x ≡ child.Nothing → P) × ((a : AxesPlan) → x ≡ child.Axes a → P)
@@ -130,32 +129,32 @@ pub axes-nothing : {P : Type 0} (a : AxesPlan) → child.Axes a ≡ child.Nothin
 axes-nothing a e = let z : ◌≡◌ {A = ℕ} 0 1 = cc in absurd (omega arith)
 
 module _ {bs : List ℕ} {l : ℕ} {p : Place} where
-  bins-of : {F : Field} (b : BinsPlan) (q : Place) → Here bs l p F → F ≡ field.Found (record { child = child.Bins b; past = q }) → BinsFound bs l p b q
+  bins-of : {F : Field} (b : BinsPlan) (q : Place) → Here bs l p F → F ≡ Found (record { child = child.Bins b; past = q }) → BinsFound bs l p b q
   bins-of b q (stop n at) e = stop-found e
   bins-of b q (nothing h) e = (other-child child.Nothing b (ap hangs e)).0 refl
   bins-of b q (axes t h) e = (other-child _ b (ap hangs e)).1 _ refl
   bins-of b q (bins h) e = let n : child.Bins (bins_at bs p.at) ≡ child.Bins b = ap hangs e in record { at = h; numbers = cc; past = sym (ap (past p) e) }
 
-  axes-of : {F : Field} (a : AxesPlan) (q : Place) → Here bs l p F → F ≡ field.Found (record { child = child.Axes a; past = q }) → AxesFound bs p a q
+  axes-of : {F : Field} (a : AxesPlan) (q : Place) → Here bs l p F → F ≡ Found (record { child = child.Axes a; past = q }) → AxesFound bs p a q
   axes-of a q (stop n at) e = stop-found e
   axes-of a q (nothing h) e = axes-nothing a (sym (ap hangs e))
   axes-of a q (axes t h) e = let n : child.Axes (axes_at bs p.at) ≡ child.Axes a = ap hangs e in record { tag = t; at = h; numbers = cc; past = sym (ap (past p) e) }
   axes-of a q (bins h) e = (other-child _ (bins_at bs p.at) refl).1 a (ap hangs e)
 
-  nothing-of : {F : Field} (q : Place) → Here bs l p F → F ≡ field.Found (record { child = child.Nothing; past = q }) → NothingFound bs p q
+  nothing-of : {F : Field} (q : Place) → Here bs l p F → F ≡ Found (record { child = child.Nothing; past = q }) → NothingFound bs p q
   nothing-of q (stop n at) e = stop-found e
   nothing-of q (nothing h) e = record { at = h; past = sym (ap (past p) e) }
   nothing-of q (axes t h) e = axes-nothing _ (ap hangs e)
   nothing-of q (bins h) e = (other-child _ (bins_at bs p.at) refl).0 (ap hangs e)
 
 module _ (bs : List ℕ) (l : ℕ) (p : Place) where
-  pub bins-found : (b : BinsPlan) (q : Place) → field_of bs l p ≡ field.Found (record { child = child.Bins b; past = q }) → BinsFound bs l p b q
+  pub bins-found : (b : BinsPlan) (q : Place) → field_of bs l p ≡ Found (record { child = child.Bins b; past = q }) → BinsFound bs l p b q
   bins-found b q e = bins-of b q (here bs l p) e
 
-  pub axes-found : (a : AxesPlan) (q : Place) → field_of bs l p ≡ field.Found (record { child = child.Axes a; past = q }) → AxesFound bs p a q
+  pub axes-found : (a : AxesPlan) (q : Place) → field_of bs l p ≡ Found (record { child = child.Axes a; past = q }) → AxesFound bs p a q
   axes-found a q e = axes-of a q (here bs l p) e
 
-  pub nothing-found : (q : Place) → field_of bs l p ≡ field.Found (record { child = child.Nothing; past = q }) → NothingFound bs p q
+  pub nothing-found : (q : Place) → field_of bs l p ≡ Found (record { child = child.Nothing; past = q }) → NothingFound bs p q
   nothing-found q e = nothing-of q (here bs l p) e
 
 -- the place past a field lies within the bytes, and has room for the rest
@@ -187,18 +186,18 @@ pub read_here : {bs : List ℕ} {p : Place} {a : AxesPlan} {f g : ℕ} → forme
     → g ≡ evolution_fault bs (p.at + 19) → g ≡ 0 → AxesHere bs p
 read_here {bs} {p} form e m z n y = record { form = form; free = ap (λ (x : AxesPlan). axes_fault x p.tally.left) (sym e) ∙ sym m ∙ z; evolution = sym n ∙ y }
 
-past-in : {bs : List ℕ} {l : ℕ} {p : Place} → Inside bs p → {F : Field} (x : BinPlan) → Here bs l p F → F ≡ field.Found x → Inside bs x.past
+past-in : {bs : List ℕ} {l : ℕ} {p : Place} → Inside bs p → {F : Field} (x : BinPlan) → Here bs l p F → F ≡ Found x → Inside bs x.past
 past-in i x (stop n at) e = stop-found e
 past-in {bs} {l} {p} i x (nothing h) e = rw (sym (ap (past p) e)) record { small = i.small; reach = omega (arith, whole bs p.at 0 h.form); roomy = i.roomy }
 past-in {bs} {l} {p} i x (axes t h) e = rw (sym (ap (past p) e)) record { small = i.small; reach = here-reach h; roomy = roomy-axes _ _ (here-fit i.roomy h) }
 past-in {bs} {l} {p} i x (bins h) e =
     rw (sym (ap (past p) e)) record { small = i.small; reach = omega (arith, whole bs p.at 11 h.form); roomy = roomy-bins _ _ (bins-fit i.roomy _ l h.free) }
 
-pub past-inside : {bs : List ℕ} (l : ℕ) {p : Place} → Inside bs p → (x : BinPlan) → field.Found x ≡ field_of bs l p → Inside bs x.past
+pub past-inside : {bs : List ℕ} (l : ℕ) {p : Place} → Inside bs p → (x : BinPlan) → Found x ≡ field_of bs l p → Inside bs x.past
 past-inside {bs} l {p} i x e = past-in i x (here bs l p) (sym e)
 
 -- a bins grid has a level to spare
-pub deep : (bs : List ℕ) (l : ℕ) (p : Place) {x : BinPlan} {b : BinsPlan} → field.Found x ≡ field_of bs l p → x.child ≡ child.Bins b → 0 < l
+pub deep : (bs : List ℕ) (l : ℕ) (p : Place) {x : BinPlan} {b : BinsPlan} → Found x ≡ field_of bs l p → x.child ≡ child.Bins b → 0 < l
 deep bs l p {x} {b} e h =
     let k = bins-found bs l p b x.past (as-found e h) in
     (bins-free (bins_at bs p.at) p.tally.left l k.at.free).level

@@ -2,21 +2,27 @@
 use mathlib.Core.Path.{◌≡◌, refl}
 use mathlib.Core.Bool.{Bool, true, false, cond}
 use mathlib.Core.List.{List, [], ◌∷◌}
-use Prim.Native.Nat.{ℕ, ◌≤◌, ◌<◌}
+use Prim.Native.Nat.{ℕ, max, ◌≤◌}
 use native.Mathlib.Omega.{arith}
 use lib.Dec.{ltb}
+use Rattle.std.specs.Prelude.{None, Some, unwrap_or}
 use borrow.Author.Tests.{ltb-true}
+use Rattle.std.proofs.lemmas.Bool.Decides.{nat_tests}
 use lib.Ieee.{Float, nan, inf, fin, is_nan, binary64, of_bits, le}
-use Rattle.plan.specs.Ranges.{within, floor_fits, ratio_fits, bounded, larger, most_of, scanned}
+use Rattle.plan.specs.Ranges.{within, floor_fits, ratio_fits, bounded, larger, most_of, most_if_bounded, scanned}
 use Rattle.plan.proofs.Flags.{and_left, and_right, at_most}
 
-pub scan-in : (m v : ℕ) (vs : List ℕ) → within 1 1024 v ≡ true → scanned m (v ∷ vs) ≡ scanned (larger m v) vs
-unfolding scanned bounded most_of
+pub scan-in : (m v : ℕ) (vs : List ℕ) → within 1 1024 v ≡ true → most_if_bounded m (v ∷ vs) ≡ most_if_bounded (larger m v) vs
+unfolding bounded most_of
 scan-in m v vs e = rw e
 
-pub scan-out : (m v : ℕ) (vs : List ℕ) → within 1 1024 v ≡ false → scanned m (v ∷ vs) ≡ 0
-unfolding scanned bounded
+pub scan-out : (m v : ℕ) (vs : List ℕ) → within 1 1024 v ≡ false → most_if_bounded m (v ∷ vs) ≡ None
+unfolding bounded
 scan-out m v vs e = rw e
+
+pub larger-max : (m v : ℕ) → max m v ≡ larger m v
+unfolding larger
+larger-max m v = grind (arith, nat_tests)
 
 larger-least : (m v : ℕ) → m ≤ larger m v
 unfolding larger
@@ -45,22 +51,14 @@ most-within m [] h b = h
 most-within m (v ∷ vs) h b =
     most-within (larger m v) vs (larger-within m v h (at_most 1 1024 v (and_left (within 1 1024 v) (bounded vs) b))) (and_right (within 1 1024 v) (bounded vs) b)
 
--- the scan gives 0 exactly where a value is out of bounds
-pub scan-found : (m : ℕ) (vs : List ℕ) {r : ℕ} → 0 < m → r ≡ scanned m vs → (r ≡ 0 → ⊥) → bounded vs ≡ true
+-- the scan, or 0
+pub scan-or : (m : ℕ) (vs : List ℕ) → unwrap_or (most_if_bounded m vs) 0 ≡ scanned m vs
 unfolding scanned
-scan-found m vs {r} h e z = go (bounded vs) e
+scan-or m vs = go (bounded vs)
   where
-    go : (b : Bool) → r ≡ cond b (most_of m vs) 0 → b ≡ true
-    go true e = refl
-    go false e = absurd (z e)
-
-pub scan-failed : (m : ℕ) (vs : List ℕ) {r : ℕ} → 0 < m → r ≡ scanned m vs → r ≡ 0 → bounded vs ≡ false
-unfolding scanned
-scan-failed m vs {r} h e z = go (bounded vs) e
-  where
-    go : (b : Bool) → r ≡ cond b (most_of m vs) 0 → b ≡ false
-    go true e = absurd (omega (arith, most-least m vs))
-    go false e = refl
+    go : (b : Bool) → unwrap_or (cond b (Some (most_of m vs)) None) 0 ≡ cond b (most_of m vs) 0
+    go true = refl
+    go false = refl
 
 pub scan-most : (m : ℕ) (vs : List ℕ) → bounded vs ≡ true → scanned m vs ≡ most_of m vs
 unfolding scanned

@@ -8,8 +8,7 @@ use Rattle.plan.specs.declared.AxesPlan.{AxesPlan}
 use Rattle.plan.specs.declared.BinsPlan.{BinsPlan}
 use Rattle.plan.specs.declared.Child.{Child}
 use Rattle.plan.specs.declared.Child.TheVariants as child
-use Rattle.plan.specs.declared.Field.{Field}
-use Rattle.plan.specs.declared.Field.TheVariants as field
+use Rattle.plan.specs.Judged.{Field, Stop, Found}
 use Rattle.plan.specs.Plan.{Tree, Trees, nothing, axes, bins, none, more}
 use Rattle.plan.specs.Reading.{Out, Outs, Reader, cons_to, then, bins_to, trees_of, hung, opened, tree_of}
 
@@ -53,23 +52,23 @@ inside b (Outs.reads ts r) t q e = let w : r ≡ q = cc in record { children = t
 -- 2. A node -------------------------------------------------------------------------------------------
 
 module _ (R : Reader) where
-  pub tree-stop : (l : ℕ) (p : Place) {n at : ℕ} → R.field l p ≡ field.Stop n at → tree_of R l p ≡ Out.stops n at
+  pub tree-stop : (l : ℕ) (p : Place) {n at : ℕ} → R.field l p ≡ Stop n at → tree_of R l p ≡ Out.stops n at
   unfolding tree_of
   tree-stop zero p e = rw e
   tree-stop (suc l) p e = rw e
 
-  pub tree-nothing : (l : ℕ) (p : Place) {q : Place} → R.field l p ≡ field.Found (record { child = child.Nothing; past = q }) → tree_of R l p ≡ Out.reads nothing q
+  pub tree-nothing : (l : ℕ) (p : Place) {q : Place} → R.field l p ≡ Found (record { child = child.Nothing; past = q }) → tree_of R l p ≡ Out.reads nothing q
   unfolding tree_of
   tree-nothing zero p e = rw e
   tree-nothing (suc l) p e = rw e
 
-  pub tree-axes : (l : ℕ) (p : Place) {a : AxesPlan} {q : Place} → R.field l p ≡ field.Found (record { child = child.Axes a; past = q })
+  pub tree-axes : (l : ℕ) (p : Place) {a : AxesPlan} {q : Place} → R.field l p ≡ Found (record { child = child.Axes a; past = q })
       → tree_of R l p ≡ Out.reads (axes a (R.evolution p a)) q
   unfolding tree_of
   tree-axes zero p e = rw e
   tree-axes (suc l) p e = rw e
 
-  pub tree-bins : (l : ℕ) (p : Place) {b : BinsPlan} {q : Place} → 0 < l → R.field l p ≡ field.Found (record { child = child.Bins b; past = q })
+  pub tree-bins : (l : ℕ) (p : Place) {b : BinsPlan} {q : Place} → 0 < l → R.field l p ≡ Found (record { child = child.Bins b; past = q })
       → tree_of R l p ≡ bins_to b (trees_of (λ s x. R.child (tree_of R (l - 1)) s x) (q.tally.words - b.bins) b.bins q)
   unfolding tree_of
   tree-bins zero p h e = absurd (omega arith)
@@ -80,10 +79,10 @@ module _ (R : Reader) where
 -- what holds of a grid that was read, of a child by its slot, and of several
 pub record Kept (R : Reader) (P : ℕ → Place → Tree → Place → Type 0) (C : ℕ → ℕ → Place → Tree → Place → Type 0)
     (Q : ℕ → ℕ → ℕ → Place → Trees → Place → Type 0) : Type 0 where
-  pub empty : (l : ℕ) (p q : Place) → R.field l p ≡ field.Found (record { child = child.Nothing; past = q }) → P l p nothing q
-  pub leaf : (l : ℕ) (p : Place) (a : AxesPlan) (q : Place) → R.field l p ≡ field.Found (record { child = child.Axes a; past = q })
+  pub empty : (l : ℕ) (p q : Place) → R.field l p ≡ Found (record { child = child.Nothing; past = q }) → P l p nothing q
+  pub leaf : (l : ℕ) (p : Place) (a : AxesPlan) (q : Place) → R.field l p ≡ Found (record { child = child.Axes a; past = q })
       → P l p (axes a (R.evolution p a)) q
-  pub inner : (l : ℕ) (p : Place) (b : BinsPlan) (s : Place) (ts : Trees) (q : Place) → R.field l p ≡ field.Found (record { child = child.Bins b; past = s })
+  pub inner : (l : ℕ) (p : Place) (b : BinsPlan) (s : Place) (ts : Trees) (q : Place) → R.field l p ≡ Found (record { child = child.Bins b; past = s })
       → Q (l - 1) (s.tally.words - b.bins) b.bins s ts q → P l p (bins b ts) q
   pub hangs : (l s : ℕ) (p : Place) (t : Tree) (q : Place) → ((x : Place) (u : Tree) (z : Place) → tree_of R l x ≡ Out.reads u z → P l x u z)
       → R.child (tree_of R l) s p ≡ Out.reads t q → C l s p t q
@@ -103,7 +102,7 @@ module _ {R : Reader} {P : ℕ → Place → Tree → Place → Type 0} {C : ℕ
       rw c.all (K.next l s n p c.head c.mid c.tail q (k s p c.head c.mid c.child) (kept-trees l f k (s + 1) n c.mid c.tail q c.rest))
 
   kept-hung : (l : ℕ) (f : ℕ → Place → Out) → ((s : ℕ) (p : Place) (t : Tree) (q : Place) → f s p ≡ Out.reads t q → C (l - 1) s p t q)
-      → (p : Place) (t : Tree) (q : Place) (x : Child) (s : Place) → R.field l p ≡ field.Found (record { child = x; past = s })
+      → (p : Place) (t : Tree) (q : Place) (x : Child) (s : Place) → R.field l p ≡ Found (record { child = x; past = s })
       → hung (R.evolution p) f x s ≡ Out.reads t q → P l p t q
   kept-hung l f k p t q child.Nothing s x e = let w : t ≡ nothing = cc in let v : s ≡ q = cc in rw w (K.empty l p q (rw v at x))
   kept-hung l f k p t q (child.Axes a) s x e = let w : t ≡ axes a (R.evolution p a) = cc in let v : s ≡ q = cc in rw w (K.leaf l p a q (rw v at x))
@@ -113,8 +112,8 @@ module _ {R : Reader} {P : ℕ → Place → Tree → Place → Type 0} {C : ℕ
 
   kept-node : (l : ℕ) (f : ℕ → Place → Out) → ((s : ℕ) (p : Place) (t : Tree) (q : Place) → f s p ≡ Out.reads t q → C (l - 1) s p t q)
       → (p : Place) (t : Tree) (q : Place) (x : Field) → R.field l p ≡ x → opened (R.evolution p) f x ≡ Out.reads t q → P l p t q
-  kept-node l f k p t q (field.Stop n at) x e = stops-reads e
-  kept-node l f k p t q (field.Found y) x e = kept-hung l f k p t q y.child y.past x e
+  kept-node l f k p t q (Stop n at) x e = stops-reads e
+  kept-node l f k p t q (Found y) x e = kept-hung l f k p t q y.child y.past x e
 
   pub kept : (l : ℕ) (p : Place) (t : Tree) (q : Place) → tree_of R l p ≡ Out.reads t q → P l p t q
   unfolding tree_of

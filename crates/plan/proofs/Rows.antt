@@ -13,10 +13,7 @@ use Rattle.plan.specs.declared.AxesPlan.{AxesPlan}
 use Rattle.plan.specs.declared.BinsPlan.{BinsPlan}
 use Rattle.plan.specs.declared.BinPlan.{BinPlan}
 use Rattle.plan.specs.declared.Child.TheVariants as child
-use Rattle.plan.specs.declared.Field.{Field}
-use Rattle.plan.specs.declared.Field.TheVariants as field
-use Rattle.plan.specs.declared.Step.{Step}
-use Rattle.plan.specs.declared.Step.TheVariants as step
+use Rattle.plan.specs.Judged.{Field, Step, Stop, Found}
 use Rattle.plan.specs.Numbers.{words_at}
 use Rattle.plan.specs.Ranges.{bounded, most_of}
 use Rattle.plan.specs.Plan.{Tree, nothing}
@@ -89,7 +86,7 @@ pub record BinsAt (xs : List ℕ) (l : ℕ) (p : Place) : Type 0 where
 
 -- every record is one of these
 pub data Row (xs : List ℕ) (l : ℕ) (p : Place) : Field → Type 0 where
-  stop : (n at : ℕ) → Row xs l p (field.Stop n at)
+  stop : (n at : ℕ) → Row xs l p (Stop n at)
   axes : AxesAt xs l p → Row xs l p (found (child.Axes (axes_row xs p.tally.words)) p.at (axes_taken (axes_row xs p.tally.words) p.tally))
   bins : BinsAt xs l p → Row xs l p (found (child.Bins (bins_row xs p.tally.words)) p.at (bins_taken (bins_row xs p.tally.words) p.tally))
 
@@ -126,45 +123,45 @@ pub record AxesMet (xs : List ℕ) (l : ℕ) (p : Place) (a : AxesPlan) (q : Pla
   pub past : q ≡ record { at = p.at; tally = axes_taken (axes_row xs p.tally.words) p.tally }
 
 module _ {xs : List ℕ} {l : ℕ} {p : Place} where
-  bins-of : {F : Field} (b : BinsPlan) (q : Place) → Row xs l p F → F ≡ field.Found (record { child = child.Bins b; past = q }) → BinsMet xs l p b q
+  bins-of : {F : Field} (b : BinsPlan) (q : Place) → Row xs l p F → F ≡ Found (record { child = child.Bins b; past = q }) → BinsMet xs l p b q
   bins-of b q (stop n at) e = stop-found e
   bins-of b q (axes h) e = (other-child _ b (ap hangs e)).1 _ refl
   bins-of b q (bins h) e = let n : child.Bins (bins_row xs p.tally.words) ≡ child.Bins b = ap hangs e in record { at = h; numbers = cc; past = sym (ap (past p) e) }
 
-  axes-of : {F : Field} (a : AxesPlan) (q : Place) → Row xs l p F → F ≡ field.Found (record { child = child.Axes a; past = q }) → AxesMet xs l p a q
+  axes-of : {F : Field} (a : AxesPlan) (q : Place) → Row xs l p F → F ≡ Found (record { child = child.Axes a; past = q }) → AxesMet xs l p a q
   axes-of a q (stop n at) e = stop-found e
   axes-of a q (axes h) e = let n : child.Axes (axes_row xs p.tally.words) ≡ child.Axes a = ap hangs e in record { at = h; numbers = cc; past = sym (ap (past p) e) }
   axes-of a q (bins h) e = (other-child _ (bins_row xs p.tally.words) refl).1 a (ap hangs e)
 
-  nothing-of : {P : Type 0} {F : Field} (q : Place) → Row xs l p F → F ≡ field.Found (record { child = child.Nothing; past = q }) → P
+  nothing-of : {P : Type 0} {F : Field} (q : Place) → Row xs l p F → F ≡ Found (record { child = child.Nothing; past = q }) → P
   nothing-of q (stop n at) e = stop-found e
   nothing-of q (axes h) e = axes-nothing _ (ap hangs e)
   nothing-of q (bins h) e = (other-child _ (bins_row xs p.tally.words) refl).0 (ap hangs e)
 
 module _ (xs : List ℕ) (l : ℕ) (p : Place) where
-  pub bins-met : (b : BinsPlan) (q : Place) → row_of xs l p ≡ field.Found (record { child = child.Bins b; past = q }) → BinsMet xs l p b q
+  pub bins-met : (b : BinsPlan) (q : Place) → row_of xs l p ≡ Found (record { child = child.Bins b; past = q }) → BinsMet xs l p b q
   bins-met b q e = bins-of b q (row xs l p) e
 
-  pub axes-met : (a : AxesPlan) (q : Place) → row_of xs l p ≡ field.Found (record { child = child.Axes a; past = q }) → AxesMet xs l p a q
+  pub axes-met : (a : AxesPlan) (q : Place) → row_of xs l p ≡ Found (record { child = child.Axes a; past = q }) → AxesMet xs l p a q
   axes-met a q e = axes-of a q (row xs l p) e
 
-  pub nothing-met : {P : Type 0} (q : Place) → row_of xs l p ≡ field.Found (record { child = child.Nothing; past = q }) → P
+  pub nothing-met : {P : Type 0} (q : Place) → row_of xs l p ≡ Found (record { child = child.Nothing; past = q }) → P
   nothing-met q e = nothing-of q (row xs l p) e
 
 -- 2. The place past it ------------------------------------------------------------------------------------
 
-past-in : {xs : List ℕ} {l : ℕ} {p : Place} → Roomy p.tally → {F : Field} (x : BinPlan) → Row xs l p F → F ≡ field.Found x → Roomy x.past.tally
+past-in : {xs : List ℕ} {l : ℕ} {p : Place} → Roomy p.tally → {F : Field} (x : BinPlan) → Row xs l p F → F ≡ Found x → Roomy x.past.tally
 past-in r x (stop n at) e = stop-found e
 past-in {xs} {l} {p} r x (axes h) e = rw (sym (ap (past p) e)) (roomy-axes _ _ (evolved-fit xs r h.free h.evolution))
 past-in {xs} {l} {p} r x (bins h) e = rw (sym (ap (past p) e)) (roomy-bins _ _ (bins-fit r _ l h.free))
 
-pub past-roomy : (xs : List ℕ) (l : ℕ) (p : Place) → Roomy p.tally → (x : BinPlan) → field.Found x ≡ row_of xs l p → Roomy x.past.tally
+pub past-roomy : (xs : List ℕ) (l : ℕ) (p : Place) → Roomy p.tally → (x : BinPlan) → Found x ≡ row_of xs l p → Roomy x.past.tally
 past-roomy xs l p r x e = past-in r x (row xs l p) (sym e)
 
-pub deep-row : (xs : List ℕ) (l : ℕ) (p : Place) {x : BinPlan} {b : BinsPlan} → field.Found x ≡ row_of xs l p → x.child ≡ child.Bins b → 0 < l
+pub deep-row : (xs : List ℕ) (l : ℕ) (p : Place) {x : BinPlan} {b : BinsPlan} → Found x ≡ row_of xs l p → x.child ≡ child.Bins b → 0 < l
 deep-row xs l p {x} {b} e h = (bins-free _ p.tally.left l (bins-met xs l p b x.past (as-found e h)).at.free).level
 
-pub links-before : (xs : List ℕ) (l : ℕ) (p : Place) {x : BinPlan} {b : BinsPlan} → field.Found x ≡ row_of xs l p → x.child ≡ child.Bins b → b.bins ≤ x.past.tally.words
+pub links-before : (xs : List ℕ) (l : ℕ) (p : Place) {x : BinPlan} {b : BinsPlan} → Found x ≡ row_of xs l p → x.child ≡ child.Bins b → b.bins ≤ x.past.tally.words
 unfolding bins_taken
 links-before xs l p {x} {b} e h =
     let k = bins-met xs l p b x.past (as-found e h) in
@@ -175,11 +172,11 @@ links-before xs l p {x} {b} e h =
 -- 3. A child by its link ----------------------------------------------------------------------------------
 
 module _ (xs : List ℕ) (f : Place → Out) (s : ℕ) (p : Place) where
-  pub child-none : get_or xs s 0 ≡ 0 → step.Done p ≡ step_of (child_of xs f s p)
+  pub child-none : get_or xs s 0 ≡ 0 → Found p ≡ step_of (child_of xs f s p)
   unfolding child_of
   child-none e = rw e
 
-  pub child-astray : (get_or xs s 0 ≡ 0 → ⊥) → (get_or xs s 0 ≡ p.tally.words → ⊥) → step.Stopped 12 0 ≡ step_of (child_of xs f s p)
+  pub child-astray : (get_or xs s 0 ≡ 0 → ⊥) → (get_or xs s 0 ≡ p.tally.words → ⊥) → Stop 12 0 ≡ step_of (child_of xs f s p)
   unfolding child_of
   child-astray z n = rw (ne_eqb (get_or xs s 0) 0 z, ne_eqb (get_or xs s 0) p.tally.words n)
 
@@ -210,7 +207,7 @@ roomies xs = record {
   next = λ l s n p t u ts q c k r. k (c r);
 }
 
-pub known-roomy : (xs : List ℕ) (l : ℕ) (s : ℕ) (p q : Place) → Roomy p.tally → step.Done q ≡ step_of (child_of xs (tree_of (from_table xs) l) s p) → Roomy q.tally
+pub known-roomy : (xs : List ℕ) (l : ℕ) (s : ℕ) (p q : Place) → Roomy p.tally → Found q ≡ step_of (child_of xs (tree_of (from_table xs) l) s p) → Roomy q.tally
 known-roomy xs l s p q r e =
     let o = some (child_of xs (tree_of (from_table xs) l) s p) q e in
     child-case xs (tree_of (from_table xs) l) s p o.tree q o.read (λ u v w. rw w r) (λ u v. kept (roomies xs) l p o.tree q v r)

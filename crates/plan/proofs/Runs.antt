@@ -1,14 +1,14 @@
 -- A loop over a run of numbers: those before the i-th are done.
-use mathlib.Core.Path.{◌≡◌, refl, sym, ap, ◌∙◌}
+use mathlib.Core.Path.{◌≡◌, sym, ap, ◌∙◌}
 use mathlib.Core.Bool.{true, false}
 use mathlib.Core.List.{List, [], ◌∷◌}
 use Prim.Native.Nat.{ℕ, suc, ◌+◌, ◌-◌, ◌≤◌, ◌<◌}
-use native.Mathlib.Nat.{sub-zero, add-zero}
 use native.Mathlib.Omega.{arith}
 use lib.ListN.{length, set, length-set}
 use lib.Seq.{sets}
+use Rattle.std.specs.Prelude.{None, Some}
 use Rattle.plan.specs.Numbers.{run_of}
-use Rattle.plan.specs.Ranges.{within, bounded, larger, most_of, scanned}
+use Rattle.plan.specs.Ranges.{within, bounded, larger, most_of, most_if_bounded}
 use Rattle.plan.proofs.Ranges.{scan-in, scan-out}
 
 module _ (g : ℕ → ℕ) (apart : ℕ) where
@@ -23,10 +23,7 @@ module _ (g : ℕ → ℕ) (apart : ℕ) where
   -- looking for the largest number, which stands at a place now
   pub record Scanning (first k least most at i : ℕ) : Type 0 where
     pub low : i ≤ k
-    pub same : scanned least (run_of g apart first k) ≡ scanned most (run_of g apart at (k - i))
-
-  pub scanning-from : (first k least at : ℕ) → at ≡ first → Scanning first k least least at 0
-  scanning-from first k least at e = record { low = omega arith; same = rw (sub-zero, e) }
+    pub same : most_if_bounded least (run_of g apart first k) ≡ most_if_bounded most (run_of g apart at (k - i))
 
   -- storing the numbers from the word w on
   pub record Copying (first k w : ℕ) (old new : List ℕ) (at i : ℕ) : Type 0 where
@@ -34,22 +31,19 @@ module _ (g : ℕ → ℕ) (apart : ℕ) where
     pub size : length new ≡ length old
     pub same : sets new (w + i) (run_of g apart at (k - i)) ≡ sets old w (run_of g apart first k)
 
-  pub copying-from : (first k w : ℕ) (old : List ℕ) (at : ℕ) → at ≡ first → Copying first k w old old at 0
-  copying-from first k w old at e = record { low = omega arith; size = refl; same = rw (sub-zero, add-zero, e) }
-
 module _ {g : ℕ → ℕ} {apart first k least most at i : ℕ} (v : Scanning g apart first k least most at i) where
-  pub scanning-all : k ≤ i → most ≡ scanned least (run_of g apart first k)
-  unfolding scanned bounded most_of
-  scanning-all h = sym (v.same ∙ ap (scanned most) (run_none g apart at k i h))
+  pub scanning-all : k ≤ i → Some most ≡ most_if_bounded least (run_of g apart first k)
+  unfolding bounded most_of
+  scanning-all h = sym (v.same ∙ ap (most_if_bounded most) (run_none g apart at k i h))
 
   module _ (h : i < k) {x : ℕ} (e : x ≡ g at) where
-    pub scanning-out : within 1 1024 x ≡ false → 0 ≡ scanned least (run_of g apart first k)
-    scanning-out w = sym (v.same ∙ ap (scanned most) (run-next g apart at k i h) ∙ scan-out most (g at) _ (rw e at w))
+    pub scanning-out : within 1 1024 x ≡ false → None ≡ most_if_bounded least (run_of g apart first k)
+    scanning-out w = sym (v.same ∙ ap (most_if_bounded most) (run-next g apart at k i h) ∙ scan-out most (g at) _ (rw e at w))
 
     pub scanning-next : {m next : ℕ} → within 1 1024 x ≡ true → m ≡ larger most x → next ≡ at + apart → Scanning g apart first k least m next (i + 1)
     scanning-next {m} {next} w l n = record {
       low = omega arith;
-      same = v.same ∙ ap (scanned most) (run-next g apart at k i h) ∙ scan-in most (g at) _ (rw e at w) ∙ rw (l, n, e);
+      same = v.same ∙ ap (most_if_bounded most) (run-next g apart at k i h) ∙ scan-in most (g at) _ (rw e at w) ∙ rw (l, n, e);
     }
 
 module _ {g : ℕ → ℕ} {apart first k w : ℕ} {old new : List ℕ} {at i : ℕ} (v : Copying g apart first k w old new at i) where

@@ -2,7 +2,6 @@
 use mathlib.Core.Path.{◌≡◌, refl, sym, ap, ◌∙◌}
 use mathlib.Core.List.{List, ◌++◌}
 use Prim.Native.Nat.{ℕ, suc, ◌+◌, ◌-◌, ◌≤◌, ◌<◌}
-use native.Mathlib.Nat.{sub-zero, add-zero}
 use native.Mathlib.Numerals.{add-one}
 use native.Mathlib.Omega.{arith}
 use lib.ListN.{length, set, length-set}
@@ -13,8 +12,10 @@ use Rattle.plan.specs.declared.AxesPlan.{AxesPlan}
 use Rattle.plan.specs.declared.BinsPlan.{BinsPlan}
 use Rattle.plan.specs.declared.BinPlan.{BinPlan}
 use Rattle.plan.specs.declared.Child.TheVariants as child
-use Rattle.plan.specs.declared.Field.TheVariants as field
-use Rattle.plan.specs.declared.Step.TheVariants as step
+use Rattle.std.specs.Prelude.{Result, Ok, Err}
+use Rattle.std.specs.Result.{IsOk}
+use Rattle.plan.specs.declared.Misread.{Misread}
+use Rattle.plan.specs.Judged.{judged, Stop, Found}
 use Rattle.plan.specs.Numbers.{values_at}
 use Rattle.plan.specs.Plan.{Tree, Trees, axes, bins, none, more}
 use Rattle.plan.specs.Needs.{axes_taken, bins_taken, after}
@@ -70,21 +71,6 @@ pub record Writing (bs : List ℕ) (l n slot : ℕ) (begin : Place) (old new : L
   pub room : stop.tally.words ≤ length old
   pub done : spread l (slot + i) here.tally rest new ≡ spread l slot begin.tally all old
 
-pub writing-from : (bs : List ℕ) (l n slot : ℕ) (begin : Place) (old : List ℕ) → AllWritable bs l n slot begin (length old) → Writing bs l n slot begin old old begin 0
-writing-from bs l n slot begin old w = record {
-  low = omega arith;
-  inside = w.inside;
-  same = refl;
-  all = w.trees;
-  stop = w.stop;
-  whole = w.read;
-  rest = w.trees;
-  ahead = rw (add-zero, sub-zero) w.read;
-  apart = w.apart;
-  room = w.room;
-  done = rw add-zero;
-}
-
 module _ {bs : List ℕ} {l n slot : ℕ} {begin : Place} {old new : List ℕ} {here : Place} {i : ℕ} (v : Writing bs l n slot begin old new here i) where
   all_words : (m s : ℕ) (p : Place) (ts : Trees) → SoundAll bs l m p ts v.stop → p.tally.words ≤ v.stop.tally.words
   all_words m s p ts a =
@@ -122,10 +108,10 @@ module _ {bs : List ℕ} {l n slot : ℕ} {begin : Place} {old new : List ℕ} {
       room = rw length-set (omega (arith, all_words (n - (i + 1)) slot next.mid next.tail tail, v.room, v.same));
     }
 
-    module _ (x : ℕ) (e : x ≡ link_at bs here) (q : Place) (d : step.Done q ≡ step_of (tree_of (from_bytes bs) l here)) (newer : List ℕ)
+    module _ (x : ℕ) (e : x ≡ link_at bs here) (q : Place) (d : Found q ≡ step_of (tree_of (from_bytes bs) l here)) (newer : List ℕ)
         (w : newer ≡ laid l here.tally (tree_of (from_bytes bs) l here) (set new (slot + i) x)) where
       mid : q ≡ next.mid
-      mid = let y : step.Done q ≡ step.Done next.mid = d ∙ ap step_of next.child in cc
+      mid = let y : Found q ≡ Found next.mid = d ∙ ap step_of next.child in cc
 
       child-laid : newer ≡ sets (set new (slot + i) (link next.head here.tally)) here.tally.words (rows l next.head here.tally)
       child-laid =
@@ -160,7 +146,7 @@ module _ {bs : List ℕ} {l n slot : ℕ} {begin : Place} {old new : List ℕ} {
     unfolding trees_of
     last-read = let e : n - i ≡ 0 = omega arith in rw e at v.ahead
 
-    pub writing-stop : step.Done here ≡ steps_of (trees_of (λ s q. tree_of (from_bytes bs) l q) slot n begin)
+    pub writing-stop : Found here ≡ steps_of (trees_of (λ s q. tree_of (from_bytes bs) l q) slot n begin)
     writing-stop = let y = last-read in let z : here ≡ v.stop = cc in rw (v.whole, z)
 
     pub writing-end : new ≡ laid_all l slot begin.tally (trees_of (λ s q. tree_of (from_bytes bs) l q) slot n begin) old
@@ -170,14 +156,18 @@ module _ {bs : List ℕ} {l n slot : ℕ} {begin : Place} {old new : List ℕ} {
 -- 3. What the code meets --------------------------------------------------------------------------------
 
 pub record Wrote (bs : List ℕ) (l : ℕ) (p : Place) (old : List ℕ) (r : Place) (new : List ℕ) : Type 0 where
-  pub place : step.Done r ≡ step_of (tree_of (from_bytes bs) l p)
+  pub place : Found r ≡ step_of (tree_of (from_bytes bs) l p)
   pub table : new ≡ laid l p.tally (tree_of (from_bytes bs) l p) old
 
 module _ (bs : List ℕ) (l : ℕ) (p : Place) where
-  pub wrote-stop : {n at m : ℕ} (P : Type 0) → Writable bs l p m → field.Stop n at ≡ field_of bs l p → P
+  pub wrote-stop : {n at m : ℕ} (P : Type 0) → Writable bs l p m → Stop n at ≡ field_of bs l p → P
   wrote-stop P w e = stops-reads (sym (tree-stop (from_bytes bs) l p (sym e)) ∙ w.read)
 
-  module _ {x : BinPlan} (e : field.Found x ≡ field_of bs l p) where
+  pub writable-found : {m : ℕ} (r : Result BinPlan Misread) → Writable bs l p m → judged r ≡ field_of bs l p → IsOk r
+  writable-found (Ok x) w e = refl
+  writable-found (Err m) w e = wrote-stop _ w e
+
+  module _ {x : BinPlan} (e : Found x ≡ field_of bs l p) where
     pub wrote_nothing : (old : List ℕ) → x.child ≡ child.Nothing → Wrote bs l p old x.past old
     unfolding rows
     wrote_nothing old h = let t = tree-nothing (from_bytes bs) l p (as-found e h) in record { place = rw t; table = rw t }
@@ -228,6 +218,12 @@ module _ (bs : List ℕ) (l : ℕ) (p : Place) where
         kids-sound : SoundAll bs (l - 1) b.bins x.past kids.children w.stop
         kids-sound = sound-all bs w.inside.small (l - 1) (p.tally.words + 7) b.bins x.past kids.children w.stop kids.read
 
+        pub bins-room : p.tally.words + 7 ≤ n
+        bins-room =
+            let k = kids-sound in
+            let e = ap (λ (y : Tally). y.words) k.end in
+            omega (arith, rows-all-words (l - 1) kids.children x.past.tally k.plan, past_words, w.room)
+
         pub all-writable : (m : ℕ) → m ≡ n → AllWritable bs (l - 1) b.bins (p.tally.words + 7) x.past m
         all-writable m z = record {
           inside = past-inside l w.inside x e;
@@ -239,7 +235,7 @@ module _ (bs : List ℕ) (l : ℕ) (p : Place) where
         }
 
         pub wrote-bins : (old mid new : List ℕ) (r : Place) → mid ≡ sets old p.tally.words (head_bins l b p.tally)
-            → step.Done r ≡ steps_of (trees_of (λ s q. tree_of (from_bytes bs) (l - 1) q) (p.tally.words + 7) b.bins x.past)
+            → Found r ≡ steps_of (trees_of (λ s q. tree_of (from_bytes bs) (l - 1) q) (p.tally.words + 7) b.bins x.past)
             → new ≡ laid_all (l - 1) (p.tally.words + 7) x.past.tally (trees_of (λ s q. tree_of (from_bytes bs) (l - 1) q) (p.tally.words + 7) b.bins x.past) mid
             → Wrote bs l p old r new
         wrote-bins old mid new r m d g =

@@ -3,6 +3,7 @@ use Rattle.std.specs.Prelude.{ℕ, cond, List, length, get_or, leb, ltb, eqb}
 use Rattle.std.proofs.lemmas.List.Edits.{sets}
 use Rattle.plan.specs.declared.Place.{Place}
 use Rattle.plan.specs.declared.Needs.{Needs}
+use Rattle.plan.specs.Judged.{Step, Stop, Found}
 use Rattle.plan.specs.Plan.{Tree}
 use Rattle.plan.specs.Needs.{untaken, needs_of}
 use Rattle.plan.specs.Reading.{Out, tree_of, from_bytes}
@@ -16,6 +17,11 @@ begin = record { at = 0; tally = untaken }
 -- the grid that a plan begins with; 04 is none
 unfoldable pub grid_of : List ℕ → Out
 grid_of bs = cond (eqb (get_or bs 0 0) 4) (Out.stops 1 0) (tree_of (from_bytes bs) 4 begin)
+
+-- behind the grid no byte may stand: surplus bytes are 1 at the first of them
+abbrev pub whole : List ℕ → Step → Step
+whole bs (Stop n at) = Stop n at
+whole bs (Found q) = cond (ltb q.at (length bs)) (Stop 1 q.at) (Found q)
 
 -- a call's answer, and the table afterwards
 pub record End : Type 0 where

@@ -4,8 +4,7 @@ use Rattle.plan.specs.declared.Place.{Place}
 use Rattle.plan.specs.declared.AxesPlan.{AxesPlan}
 use Rattle.plan.specs.declared.BinsPlan.{BinsPlan}
 use Rattle.plan.specs.declared.Child.TheVariants as child
-use Rattle.plan.specs.declared.Field.{Field}
-use Rattle.plan.specs.declared.Field.TheVariants as field
+use Rattle.plan.specs.Judged.{Field, Stop, Found}
 use Rattle.plan.specs.Numbers.{number_at, values_at}
 use Rattle.plan.specs.Ranges.{within, floor_fits, ratio_fits, bounded, scanned}
 use Rattle.plan.specs.Needs.{axes_taken, bins_taken}
@@ -54,10 +53,10 @@ axes_fault a left =
 
 unfoldable pub axes_field : List ℕ → Place → Field
 axes_field bs p =
-    cond (not (formed bs p.at 16)) (field.Stop 1 p.at)
-    (cond (not (eqb (axes_fault (axes_at bs p.at) p.tally.left) 0)) (field.Stop (axes_fault (axes_at bs p.at) p.tally.left) p.at)
-    (cond (not (eqb (evolution_fault bs (p.at + 19)) 0)) (field.Stop (evolution_fault bs (p.at + 19)) (p.at + 19))
-    (field.Found (record {
+    cond (not (formed bs p.at 16)) (Stop 1 p.at)
+    (cond (not (eqb (axes_fault (axes_at bs p.at) p.tally.left) 0)) (Stop (axes_fault (axes_at bs p.at) p.tally.left) p.at)
+    (cond (not (eqb (evolution_fault bs (p.at + 19)) 0)) (Stop (evolution_fault bs (p.at + 19)) (p.at + 19))
+    (Found (record {
       child = child.Axes (axes_at bs p.at);
       past = record { at = p.at + span_of (axes_at bs p.at).values; tally = axes_taken (axes_at bs p.at) p.tally };
     }))))
@@ -77,9 +76,9 @@ bins_fault b left level =
 
 unfoldable pub bins_field : List ℕ → ℕ → Place → Field
 bins_field bs level p =
-    cond (not (formed bs p.at 11)) (field.Stop 1 p.at)
-    (cond (not (eqb (bins_fault (bins_at bs p.at) p.tally.left level) 0)) (field.Stop (bins_fault (bins_at bs p.at) p.tally.left level) p.at)
-    (field.Found (record {
+    cond (not (formed bs p.at 11)) (Stop 1 p.at)
+    (cond (not (eqb (bins_fault (bins_at bs p.at) p.tally.left level) 0)) (Stop (bins_fault (bins_at bs p.at) p.tally.left level) p.at)
+    (Found (record {
       child = child.Bins (bins_at bs p.at);
       past = record { at = p.at + 14; tally = bins_taken (bins_at bs p.at) p.tally };
     })))
@@ -87,12 +86,12 @@ bins_field bs level p =
 -- 04: no child
 unfoldable pub nothing_field : List ℕ → Place → Field
 nothing_field bs p =
-    cond (formed bs p.at 0) (field.Found (record { child = child.Nothing; past = record { at = p.at + 3; tally = p.tally } }))
-    (field.Stop 1 p.at)
+    cond (formed bs p.at 0) (Found (record { child = child.Nothing; past = record { at = p.at + 3; tally = p.tally } }))
+    (Stop 1 p.at)
 
 -- the field at a place, with so many levels of bins grids left; a wrong tag is 1
 unfoldable pub field_of : List ℕ → ℕ → Place → Field
 field_of bs level p =
     cond (eqb (get_or bs p.at 0) 1) (axes_field bs p)
     (cond (eqb (get_or bs p.at 0) 3) (bins_field bs level p)
-    (cond (eqb (get_or bs p.at 0) 4) (nothing_field bs p) (field.Stop 1 p.at)))
+    (cond (eqb (get_or bs p.at 0) 4) (nothing_field bs p) (Stop 1 p.at)))

@@ -3,6 +3,7 @@ pub mod Numbers
 pub mod Ranges
 pub mod Plan
 pub mod Needs
+pub mod Judged
 pub mod Fields
 pub mod Reading
 pub mod Table

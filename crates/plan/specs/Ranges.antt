@@ -1,5 +1,5 @@
 -- The ranges of a plan's numbers.
-use Rattle.std.specs.Prelude.{ℕ, Bool, true, ◌&&◌, cond, List, [], ◌∷◌, leb, ltb}
+use Rattle.std.specs.Prelude.{ℕ, Bool, true, ◌&&◌, cond, List, [], ◌∷◌, leb, ltb, Option, None, Some}
 use Rattle.std.specs.Float.{binary64}
 use Rattle.std.specs.Float.Ieee.{le, lt, of_bits}
 
@@ -26,6 +26,10 @@ larger m v = cond (ltb m v) v m
 unfoldable pub most_of : ℕ → List ℕ → ℕ
 most_of m [] = m
 most_of m (v ∷ vs) = most_of (larger m v) vs
+
+-- the same where every value is within its bounds
+abbrev pub most_if_bounded : ℕ → List ℕ → Option ℕ
+most_if_bounded m vs = cond (bounded vs) (Some (most_of m vs)) None
 
 -- the same, and 0 where a value is out of bounds
 unfoldable pub scanned : ℕ → List ℕ → ℕ

@@ -5,10 +5,7 @@ use Rattle.plan.specs.declared.AxesPlan.{AxesPlan}
 use Rattle.plan.specs.declared.BinsPlan.{BinsPlan}
 use Rattle.plan.specs.declared.Child.{Child}
 use Rattle.plan.specs.declared.Child.TheVariants as child
-use Rattle.plan.specs.declared.Field.{Field}
-use Rattle.plan.specs.declared.Field.TheVariants as field
-use Rattle.plan.specs.declared.Step.{Step}
-use Rattle.plan.specs.declared.Step.TheVariants as step
+use Rattle.plan.specs.Judged.{Field, Step, Stop, Found}
 use Rattle.plan.specs.Numbers.{values_at}
 use Rattle.plan.specs.Plan.{Tree, Trees, nothing, axes, bins, none, more}
 use Rattle.plan.specs.Fields.{field_of}
@@ -54,8 +51,8 @@ hung evolution f (child.Axes a) q = Out.reads (axes a (evolution a)) q
 hung evolution f (child.Bins b) q = bins_to b (trees_of f (q.tally.words - b.bins) b.bins q)
 
 abbrev pub opened : (AxesPlan → List ℕ) → (ℕ → Place → Out) → Field → Out
-opened evolution f (field.Stop n at) = Out.stops n at
-opened evolution f (field.Found x) = hung evolution f x.child x.past
+opened evolution f (Stop n at) = Out.stops n at
+opened evolution f (Found x) = hung evolution f x.child x.past
 
 -- what hangs at a place, with so many levels of bins grids left
 unfoldable pub tree_of : Reader → ℕ → Place → Out
@@ -68,9 +65,9 @@ from_bytes bs = record { field = field_of bs; evolution = λ p a. values_at bs (
 
 -- the same without what was read
 abbrev pub step_of : Out → Step
-step_of (Out.stops n at) = step.Stopped n at
-step_of (Out.reads t q) = step.Done q
+step_of (Out.stops n at) = Stop n at
+step_of (Out.reads t q) = Found q
 
 abbrev pub steps_of : Outs → Step
-steps_of (Outs.stops n at) = step.Stopped n at
-steps_of (Outs.reads ts q) = step.Done q
+steps_of (Outs.stops n at) = Stop n at
+steps_of (Outs.reads ts q) = Found q

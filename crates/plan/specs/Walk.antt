@@ -5,8 +5,7 @@ use Rattle.plan.specs.declared.Tally.{Tally}
 use Rattle.plan.specs.declared.AxesPlan.{AxesPlan}
 use Rattle.plan.specs.declared.BinsPlan.{BinsPlan}
 use Rattle.plan.specs.declared.Child.TheVariants as child
-use Rattle.plan.specs.declared.Field.{Field}
-use Rattle.plan.specs.declared.Field.TheVariants as field
+use Rattle.plan.specs.Judged.{Field, Stop, Found}
 use Rattle.plan.specs.Numbers.{words_at}
 use Rattle.plan.specs.Ranges.{bounded, most_of}
 use Rattle.plan.specs.Plan.{nothing}
@@ -39,14 +38,14 @@ evolved xs w a =
     ltb a.least 0x1_0000_0000 && (leb a.values 16 && (bounded (words_at xs (w + 11) a.values) && eqb a.most (most_of a.bins (words_at xs (w + 11) a.values))))
 
 abbrev pub strayed : Field
-strayed = field.Stop 12 0
+strayed = Stop 12 0
 
 unfoldable pub axes_at_word : List ℕ → ℕ → Place → Field
 axes_at_word xs l p =
     cond (not (placed xs l p.tally 9)) strayed
     (cond (not (eqb (axes_fault (axes_row xs p.tally.words) p.tally.left) 0)) strayed
     (cond (evolved xs p.tally.words (axes_row xs p.tally.words))
-    (field.Found (record {
+    (Found (record {
       child = child.Axes (axes_row xs p.tally.words);
       past = record { at = p.at; tally = axes_taken (axes_row xs p.tally.words) p.tally };
     }))
@@ -56,7 +55,7 @@ unfoldable pub bins_at_word : List ℕ → ℕ → Place → Field
 bins_at_word xs l p =
     cond (not (placed xs l p.tally 5)) strayed
     (cond (eqb (bins_fault (bins_row xs p.tally.words) p.tally.left l) 0)
-    (field.Found (record {
+    (Found (record {
       child = child.Bins (bins_row xs p.tally.words);
       past = record { at = p.at; tally = bins_taken (bins_row xs p.tally.words) p.tally };
     }))

@@ -19,10 +19,7 @@ pub fn floor_fits(bits: u64) -> bool
         return false;
     }
     let x = f64::from_bits(bits);
-    if 0.0 <= x {
-        return x <= 1.0;
-    }
-    false
+    0.0 <= x && x <= 1.0
 }
 
 // Whether a ratio is finite and at least 1.
@@ -34,8 +31,5 @@ pub fn ratio_fits(bits: u64) -> bool
     }
     let x = f64::from_bits(bits);
     let infinity = f64::from_bits(0x7ff0_0000_0000_0000);
-    if 1.0 <= x {
-        return x < infinity;
-    }
-    false
+    1.0 <= x && x < infinity
 }

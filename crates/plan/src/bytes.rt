@@ -6,13 +6,10 @@ ghost use Rattle.plan.specs.Numbers.{number_at};
 pub fn byte_at(bytes: &[u8], at: usize) -> usize
     ensures { (result ≡ get_or bytes.now at 0) × (result < 256) }
 {
-    if at < bytes.len() {
-        return bytes[at] as usize;
-    }
-    0
+    bytes.get(at).map_or(0, |byte| usize::from(*byte))
 }
 
-// The number of two bytes.
+// The number of two bytes. Each width by its halves, whose bounds give its own: over a const width these would be a law more.
 pub fn pair_at(bytes: &[u8], at: usize) -> usize
     requires { at ≤ length bytes.now + 131072 }
     ensures { (result ≡ number_at bytes.now at 2) × (result < 65536) }

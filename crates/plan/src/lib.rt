@@ -11,19 +11,21 @@ mod measuring;
 mod walking;
 mod writing;
 
-ghost use Rattle.std.specs.Prelude.{◌≡◌};
+ghost use Rattle.std.specs.Prelude.{IfErr, ◌≡◌};
 ghost use Rattle.plan.specs.Reading.{step_of};
+ghost use Rattle.plan.specs.Judged.{Found, judged};
 ghost use Rattle.plan.specs.Paper.{paper_read, paper_sized};
 ghost use Rattle.plan.specs.Needs.{needs_of};
-ghost use Rattle.plan.specs.Calls.{begin, end, grid_of, measure_of, measure_prefix_of, read_plan_of, read_prefix_of, sizes_of};
+ghost use Rattle.plan.specs.Calls.{begin, end, grid_of, measure_of, measure_prefix_of, read_plan_of, read_prefix_of, sizes_of, whole};
 
 use bytes::byte_at;
+use doubles::Refusal;
 use measuring::measure;
 use walking::known;
 use writing::write;
 
 // An axes grid's plan: the numbers of its 01; the largest of its bin numbers, and how many values its bin evolution has.
-// The values stay in the bytes, and then in the table.
+// The values stay in the bytes, and then in the table. The flag is the byte, which is judged (3) with the rest, and so no `bool` yet.
 #[derive(Clone, Copy)]
 pub struct AxesPlan {
     pub axes: usize,
@@ -75,22 +77,8 @@ pub struct BinPlan {
     pub past: Place,
 }
 
-// One field, judged.
-#[derive(Clone, Copy)]
-pub enum Field {
-    Stop { number: u64, at: usize },
-    Found(BinPlan),
-}
-
-// What a whole grid, or several, come to.
-#[derive(Clone, Copy)]
-pub enum Step {
-    Stopped { number: u64, at: usize },
-    Done(Place),
-}
-
 // What a plan needs: words of its table, reals and counts, each axis at its largest bin number; and its bins in all.
-#[derive(Clone, Copy)]
+#[derive(Clone, Copy, Debug, PartialEq, Eq)]
 pub struct Needs {
     pub words: usize,
     pub reals: usize,
@@ -98,18 +86,18 @@ pub struct Needs {
     pub bins: usize,
 }
 
-// What reading a plan answers: how many bytes it takes and what it needs, or a refusal's number and its field's offset.
-#[derive(Clone, Copy)]
-pub enum Read {
-    Plan { end: usize, needs: Needs },
-    Refused { number: u64, offset: usize },
+// A plan that was read: how many bytes it takes and what it needs.
+#[derive(Clone, Copy, Debug, PartialEq, Eq)]
+pub struct Read {
+    pub end: usize,
+    pub needs: Needs,
 }
 
-// What a table answers.
-#[derive(Clone, Copy)]
-pub enum Sized {
-    Plan(Needs),
-    Refused(u64),
+// Why bytes are no plan, and the offset of the field where that shows.
+#[derive(Clone, Copy, Debug, PartialEq, Eq)]
+pub struct Misread {
+    pub why: Refusal,
+    pub at: usize,
 }
 
 // Nothing taken, 64 grids to come.
@@ -129,6 +117,7 @@ fn start() -> Place
 }
 
 // What a plan needs, from the tally at its end.
+#[tactic(auto, unfolding(crate::specs::Needs::needs_of))]
 fn needs_of(t: Tally) -> Needs
     ensures { result ≡ needs_of t }
 {
@@ -140,115 +129,94 @@ fn needs_of(t: Tally) -> Needs
     }
 }
 
+// What was read up to a place.
+fn read_to(past: Place) -> Read
+    ensures { (result.end ≡ past.at) × (result.needs ≡ needs_of past.tally) }
+{
+    Read {
+        end: past.at,
+        needs: needs_of(past.tally),
+    }
+}
+
 // Judges the grid that the bytes begin with.
-fn judge(bytes: &[u8]) -> Step
-    ensures { result ≡ step_of (grid_of bytes.now) }
+fn judge(bytes: &[u8]) -> Result<Place, Misread>
+    ensures { judged result ≡ step_of (grid_of bytes.now) }
 {
     if byte_at(bytes, 0) == 4 {
-        return Step::Stopped { number: 1, at: 0 };
+        return Err(Misread {
+            why: Refusal::Malformed,
+            at: 0,
+        });
     }
     measure(4, start(), bytes)
 }
 
+// The same of all the bytes: behind the grid there is none.
+fn judge_whole(bytes: &[u8]) -> Result<Place, Misread>
+    ensures { judged result ≡ whole bytes.now (step_of (grid_of bytes.now)) }
+{
+    let past = judge(bytes)?;
+    if past.at < bytes.len() {
+        return Err(Misread {
+            why: Refusal::Malformed,
+            at: past.at,
+        });
+    }
+    Ok(past)
+}
+
 // Writes the table of a judged grid, where there is room for it.
-fn put(bytes: &[u8], past: Place, table: &mut [u64]) -> Read
-    requires { Step.Done past ≡ step_of (grid_of bytes.now) }
+fn put(bytes: &[u8], past: Place, table: &mut [u64]) -> Result<Read, Misread>
+    requires { Found past ≡ step_of (grid_of bytes.now) }
     ensures { end (paper_read result) table.new ≡ read_prefix_of bytes.now table.old }
 {
-    let taken = past.tally;
-    if table.len() < taken.words {
-        return Read::Refused {
-            number: 10,
-            offset: 0,
-        };
+    if table.len() < past.tally.words {
+        return Err(Misread {
+            why: Refusal::Room,
+            at: 0,
+        });
     }
     write(4, start(), bytes, table);
-    Read::Plan {
-        end: past.at,
-        needs: needs_of(taken),
-    }
+    Ok(read_to(past))
 }
 
 // Judges a whole plan and measures it: how many bytes it takes and what it needs.
-pub fn measure_plan(bytes: &[u8]) -> Read
+pub fn measure_plan(bytes: &[u8]) -> Result<Read, Misread>
     ensures { paper_read result ≡ measure_of bytes.now }
 {
-    match judge(bytes) {
-        Step::Stopped { number, at } => Read::Refused { number, offset: at },
-        Step::Done(past) => {
-            let at = past.at;
-            if at < bytes.len() {
-                return Read::Refused {
-                    number: 1,
-                    offset: at,
-                };
-            }
-            let taken = past.tally;
-            Read::Plan {
-                end: at,
-                needs: needs_of(taken),
-            }
-        }
-    }
+    Ok(read_to(judge_whole(bytes)?))
 }
 
 // Judges the shortest prefix that is a plan and measures it; what follows is not looked at, and nothing is written.
-pub fn measure_prefix(bytes: &[u8]) -> Read
+pub fn measure_prefix(bytes: &[u8]) -> Result<Read, Misread>
     ensures { paper_read result ≡ measure_prefix_of bytes.now }
 {
-    match judge(bytes) {
-        Step::Stopped { number, at } => Read::Refused { number, offset: at },
-        Step::Done(past) => {
-            let taken = past.tally;
-            Read::Plan {
-                end: past.at,
-                needs: needs_of(taken),
-            }
-        }
-    }
+    Ok(read_to(judge(bytes)?))
 }
 
 // Reads a whole plan and writes its table. Nothing is written where it is refused.
-pub fn read_plan(bytes: &[u8], table: &mut [u64]) -> Read
+pub fn read_plan(bytes: &[u8], table: &mut [u64]) -> Result<Read, Misread>
     ensures { end (paper_read result) table.new ≡ read_plan_of bytes.now table.old }
 {
-    match judge(bytes) {
-        Step::Stopped { number, at } => Read::Refused { number, offset: at },
-        Step::Done(past) => {
-            let at = past.at;
-            if at < bytes.len() {
-                return Read::Refused {
-                    number: 1,
-                    offset: at,
-                };
-            }
-            put(bytes, past, table)
-        }
-    }
+    put(bytes, judge_whole(bytes)?, table)
 }
 
 // Reads the shortest prefix that is a plan, and writes its table; what follows is not looked at.
-pub fn read_prefix(bytes: &[u8], table: &mut [u64]) -> Read
+pub fn read_prefix(bytes: &[u8], table: &mut [u64]) -> Result<Read, Misread>
     ensures { end (paper_read result) table.new ≡ read_prefix_of bytes.now table.old }
 {
-    match judge(bytes) {
-        Step::Stopped { number, at } => Read::Refused { number, offset: at },
-        Step::Done(past) => put(bytes, past, table),
-    }
+    put(bytes, judge(bytes)?, table)
 }
 
 // What the plan of a table needs; 12 where the table is not what reading some plan writes.
-pub fn sizes(table: &[u64]) -> Sized
-    ensures { paper_sized result ≡ sizes_of table.now }
+pub fn sizes(table: &[u64]) -> Result<Needs, Refusal>
+    ensures sized { paper_sized result ≡ sizes_of table.now }
+    ensures refused { IfErr result (λ why. why ≡ Refusal.State) }
 {
-    match known(4, start(), table) {
-        Step::Stopped { number: _, at: _ } => Sized::Refused(12),
-        Step::Done(past) => {
-            let taken = past.tally;
-            if taken.words <= table.len() {
-                return Sized::Plan(needs_of(taken));
-            }
-            Sized::Refused(12)
-        }
+    let past = known(4, start(), table).ok_or(Refusal::State)?;
+    if table.len() < past.tally.words {
+        return Err(Refusal::State);
     }
+    Ok(needs_of(past.tally))
 }

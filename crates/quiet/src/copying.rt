@@ -1,5 +1,6 @@
 // A copy without samples: what the plan needs goes to the front of the destination, and there the root's waiting samples go.
 ghost use Rattle.std.specs.Prelude.{◌≡◌, true, length};
+ghost use Rattle.doubles.specs.Refusal.{fault_of};
 ghost use Rattle.plan.specs.Paper.{gives};
 ghost use Rattle.plan.specs.Calls.{sizes_of};
 ghost use Rattle.model.specs.Sound.{sound};
@@ -10,13 +11,15 @@ ghost use Rattle.lent.specs.Cleared.{cleared_memory, cleared_axes, cleared_own, 
 ghost use Rattle.lent.specs.State.{root_of};
 ghost use Rattle.lent.specs.Calls.{clone_end, cloned_by};
 
-use crate::{onward, parts};
-use ground::{accounts, laying};
+use crate::onward;
+use doubles::Refusal;
+use ground::{accounts, laying, parts};
 use judges::state;
 use lent::{AxesAt, layout};
 use plan::Needs;
 
-// Nothing waits in any axis: edges, importances, extremes, counters and re-cuts stay.
+// Nothing waits in any axis: edges, importances, extremes, counters and re-cuts stay. A `while`: the axes left are counted in `left`, and a
+// range beside it would count them twice.
 pub fn clear_axes(reals: &mut [f64], counts: &mut [u64], g: AxesAt)
     requires { Stands reals.old counts.old g }
     ensures { memory reals.new counts.new ≡ cleared_memory g (memory reals.old counts.old) }
@@ -52,10 +55,8 @@ fn clear_own(table: &[u64], reals: &mut [f64], counts: &mut [u64], level: usize,
     let r = table[w + 5] as usize;
     let c = table[w + 6] as usize;
     let n = table[w + 2] as usize;
-    let mut i = 0;
-    while i < n {
+    for i in 0..n {
         accounts::clear(reals, counts, r + 14 + n + 14 * i, c + 7 + 7 * i);
-        i += 1;
     }
     accounts::clear(reals, counts, r, c);
 }
@@ -80,19 +81,16 @@ pub fn copy_grid(
     to_reals: &mut [f64],
     to_counts: &mut [u64],
     needs: Needs,
-) -> u64
+) -> Result<(), Refusal>
     requires { sizes_of table.now ≡ gives needs }
-    ensures { clone_end result (memory to_reals.new to_counts.new) ≡
+    ensures { clone_end (fault_of result) (memory to_reals.new to_counts.new) ≡
         cloned_by table.now (memory reals.now counts.now) (memory to_reals.old to_counts.old) needs }
 {
-    let refused = state::fault_to(table, reals, counts, to_reals.len(), to_counts.len());
-    if refused != 0 {
-        return refused;
-    }
+    state::fault_to(table, reals, counts, to_reals.len(), to_counts.len())?;
     let last = needs.reals;
     let end = needs.counts;
-    parts::put_reals(to_reals, 0, &reals[0..last]);
-    parts::put_counts(to_counts, 0, &counts[0..end]);
+    parts::set(to_reals, 0, &reals[0..last]);
+    parts::set(to_counts, 0, &counts[0..end]);
     clear_root(table, to_reals, to_counts);
-    0
+    Ok(())
 }

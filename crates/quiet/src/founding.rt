@@ -32,8 +32,7 @@ fn lay_own(table: &[u64], reals: &mut [f64], counts: &mut [u64], level: usize, w
     let n = table[w + 2] as usize;
     let even = plain::inv(plain::count(n as u64));
     accounts::store(reals, counts, r, c, StatisticsAccumulator::new());
-    let mut i = 0;
-    while i < n {
+    for i in 0..n {
         reals[r + 14 + i] = even;
         accounts::store(
             reals,
@@ -42,7 +41,6 @@ fn lay_own(table: &[u64], reals: &mut [f64], counts: &mut [u64], level: usize, w
             c + 7 + 7 * i,
             StatisticsAccumulator::new(),
         );
-        i += 1;
     }
 }
 
@@ -67,11 +65,9 @@ fn lay_children(table: &[u64], reals: &mut [f64], counts: &mut [u64], level: usi
         laid_children (laid_grid level table.now) table.now w 0 (get_or table.now (w + 2) 0) (memory reals.old counts.old) }
 {
     let n = table[w + 2] as usize;
-    let mut i = 0;
-    while i < n {
+    for i in 0..n {
         let link = table[w + 7 + i] as usize;
         lay_child(table, reals, counts, level, link);
-        i += 1;
     }
 }
 

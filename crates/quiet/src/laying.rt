@@ -27,11 +27,9 @@ pub fn lay_axes(reals: &mut [f64], counts: &mut [u64], g: AxesAt, n: usize)
 {
     let mut r = g.reals;
     let mut c = g.counts;
-    let mut done = 0;
-    while done < g.axes {
+    for done in 0..g.axes {
         lay_axis(reals, counts, g.most, r, c, n);
         r = r + (6 * g.most + 1);
         c = c + (3 * g.most + 2);
-        done += 1;
     }
 }

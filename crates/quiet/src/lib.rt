@@ -11,33 +11,33 @@ mod descent;
 mod founding;
 mod laying;
 mod onward;
-mod parts;
 mod probing;
 
 ghost use Rattle.std.specs.Prelude.{◌≡◌};
-ghost use Rattle.accumulator.specs.Calls.{paper_estimated, paper_summed};
-ghost use Rattle.axis.specs.Calls.{paper_probed};
+ghost use Rattle.doubles.specs.Refusal.{fault_of, paper};
 ghost use Rattle.plan.specs.Paper.{gives, plan_read, paper_read};
 ghost use Rattle.plan.specs.Calls.{measure_of};
 ghost use Rattle.lent.specs.Calls.{probe_of, summary_of, live_of, live_of_bin, fresh_end, founded_of, fresh_of, clone_end, clone_of};
 ghost use Rattle.lent.specs.Memory.{memory};
 
-use accumulator::{Estimated, Summed};
-use axis::Probed;
+use accumulator::{Estimate, Summary};
+use doubles::Refusal;
 use judges::state;
-use lent::Region;
-use plan::{Needs, Read, Sized};
+use lent::{Lent, Region};
+use plan::{Misread, Read};
 
 // Lays a plan's table and its fresh grid, where there is room for all of it. The answer is the plan's: its end and its needs, or a
 // refusal with its field's offset. Refused: 1, 2, 3 in the plan; 10. Nothing is written then.
-pub fn fresh(bytes: &[u8], table: &mut [u64], reals: &mut [f64], counts: &mut [u64]) -> Read
+pub fn fresh(
+    bytes: &[u8],
+    table: &mut [u64],
+    reals: &mut [f64],
+    counts: &mut [u64],
+) -> Result<Read, Misread>
     ensures { fresh_end (paper_read result) table.new (memory reals.new counts.new) ≡
         fresh_of bytes.now table.old (memory reals.old counts.old) }
 {
-    match plan::measure_plan(bytes) {
-        Read::Refused { number, offset } => Read::Refused { number, offset },
-        Read::Plan { end, needs } => found(bytes, table, reals, counts, end, needs),
-    }
+    found(bytes, table, reals, counts, plan::measure_plan(bytes)?)
 }
 
 // The plan is known: what it needs, then its table and its grid.
@@ -46,32 +46,31 @@ fn found(
     table: &mut [u64],
     reals: &mut [f64],
     counts: &mut [u64],
-    end: usize,
-    needs: Needs,
-) -> Read
-    requires { measure_of bytes.now ≡ gives (plan_read end needs) }
+    plan: Read,
+) -> Result<Read, Misread>
+    requires { measure_of bytes.now ≡ gives (plan_read plan.end plan.needs) }
     ensures { fresh_end (paper_read result) table.new (memory reals.new counts.new) ≡
-        founded_of bytes.now (plan_read end needs) table.old (memory reals.old counts.old) }
+        founded_of bytes.now (plan_read plan.end plan.needs) table.old (memory reals.old counts.old) }
 {
-    let short = Read::Refused {
-        number: 10,
-        offset: 0,
+    let short = Misread {
+        why: Refusal::Room,
+        at: 0,
     };
-    if table.len() < needs.words {
-        return short;
+    if table.len() < plan.needs.words {
+        return Err(short);
     }
-    if reals.len() < needs.reals {
-        return short;
+    if reals.len() < plan.needs.reals {
+        return Err(short);
     }
-    if counts.len() < needs.counts {
-        return short;
+    if counts.len() < plan.needs.counts {
+        return Err(short);
     }
     let read = plan::read_plan(bytes, table);
     founding::lay_grid(table, reals, counts, 4, 0);
     read
 }
 
-// A copy without the samples that wait in the root, laid in other lent memory; the plan's table serves both. 0, or refused: 12, 10, 12,
+// A copy without the samples that wait in the root, laid in other lent memory; the plan's table serves both. Refused: 12, 10, 12,
 // the destination's room behind the source's. It stays then, and so does its room past the copy.
 pub fn clone_without_samples(
     table: &[u64],
@@ -79,49 +78,53 @@ pub fn clone_without_samples(
     counts: &[u64],
     to_reals: &mut [f64],
     to_counts: &mut [u64],
-) -> u64
-    ensures { clone_end result (memory to_reals.new to_counts.new) ≡
+) -> Result<(), Refusal>
+    ensures { clone_end (fault_of result) (memory to_reals.new to_counts.new) ≡
         clone_of table.now (memory reals.now counts.now) (memory to_reals.old to_counts.old) }
 {
-    match plan::sizes(table) {
-        Sized::Plan(needs) => copying::copy_grid(table, reals, counts, to_reals, to_counts, needs),
-        Sized::Refused(_) => 12,
-    }
+    let needs = plan::sizes(table)?;
+    copying::copy_grid(table, reals, counts, to_reals, to_counts, needs)
 }
 
 // The weight at a point, or over the region that open coordinates leave; where the path ends at a bin and no coordinates are given,
 // from the probabilities alone. Refused: 12, 10, 12; 6, then 4, at each level of
 // the path; 4 for the number of coordinates; 5.
-pub fn probe(table: &[u64], reals: &[f64], counts: &[u64], p: Region) -> Probed
-    ensures { paper_probed result ≡ probe_of table.now reals.now counts.now p }
+pub fn probe(table: &[u64], reals: &[f64], counts: &[u64], p: Region) -> Result<f64, Refusal>
+    ensures { paper result ≡ probe_of table.now reals.now counts.now p }
 {
-    let refused = state::fault(table, reals, counts);
-    if refused != 0 {
-        return Probed::Refused(refused);
-    }
-    descent::probe_grid(table, reals, counts, 4, 0, p, 0)
+    state::fault(table, reals, counts)?;
+    let m = Lent {
+        table,
+        reals,
+        counts,
+    };
+    descent::probe_grid(m, 4, 0, p, 0)
 }
 
 // Iterations, samples, average, error and chi-squared of the whole grid, and whether it is flat. Refused: 12, 10, 12.
-pub fn summary(table: &[u64], reals: &[f64], counts: &[u64]) -> Summed
-    ensures { paper_summed result ≡ summary_of table.now reals.now counts.now }
+pub fn summary(table: &[u64], reals: &[f64], counts: &[u64]) -> Result<Summary, Refusal>
+    ensures { paper result ≡ summary_of table.now reals.now counts.now }
 {
-    let refused = state::fault(table, reals, counts);
-    if refused != 0 {
-        return Summed::Refused(refused);
-    }
-    along::own(table, reals, counts).summary()
+    state::fault(table, reals, counts)?;
+    let m = Lent {
+        table,
+        reals,
+        counts,
+    };
+    along::own(m).summary()
 }
 
 // Average, error and chi-squared as if the iteration ended now. Refused: 12, 10, 12; 8.
-pub fn live_estimate(table: &[u64], reals: &[f64], counts: &[u64]) -> Estimated
-    ensures { paper_estimated result ≡ live_of table.now reals.now counts.now }
+pub fn live_estimate(table: &[u64], reals: &[f64], counts: &[u64]) -> Result<Estimate, Refusal>
+    ensures { paper result ≡ live_of table.now reals.now counts.now }
 {
-    let refused = state::fault(table, reals, counts);
-    if refused != 0 {
-        return Estimated::Refused(refused);
-    }
-    along::own(table, reals, counts).get_live_estimate()
+    state::fault(table, reals, counts)?;
+    let m = Lent {
+        table,
+        reals,
+        counts,
+    };
+    along::own(m).get_live_estimate()
 }
 
 // The same of the bin at the end of a path. Refused: 12, 10, 12; 6, then 4, at each level of the path; 8.
@@ -131,12 +134,14 @@ pub fn live_estimate_of_bin(
     counts: &[u64],
     path: [usize; 4],
     levels: usize,
-) -> Estimated
-    ensures { paper_estimated result ≡ live_of_bin table.now reals.now counts.now path levels }
+) -> Result<Estimate, Refusal>
+    ensures { paper result ≡ live_of_bin table.now reals.now counts.now path levels }
 {
-    let refused = state::fault(table, reals, counts);
-    if refused != 0 {
-        return Estimated::Refused(refused);
-    }
-    along::estimate_along(table, reals, counts, 4, 0, path, levels, 0)
+    state::fault(table, reals, counts)?;
+    let m = Lent {
+        table,
+        reals,
+        counts,
+    };
+    along::estimate_along(m, 4, 0, path, levels, 0)
 }

@@ -1,4 +1,7 @@
 // From axis to axis: the axes of a grid without the first of them.
+//
+// merges has it too: what a library hands on asks nothing of its callers, and this asks that there is an axis and room for it; without that
+// it would have to test, or to wrap around, at each axis.
 ghost use Rattle.std.specs.Prelude.{◌≡◌, ◌+◌, ◌^◌, ◌≤◌, ◌<◌};
 ghost use Rattle.lent.specs.Layout.{axis_reals, axis_counts};
 ghost use Rattle.lent.specs.Onward.{onward};

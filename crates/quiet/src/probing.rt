@@ -4,13 +4,13 @@ ghost use Rattle.std.specs.Float.{binary64};
 ghost use Rattle.std.specs.Float.Ieee.{mul};
 ghost use Rattle.doubles.specs.Numbers.{one64};
 ghost use Rattle.axis.specs.Edges.{well_formed, in_unit, bin_of, weight_of};
-ghost use Rattle.axis.specs.Calls.{paper_probed};
+ghost use Rattle.doubles.specs.Refusal.{paper};
 ghost use Rattle.model.specs.Draw.{floored_of};
 ghost use Rattle.model.specs.Probe.{probe_all, through};
 ghost use Rattle.lent.specs.Drawn.{axes_at, Stands};
 ghost use Rattle.lent.specs.Probed.{coordinates_of, probed_of};
 
-use axis::Probed;
+use doubles::Refusal;
 use lent::{AxesAt, Coordinates};
 
 // Whether a coordinate is open or a number in [0, 1].
@@ -35,18 +35,17 @@ fn weigh_on(edges: &[f64], free: bool, x: f64, weight: f64) -> f64
 }
 
 // The product of the axes' weights. Refused: 5 at the first coordinate that is no number in [0, 1].
-fn weigh_axes(reals: &[f64], counts: &[u64], g: AxesAt, p: Coordinates) -> Probed
+fn weigh_axes(reals: &[f64], counts: &[u64], g: AxesAt, p: Coordinates) -> Result<f64, Refusal>
     requires { Stands reals.now counts.now g × (p.many ≡ g.axes) }
-    ensures { paper_probed result ≡ probe_all (axes_at reals.now counts.now g) (coordinates_of p) one64 }
+    ensures { paper result ≡ probe_all (axes_at reals.now counts.now g) (coordinates_of p) one64 }
 {
     let mut weight = 1.0;
     let mut left = g;
-    let mut done = 0;
-    while 0 < left.axes {
+    for done in 0..g.axes {
         let free = p.free[done];
         let x = p.at[done];
         if !is_fit(free, x) {
-            return Probed::Refused(5);
+            return Err(Refusal::Coordinate);
         }
         let place = left.counts;
         let held = counts[place] as usize;
@@ -54,28 +53,24 @@ fn weigh_axes(reals: &[f64], counts: &[u64], g: AxesAt, p: Coordinates) -> Probe
         let end = start + held + 1;
         weight = weigh_on(&reals[start..end], free, x, weight);
         left = crate::onward::after_first(left);
-        done += 1;
     }
-    Probed::Weight(weight)
+    Ok(weight)
 }
 
 // A probe's weight under a floor; a refusal stays.
-fn under_floor(floor: f64, probed: Probed) -> Probed
-    ensures { paper_probed result ≡ through (floored_of floor) (paper_probed probed) }
+fn under_floor(floor: f64, probed: Result<f64, Refusal>) -> Result<f64, Refusal>
+    ensures { paper result ≡ through (floored_of floor) (paper probed) }
 {
-    match probed {
-        Probed::Weight(weight) => Probed::Weight(ground::floors::floored(floor, weight)),
-        Probed::Refused(n) => Probed::Refused(n),
-    }
+    Ok(ground::floors::floored(floor, probed?))
 }
 
 // The weight at the coordinates, under the grid's floor. Refused: 4 where there is not one for each axis; 5.
-pub fn probe_axes(reals: &[f64], counts: &[u64], g: AxesAt, p: Coordinates) -> Probed
+pub fn probe_axes(reals: &[f64], counts: &[u64], g: AxesAt, p: Coordinates) -> Result<f64, Refusal>
     requires { Stands reals.now counts.now g }
-    ensures { paper_probed result ≡ probed_of g.floor (axes_at reals.now counts.now g) (coordinates_of p) }
+    ensures { paper result ≡ probed_of g.floor (axes_at reals.now counts.now g) (coordinates_of p) }
 {
     if p.many != g.axes {
-        return Probed::Refused(4);
+        return Err(Refusal::Form);
     }
     under_floor(g.floor, weigh_axes(reals, counts, g, p))
 }

@@ -31,10 +31,8 @@ fn series(r: f64) -> f64
     ensures { result ≡ exp_of r 14 }
 {
     let mut p = 1.0;
-    let mut n: u32 = 0;
-    while n < 14 {
+    for n in 0..14u32 {
         p = 1.0 + (r * p) / ((14 - n) as f64);
-        n += 1;
     }
     p
 }

@@ -31,10 +31,8 @@ pub fn series(m: f64, e: f64) -> f64
     let s = (m - 1.0) / (m + 1.0);
     let z = s * s;
     let mut c = 1.0 / 21.0;
-    let mut n: u32 = 0;
-    while n < 10 {
+    for n in 0..10u32 {
         c = 1.0 / ((19 - 2 * n) as f64) + z * c;
-        n += 1;
     }
     e * 0.6931471805599453 + (2.0 * s) * c
 }

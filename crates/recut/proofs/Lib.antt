@@ -3,7 +3,7 @@ pub mod Writes
 pub mod Pairs
 pub mod Counts
 pub mod Smooth
-pub mod Damp
+pub mod Totals
 pub mod Shares
 pub mod Walks
 pub mod Cuts

@@ -1,7 +1,9 @@
 -- `pairwise` as a loop does it: one pair more, and either list ended.
 use mathlib.Core.Path.{◌≡◌, refl, ap}
 use mathlib.Core.List.{List, [], ◌∷◌, ◌++◌}
-use Prim.Native.Nat.{ℕ, suc, ◌+◌, ◌≤◌, ◌<◌}
+use Prim.Native.Nat.{ℕ, suc, min, ◌+◌, ◌≤◌, ◌<◌}
+use native.Mathlib.Decide.{dec_lt}
+use native.Mathlib.Omega.{arith}
 use native.Mathlib.Numerals.{add-one}
 use lib.ListN.{length, get_or, take, drop, set, drop_of_length-le}
 use lib.Seq.{drop-cons}
@@ -26,6 +28,12 @@ module _ {A B : Type 0} (f : A → B → A) where
   pub pairs-out : (xs : List A) (ys : List B) (i : ℕ) → length xs ≤ i → take i xs ++ pairwise f (drop i xs) (drop i ys) ≡ xs
   unfolding pairwise
   pairs-out xs ys i h = rest-done xs i (λ (t : List A). pairwise f t (drop i ys)) (rw (drop_of_length-le xs h))
+
+  pub pairs-end : (xs : List A) (ys : List B) (i : ℕ) → min (length xs) (length ys) ≤ i → take i xs ++ pairwise f (drop i xs) (drop i ys) ≡ xs
+  pairs-end xs ys i h = elim (dec_lt (length xs) (length ys)) [
+    | yes l ↦ pairs-out xs ys i (omega arith)
+    | no n ↦ pairs-done xs ys i (omega arith)
+  ]
 
   pub pairs-length : (xs : List A) (ys : List B) → length (pairwise f xs ys) ≡ length xs
   unfolding pairwise

@@ -1,22 +1,13 @@
 -- Probabilities as their loops do them: one more, and the end.
 use mathlib.Core.Path.{◌≡◌}
 use mathlib.Core.Bool.{Bool, ◌&&◌, and_assoc, and-true}
-use mathlib.Core.List.{List, ◌++◌, map}
+use mathlib.Core.List.{List}
 use Prim.Native.Nat.{ℕ, ◌+◌, ◌≤◌, ◌<◌}
 use native.Mathlib.Numerals.{add-one}
-use lib.ListN.{length, get_or, take, drop, set, drop_of_length-le}
+use lib.ListN.{length, get_or, drop, drop_of_length-le}
 use lib.Seq.{drop-cons}
 use lib.Ieee.{Float, nan}
 use Rattle.recut.specs.Chances.{chance, all_chances, higher, highest}
-use Rattle.recut.proofs.Writes.{rest-next, rest-done}
-
--- every entry made by f
-pub map_next : (f : Float → Float) (l : List Float) (i : ℕ) (v : Float) → i < length l → v ≡ f (get_or l i nan)
-    → take (i + 1) (set l i v) ++ map f (drop (i + 1) (set l i v)) ≡ take i l ++ map f (drop i l)
-map_next f l i v h e = rest-next nan l i v (map f) (map f) h (rw e)
-
-pub map-end : (f : Float → Float) (l : List Float) (i : ℕ) → length l ≤ i → take i l ++ map f (drop i l) ≡ l
-map-end f l i h = rest-done l i (map f) (rw (drop_of_length-le l h))
 
 pub highest-next : (l : List Float) (i : ℕ) (t : Float) → i < length l → highest t (drop i l) ≡ highest (higher t (get_or l i nan)) (drop (i + 1) l)
 unfolding highest

@@ -1,5 +1,5 @@
 -- What `renew` answers: the refusals in their order, then the new edges.
-use Rattle.std.specs.Prelude.{ℕ, ◌+◌, ◌-◌, Bool, not, cond, ◌&&◌, List, leb, eqb, length, Float}
+use Rattle.std.specs.Prelude.{ℕ, ◌+◌, ◌-◌, Bool, not, cond, ◌&&◌, List, leb, eqb, length, Float, Result, Ok, Err}
 use Rattle.std.specs.Float.{binary64}
 use Rattle.std.specs.Float.Ieee.{div}
 use Rattle.doubles.specs.Numbers.{zero64}
@@ -7,16 +7,16 @@ use Rattle.doubles.specs.Count.{count_of}
 use Rattle.doubles.specs.Finite.{finite_of}
 use Rattle.doubles.specs.Total.{total_of, all_finite}
 use Rattle.doubles.specs.Paper.{Paper, gives, refuses}
+use Rattle.doubles.specs.Refusal.{number_of}
+use Rattle.doubles.specs.declared.refusal.Refusal.{Refusal}
 use Rattle.axis.specs.Edges.{well_formed}
-use Rattle.recut.specs.declared.Renewed.{Renewed}
-use Rattle.recut.specs.declared.Renewed.TheVariants as renewed
 use Rattle.recut.specs.Weights.{normalised, smoothed, damped}
 use Rattle.recut.specs.Cut.{cuts_of}
 
 -- the answer, with the edges that then stand in the room; after a refusal the room says nothing
-unfoldable pub paper_renewed : Renewed → List Float → Paper (List Float)
-paper_renewed renewed.Done room = gives room
-paper_renewed (renewed.Refused n) room = refuses n
+unfoldable pub paper_renewed : Result (Unit {0}) Refusal → List Float → Paper (List Float)
+paper_renewed (Ok u) room = gives room
+paper_renewed (Err r) room = refuses (number_of r)
 
 -- the lengths of one axis, else 10: some bins, an edge more, as many counters, and places for at least one new bin
 unfoldable pub lengths_fit : List Float → List Float → List ℕ → ℕ → Bool

@@ -3,6 +3,8 @@ ghost use Rattle.std.specs.Prelude.{◌≡◌, map};
 ghost use Rattle.doubles.specs.Numbers.{zero64};
 ghost use Rattle.recut.specs.Chances.{chance, all_chances, higher, highest, raised_to, share_of};
 
+use crate::each;
+
 // The second where it is above the first, else the first.
 fn higher_of(top: f64, p: f64) -> f64
     ensures { result ≡ higher top p }
@@ -18,10 +20,8 @@ pub fn highest_of(ps: &[f64]) -> f64
     ensures { result ≡ highest zero64 ps.now }
 {
     let mut top = 0.0;
-    let mut i = 0;
-    while i < ps.len() {
-        top = higher_of(top, ps[i]);
-        i += 1;
+    for p in ps {
+        top = higher_of(top, *p);
     }
     top
 }
@@ -40,11 +40,7 @@ fn raised(least: f64, p: f64) -> f64
 pub fn raise(ps: &mut [f64], least: f64)
     ensures { ps.new ≡ map (raised_to least) ps.old }
 {
-    let mut i = 0;
-    while i < ps.len() {
-        ps[i] = raised(least, ps[i]);
-        i += 1;
-    }
+    each::map(ps, |p| raised(least, p));
 }
 
 // A probability out of its share in the total.
@@ -58,15 +54,11 @@ fn share_of(total: f64, q: f64) -> f64
 pub fn divide(ps: &mut [f64], total: f64)
     ensures { ps.new ≡ map (share_of total) ps.old }
 {
-    let mut i = 0;
-    while i < ps.len() {
-        ps[i] = share_of(total, ps[i]);
-        i += 1;
-    }
+    each::map(ps, |p| share_of(total, p));
 }
 
 // Whether a probability is finite and above 0.
-fn is_chance(p: f64) -> bool
+pub fn is_chance(p: f64) -> bool
     ensures { result ≡ chance p }
 {
     plain::finite(p) & (0.0 < p)
@@ -77,10 +69,8 @@ pub fn are_chances(ps: &[f64]) -> bool
     ensures { result ≡ all_chances ps.now }
 {
     let mut ok = true;
-    let mut i = 0;
-    while i < ps.len() {
-        ok = ok & is_chance(ps[i]);
-        i += 1;
+    for p in ps {
+        ok = ok & is_chance(*p);
     }
     ok
 }

@@ -14,31 +14,21 @@ fn seek(weights: &[f64], target: f64, from: Spot) -> Spot
     requires { from.bin < length weights.now }
     ensures { (result ≡ walk_to weights.now target from) × (result.bin < length weights.now) }
 {
-    let mut acc = from.passed;
-    let mut j = from.bin;
-    while j + 1 < weights.len() {
-        let next = acc + weights[j];
+    let mut passed = from.passed;
+    let last = weights.len() - 1;
+    for bin in from.bin..last {
+        let next = passed + weights[bin];
         if next < target {
-            acc = next;
-            j += 1;
+            passed = next;
         } else {
-            return Spot {
-                passed: acc,
-                bin: j,
-            };
+            return Spot { passed, bin };
         }
     }
-    let last = acc + weights[j];
-    if last < target {
-        return Spot {
-            passed: last,
-            bin: j,
-        };
+    let next = passed + weights[last];
+    if next < target {
+        passed = next;
     }
-    Spot {
-        passed: acc,
-        bin: j,
-    }
+    Spot { passed, bin: last }
 }
 
 // The edge as deep in the spot's bin as the target lies in its weight.
@@ -63,12 +53,10 @@ pub fn cut(edges: &[f64], weights: &[f64], step: f64, room: &mut [f64])
         bin: 0,
     };
     let mut target = 0.0;
-    let mut i = 1;
-    while i < n {
+    for i in 1..n {
         target = target + step;
         s = seek(weights, target, s);
         room[i] = edge_at(edges, weights, target, s);
-        i += 1;
     }
     room[n - 1] = 1.0;
 }

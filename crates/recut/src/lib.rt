@@ -7,6 +7,7 @@
 
 mod chances;
 mod cut;
+mod each;
 mod weights;
 
 ghost use Rattle.std.specs.Prelude.{◌≡◌, ◌<◌, ◌≤◌, length};
@@ -14,26 +15,18 @@ ghost use Rattle.recut.specs.Gather.{gathered_of, joined_count, joined_counts, r
 ghost use Rattle.recut.specs.Chances.{all_chances, adapted_to};
 ghost use Rattle.recut.specs.Renew.{paper_renewed, lengths_fit, from_damped, from_divided, renew_of};
 
-// The new edges stand in the room, or a refusal's number.
-#[derive(Clone, Copy)]
-pub enum Renewed {
-    Done,
-    Refused(u64),
-}
+pub use chances::is_chance;
+use doubles::Refusal;
 
 // Adds element by element, over the shorter length.
 pub fn gather(importances: &mut [f64], added: &[f64])
     ensures { importances.new ≡ gathered_of importances.old added.now }
 {
-    let mut i = 0;
-    while i < importances.len() && i < added.len() {
-        importances[i] = importances[i] + added[i];
-        i += 1;
-    }
+    each::pair(importances, added, |x, y| x + y);
 }
 
 // A count with its waiting samples, where neither is above 2^53; else the count alone.
-fn joined_count(n: u64, waiting: u64) -> u64
+pub fn joined_count(n: u64, waiting: u64) -> u64
     ensures { result ≡ joined_count n waiting }
 {
     if n <= 9007199254740992 {
@@ -48,11 +41,7 @@ fn joined_count(n: u64, waiting: u64) -> u64
 pub fn gather_counts(counters: &mut [u64], waiting: &[u64])
     ensures { counters.new ≡ joined_counts counters.old waiting.now }
 {
-    let mut i = 0;
-    while i < counters.len() && i < waiting.len() {
-        counters[i] = joined_count(counters[i], waiting[i]);
-        i += 1;
-    }
+    each::pair(counters, waiting, joined_count);
 }
 
 // Whether the counters' sum is at least `least`: it is taken from `least`, so nothing overflows.
@@ -60,13 +49,11 @@ pub fn reaches(counters: &[u64], least: u64) -> bool
     ensures { result ≡ reaches_of least counters.now }
 {
     let mut rest = least;
-    let mut i = 0;
-    while i < counters.len() {
-        if rest <= counters[i] {
+    for n in counters {
+        if rest <= *n {
             return true;
         }
-        rest = rest - counters[i];
-        i += 1;
+        rest = rest - *n;
     }
     rest == 0
 }
@@ -89,32 +76,37 @@ fn lengths_fit(edges: &[f64], importances: &[f64], counters: &[u64], room: &[f64
 }
 
 // The room's edges, cut by damped importances. Refused: 8, 9.
-fn from_damped(edges: &[f64], damped: &[f64], room: &mut [f64]) -> Renewed
+fn from_damped(edges: &[f64], damped: &[f64], room: &mut [f64]) -> Result<(), Refusal>
     requires { (0 < length damped.now) × (length damped.now < length edges.now) × (2 ≤ length room.old) }
     ensures { paper_renewed result room.new ≡ from_damped edges.now damped.now (length room.old) }
 {
     let weight = weights::total(damped);
     if !plain::finite(weight) {
-        return Renewed::Refused(8);
+        return Err(Refusal::Overflow);
     }
     let step = weight / plain::count((room.len() - 1) as u64);
     cut::cut(edges, damped, step, room);
     if !axis::scans::is_well_formed(room) {
-        return Renewed::Refused(9);
+        return Err(Refusal::Edges);
     }
-    Renewed::Done
+    Ok(())
 }
 
 // The room's edges, cut by importances that are divided by their counts: these are smoothed and damped first. An importance
 // that is not finite, at whatever stage, leaves the next total not finite, so only the two totals are tested. Refused: 8, 9.
-fn from_divided(edges: &[f64], importances: &mut [f64], rate: f64, room: &mut [f64]) -> Renewed
+fn from_divided(
+    edges: &[f64],
+    importances: &mut [f64],
+    rate: f64,
+    room: &mut [f64],
+) -> Result<(), Refusal>
     requires { (0 < length importances.old) × (length importances.old < length edges.now) × (2 ≤ length room.old) }
     ensures { paper_renewed result room.new ≡ from_divided edges.now importances.old rate (length room.old) }
 {
     weights::smoothen(importances);
     let total = weights::total(importances);
     if !plain::finite(total) {
-        return Renewed::Refused(8);
+        return Err(Refusal::Overflow);
     }
     weights::damp(importances, total, rate);
     from_damped(edges, importances, room)
@@ -128,12 +120,12 @@ pub fn renew(
     counters: &[u64],
     rate: f64,
     room: &mut [f64],
-) -> Renewed
+) -> Result<(), Refusal>
     ensures { paper_renewed result room.new ≡
         renew_of edges.now importances.old counters.now rate (length room.old) }
 {
     if !lengths_fit(edges, importances, counters, room) {
-        return Renewed::Refused(10);
+        return Err(Refusal::Room);
     }
     weights::normalise(importances, counters);
     from_divided(edges, importances, rate, room)

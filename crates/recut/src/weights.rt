@@ -4,6 +4,8 @@ ghost use Rattle.doubles.specs.Numbers.{zero64};
 ghost use Rattle.doubles.specs.Total.{total_of};
 ghost use Rattle.recut.specs.Weights.{per_count, normalised, smoothed, damp_share, damp_one, damped};
 
+use crate::each;
+
 // The size of an importance, divided by its count where that is above 0.
 fn per_count(importance: f64, counter: u64) -> f64
     ensures { result ≡ per_count importance counter }
@@ -20,11 +22,7 @@ pub fn normalise(importances: &mut [f64], counters: &[u64])
     requires { length counters.now ≡ length importances.old }
     ensures { importances.new ≡ normalised importances.old counters.now }
 {
-    let mut i = 0;
-    while i < counters.len() {
-        importances[i] = per_count(importances[i], counters[i]);
-        i += 1;
-    }
+    each::pair(importances, counters, per_count);
 }
 
 // Each importance with its neighbours, as they were before: three parts of four at the ends, six of eight between.
@@ -38,13 +36,11 @@ pub fn smoothen(importances: &mut [f64])
     let mut prev = importances[0];
     let mut cur = importances[1];
     importances[0] = (3.0 * prev + cur) / 4.0;
-    let mut bin = 1;
-    while bin + 1 < n {
+    for bin in 1..n - 1 {
         let s = prev + cur * 6.0;
         prev = cur;
         cur = importances[bin + 1];
         importances[bin] = (s + cur) / 8.0;
-        bin += 1;
     }
     importances[n - 1] = (prev + 3.0 * cur) / 4.0;
 }
@@ -54,10 +50,8 @@ pub fn total(importances: &[f64]) -> f64
     ensures { result ≡ total_of zero64 importances.now }
 {
     let mut sum = 0.0;
-    let mut i = 0;
-    while i < importances.len() {
-        sum = sum + importances[i];
-        i += 1;
+    for x in importances {
+        sum = sum + *x;
     }
     sum
 }
@@ -89,9 +83,5 @@ fn damp_one(importance: f64, total: f64, rate: f64) -> f64
 pub fn damp(importances: &mut [f64], total: f64, rate: f64)
     ensures { importances.new ≡ damped total rate importances.old }
 {
-    let mut i = 0;
-    while i < importances.len() {
-        importances[i] = damp_one(importances[i], total, rate);
-        i += 1;
-    }
+    each::map(importances, |x| damp_one(x, total, rate));
 }

@@ -1,24 +1,10 @@
 // A list's records as records of the accumulator, and words held against the list. A list here begins with the record at hand.
 use accumulator::StatisticsAccumulator;
-use answers::{bits, double, word};
-use std::num::wrapping_add_usize;
-
-// Whether the words from a place on are these.
-fn holds(list: &[u8], at: usize, values: &[u64]) -> bool {
-    let mut agrees = true;
-    let mut i = 0;
-    while i < values.len() {
-        agrees = agrees & (word(list, wrapping_add_usize(at, i)) == values[i]);
-        i += 1;
-    }
-    agrees
-}
+use answers::{bits, double, holds, word};
 
 // Whether the words from a place on are these three doubles.
 pub fn holds_three(list: &[u8], at: usize, x: f64, y: f64, z: f64) -> bool {
-    (word(list, at) == bits(x))
-        & (word(list, wrapping_add_usize(at, 1)) == bits(y))
-        & (word(list, wrapping_add_usize(at, 2)) == bits(z))
+    holds(list, at, &[bits(x), bits(y), bits(z)])
 }
 
 // Whether the 21 words from a place on are the record's.

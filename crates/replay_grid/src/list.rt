@@ -1,35 +1,53 @@
 // The words of a list as the calls' arguments, and held against their answers. A list here begins with the record at hand.
 ghost use Rattle.std.specs.Prelude.{◌*◌, ◌<◌, ◌≤◌, length};
 
-use answers::{bits, double, word};
-use grid::{Coordinates, Region, Sample};
-use std::num::wrapping_add_usize;
+use answers::{below, bits, double, holds, word};
+use grid::{Coordinates, Refusal, Region, Sample};
 use stream::MonteCarloRng;
 
-// A call's end: whether it agrees with the list, and the stream behind it.
-#[derive(Clone, Copy)]
-pub struct Called {
-    pub agrees: bool,
-    pub stream: MonteCarloRng,
+// The number of an answer: its refusal's, or 0.
+pub fn number_of(answer: Result<(), Refusal>) -> u64 {
+    match answer {
+        Ok(()) => 0,
+        Err(why) => why.number(),
+    }
+}
+
+// Whether an answer is the list's: the refusal's number at a place, or a 0 there and the value behind it.
+// replay_accumulator has the same one: `answers`, which they share, is built on nothing and knows no refusals.
+pub fn holds_answer<T, Same: Fn(usize, T) -> bool>(
+    list: &[u8],
+    at: usize,
+    answer: Result<T, Refusal>,
+    same: Same,
+) -> bool
+    requires in_list { at < 64 }
+    requires callable { Same.IsAlwaysCallable same }
+{
+    match answer {
+        Ok(value) => (word(list, at) == 0) & same(at + 1, value),
+        Err(why) => word(list, at) == why.number(),
+    }
 }
 
 // Whether the words from a place on are these doubles.
 pub fn holds_doubles(list: &[u8], at: usize, values: &[f64]) -> bool {
     let mut agrees = true;
-    let mut i = 0;
-    while i < values.len() {
-        agrees = agrees & (word(list, wrapping_add_usize(at, i)) == bits(values[i]));
-        i += 1;
+    for (i, value) in values.iter().enumerate() {
+        agrees = agrees & (word(list, at.saturating_add(i)) == bits(*value));
     }
     agrees
 }
 
 // Whether the words from the fifth on are this path.
 fn holds_path(list: &[u8], path: [usize; 4]) -> bool {
-    (word(list, 4) == path[0] as u64)
-        & (word(list, 5) == path[1] as u64)
-        & (word(list, 6) == path[2] as u64)
-        & (word(list, 7) == path[3] as u64)
+    let words = [
+        path[0] as u64,
+        path[1] as u64,
+        path[2] as u64,
+        path[3] as u64,
+    ];
+    holds(list, 4, &words)
 }
 
 // Whether a sample is that of the list: path, weights and coordinates, each behind its number.
@@ -47,34 +65,14 @@ pub fn holds_sample(list: &[u8], s: Sample) -> bool {
 
 // Whether the stream behind a drawing is that of the list.
 pub fn holds_stream(list: &[u8], stream: MonteCarloRng) -> bool {
-    (word(list, 23) == stream.s0)
-        & (word(list, 24) == stream.s1)
-        & (word(list, 25) == stream.s2)
-        & (word(list, 26) == stream.s3)
-}
-
-// A number of the list, 0 where it is not below the bound.
-pub fn below(list: &[u8], index: usize, bound: u64) -> usize
-    requires { (0 < bound) × (bound < 1048576) }
-    ensures { result < bound }
-{
-    let x = word(list, index);
-    if x < bound {
-        return x as usize;
-    }
-    0
+    holds(list, 23, &[stream.s0, stream.s1, stream.s2, stream.s3])
 }
 
 // How many words the plan at the list's begin has with its calls, no more than there are.
 pub fn words_of(list: &[u8]) -> usize
     ensures { result * 17 ≤ length list.now }
 {
-    let all = list.len() / 17;
-    let own = 1 + below(list, 0, 4096);
-    if own < all {
-        return own;
-    }
-    all
+    (1 + below(list, 0, 4096)).min(list.len() / 17)
 }
 
 // Where the calls of the plan at the list's begin begin: behind its bytes and its stream.
@@ -95,24 +93,6 @@ pub fn stream_of(list: &[u8]) -> MonteCarloRng {
     }
 }
 
-// One of the eight bytes of a word.
-fn byte_of(list: &[u8], index: usize, place: u64) -> u8
-    requires { place < 8 }
-{
-    ((word(list, index) >> (8 * place)) % 256) as u8
-}
-
-// The bytes that stand from the third word on, as many as there is room for.
-pub fn load(list: &[u8], room: &mut [u8])
-    requires { length room.old < 1048576 }
-{
-    let mut i = 0;
-    while i < room.len() {
-        room[i] = byte_of(list, 2 + i / 8, (i % 8) as u64);
-        i += 1;
-    }
-}
-
 // The indices of a path.
 pub fn path_at(list: &[u8], at: usize) -> [usize; 4]
     requires { at < 64 }
@@ -130,10 +110,8 @@ fn doubles_at(list: &[u8], at: usize) -> [f64; 8]
     requires { at < 64 }
 {
     let mut doubles = [0.0f64; 8];
-    let mut i = 0;
-    while i < 8 {
-        doubles[i] = double(word(list, at + i));
-        i += 1;
+    for (i, x) in doubles.iter_mut().enumerate() {
+        *x = double(word(list, at + i));
     }
     doubles
 }
@@ -151,10 +129,8 @@ fn marks_at(list: &[u8], at: usize) -> [bool; 8]
     requires { at < 64 }
 {
     let mut marks = [false; 8];
-    let mut i = 0;
-    while i < 8 {
-        marks[i] = word(list, at + i) == 1;
-        i += 1;
+    for (i, mark) in marks.iter_mut().enumerate() {
+        *mark = word(list, at + i) == 1;
     }
     marks
 }

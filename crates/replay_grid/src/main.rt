@@ -3,6 +3,7 @@
 // The list is that of `oracle/target/release/answers grid 3 150`.
 #![tactic(auto)]
 
+mod call;
 mod calls;
 mod list;
 mod memory;
@@ -27,8 +28,7 @@ fn read(rt: &HostRuntime, text: &mut [u8]) -> io::Result<usize>
 // length and not its zeros.
 fn run(rt: &HostRuntime, text: &mut [u8; 2097152]) -> io::Result<()> {
     let words = read(rt, text)?;
-    let tally = calls::replay(text, words);
-    tally::print(rt, &tally)
+    calls::replay(text, words).print(rt)
 }
 
 fn main(rt: HostRuntime) -> io::Result<()> {

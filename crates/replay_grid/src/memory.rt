@@ -1,79 +1,158 @@
-// Lent memory: one cell set, and a mark of all that a plan needs.
-ghost use Rattle.std.specs.Prelude.{◌≤◌};
+// Lent memory: a plan's table and two states of its grid, the calls on them, and a mark of all that a plan needs.
+use answers::bits;
+use grid::{Needs, Refusal, Sample};
+use stream::MonteCarloRng;
 
-use answers::{bits, double, word};
-use plan::Sized;
+// A grid's state.
+#[derive(Drop)]
+pub struct Memory {
+    pub reals: [f64; 16384],
+    pub counts: [u64; 8192],
+}
 
-pub type Table = [u64; 8192];
+// A plan's table, two states of its grid, and the stream of its draws. Calls are made on the first state.
+#[derive(Drop)]
+pub struct Lent {
+    pub table: [u64; 8192],
+    pub own: Memory,
+    pub other: Memory,
+    pub stream: MonteCarloRng,
+}
 
-pub type Reals = [f64; 16384];
+impl Lent {
+    // A sample drawn from the stream.
+    pub fn draw(&mut self) -> Result<Sample, Refusal> {
+        let drawing = grid::draw(&self.table, &self.own.reals, &self.own.counts, self.stream)?;
+        self.stream = drawing.stream;
+        Ok(drawing.sample)
+    }
 
-pub type Counts = [u64; 8192];
+    // A sample's evaluation, with its number.
+    pub fn train(&mut self, sample: Sample, evaluation: f64, number: u64) -> Result<(), Refusal> {
+        grid::train(
+            &self.table,
+            &mut self.own.reals,
+            &mut self.own.counts,
+            sample,
+            evaluation,
+            number,
+        )
+    }
+
+    // An update, on a spare that holds other numbers.
+    pub fn update(&mut self, bins_rate: f64, axes_rate: f64) -> Result<(), Refusal> {
+        let mut spare_reals = [1.0f64; 16384];
+        let mut spare_counts = [1u64; 8192];
+        grid::update(
+            &self.table,
+            &mut self.own.reals,
+            &mut self.own.counts,
+            &mut spare_reals,
+            &mut spare_counts,
+            bins_rate,
+            axes_rate,
+        )
+    }
+
+    // A copy of the first state in the other.
+    pub fn copy(&mut self) -> Result<(), Refusal> {
+        grid::clone_without_samples(
+            &self.table,
+            &self.own.reals,
+            &self.own.counts,
+            &mut self.other.reals,
+            &mut self.other.counts,
+        )
+    }
+
+    // A copy of the other state in the first.
+    pub fn copy_back(&mut self) -> Result<(), Refusal> {
+        grid::clone_without_samples(
+            &self.table,
+            &self.other.reals,
+            &self.other.counts,
+            &mut self.own.reals,
+            &mut self.own.counts,
+        )
+    }
+
+    // Whether the other state merges into the first; the plan's table serves both.
+    pub fn is_mergeable(&self) -> Result<(), Refusal> {
+        grid::is_mergeable(
+            &self.table,
+            &self.own.reals,
+            &self.own.counts,
+            &self.table,
+            &self.other.reals,
+            &self.other.counts,
+        )
+    }
+
+    // The other state merged into the first.
+    pub fn merge(&mut self) -> Result<(), Refusal> {
+        grid::merge(
+            &self.table,
+            &mut self.own.reals,
+            &mut self.own.counts,
+            &self.table,
+            &self.other.reals,
+            &self.other.counts,
+        )
+    }
+}
+
+impl Memory {
+    // Zeros.
+    pub fn new() -> Memory {
+        Memory {
+            reals: [0.0; 16384],
+            counts: [0; 8192],
+        }
+    }
+
+    // A cell of the reals set; none where there is no such place.
+    pub fn set_real(&mut self, place: usize, x: f64) {
+        if place < self.reals.len() {
+            self.reals[place] = x;
+        }
+    }
+
+    // The same for counts.
+    pub fn set_count(&mut self, place: usize, x: u64) {
+        if place < self.counts.len() {
+            self.counts[place] = x;
+        }
+    }
+
+    // The mark of all that the table's plan needs, what is room now among it; 0 where there is not so much.
+    pub fn mark(&self, table: &[u64; 8192]) -> u64 {
+        match plan::sizes(table) {
+            Ok(needs) => self.mark_front(needs),
+            Err(_) => 0,
+        }
+    }
+
+    // The mark of what is needed.
+    fn mark_front(&self, needs: Needs) -> u64 {
+        if self.reals.len() < needs.reals || self.counts.len() < needs.counts {
+            return 0;
+        }
+        let mut mark = 0xcbf2_9ce4_8422_2325;
+        for x in &self.reals[..needs.reals] {
+            mark = mixed(mark, bits(*x));
+        }
+        for count in &self.counts[..needs.counts] {
+            mark = mixed(mark, *count);
+        }
+        mark
+    }
+}
 
 // A word joined to the mark; sums and halves shifted then spread it over all bits.
 fn mixed(mark: u64, word: u64) -> u64 {
     let joined = mark ^ word;
-    let up = std::num::wrapping_add_u64(joined, joined << 21);
+    let up = joined.wrapping_add(joined << 21);
     let down = up ^ (up >> 24);
-    let again = std::num::wrapping_add_u64(down, down << 8);
+    let again = down.wrapping_add(down << 8);
     again ^ (again >> 14)
-}
-
-// The bits of as many doubles joined to the mark, any NaN as 7ff8000000000000.
-fn mark_reals(start: u64, reals: &Reals, end: usize) -> u64
-    requires { end ≤ 16384 }
-{
-    let mut mark = start;
-    let mut i = 0;
-    while i < end {
-        mark = mixed(mark, bits(reals[i]));
-        i += 1;
-    }
-    mark
-}
-
-// The same for counts.
-fn mark_counts(start: u64, counts: &Counts, end: usize) -> u64
-    requires { end ≤ 8192 }
-{
-    let mut mark = start;
-    let mut i = 0;
-    while i < end {
-        mark = mixed(mark, counts[i]);
-        i += 1;
-    }
-    mark
-}
-
-// The mark of as many reals and counts; 0 where there are not so many.
-fn mark_front(reals: &Reals, counts: &Counts, last: usize, end: usize) -> u64 {
-    if 16384 < last {
-        return 0;
-    }
-    if 8192 < end {
-        return 0;
-    }
-    let mark = mark_reals(0xcbf2_9ce4_8422_2325, reals, last);
-    mark_counts(mark, counts, end)
-}
-
-// The mark of all that the table's plan needs, what is room now among it.
-pub fn mark(table: &Table, reals: &Reals, counts: &Counts) -> u64 {
-    match plan::sizes(table) {
-        Sized::Plan(needs) => mark_front(reals, counts, needs.reals, needs.counts),
-        Sized::Refused(_) => 0,
-    }
-}
-
-// A cell of the reals, or of the counts where the list's third word is not 0; none where there is no such place.
-pub fn put(list: &[u8], reals: &mut Reals, counts: &mut Counts) {
-    let place = word(list, 3) as usize;
-    let x = word(list, 4);
-    if word(list, 2) == 0 {
-        if place < 16384 {
-            reals[place] = double(x);
-        }
-    } else if place < 8192 {
-        counts[place] = x;
-    }
 }

@@ -2,184 +2,78 @@
 // memory after it, refused or not.
 ghost use Rattle.std.specs.Prelude.{◌<◌};
 
-use crate::list::Called;
-use crate::memory::{Counts, Reals, Table};
-use crate::{list, memory};
+use crate::list::{number_of, sample_at};
+use crate::memory::{Lent, Memory};
 use answers::{double, word};
-use grid::{Drawing, Drawn};
-use stream::MonteCarloRng;
+use grid::Refusal;
 
-// Whether a number and the mark of the memory are those of the list.
+// Whether an answer and the mark of a memory are those of the list.
 fn holds_end(
     list: &[u8],
     at: usize,
-    number: u64,
-    table: &Table,
-    reals: &Reals,
-    counts: &Counts,
+    answer: Result<(), Refusal>,
+    table: &[u64; 8192],
+    memory: &Memory,
 ) -> bool
     requires { at < 64 }
 {
-    (word(list, at) == number) & (word(list, at + 1) == memory::mark(table, reals, counts))
+    (word(list, at) == number_of(answer)) & (word(list, at + 1) == memory.mark(table))
 }
 
-// The sample of a training: that of the list, or of kind 12 one that is drawn.
-fn sample_of(
-    list: &[u8],
-    kind: usize,
-    stream: MonteCarloRng,
-    table: &Table,
-    reals: &Reals,
-    counts: &Counts,
-) -> Drawn {
-    if kind == 12 {
-        return grid::draw(table, reals, counts, stream);
+// train of the list's sample
+pub fn train(list: &[u8], lent: &mut Lent) -> bool {
+    let answer = lent.train(sample_at(list), double(word(list, 22)), word(list, 23));
+    holds_end(list, 24, answer, &lent.table, &lent.own)
+}
+
+// What a draw and the training of what was drawn answer: the first refusal.
+fn drawn_and_trained(list: &[u8], lent: &mut Lent) -> Result<(), Refusal> {
+    let sample = lent.draw()?;
+    lent.train(sample, double(word(list, 2)), word(list, 3))
+}
+
+// draw, and train of what was drawn
+pub fn draw_and_train(list: &[u8], lent: &mut Lent) -> bool {
+    let answer = drawn_and_trained(list, lent);
+    holds_end(list, 4, answer, &lent.table, &lent.own)
+}
+
+// update
+pub fn update(list: &[u8], lent: &mut Lent) -> bool {
+    let answer = lent.update(double(word(list, 2)), double(word(list, 3)));
+    holds_end(list, 4, answer, &lent.table, &lent.own)
+}
+
+// A cell of the reals, or of the counts where the list's third word is not 0.
+pub fn set_cell(list: &[u8], lent: &mut Lent) -> bool {
+    let place = word(list, 3) as usize;
+    let x = word(list, 4);
+    if word(list, 2) == 0 {
+        lent.own.set_real(place, double(x));
+    } else {
+        lent.own.set_count(place, x);
     }
-    let sample = list::sample_at(list);
-    Drawn {
-        refused: 0,
-        drawing: Drawing { sample, stream },
+    holds_end(list, 5, Ok(()), &lent.table, &lent.own)
+}
+
+// clone_without_samples into the other memory, or back from it where the list's third word is not 0
+pub fn copy(list: &[u8], lent: &mut Lent) -> bool {
+    if word(list, 2) == 0 {
+        let answer = lent.copy();
+        holds_end(list, 3, answer, &lent.table, &lent.other)
+    } else {
+        let answer = lent.copy_back();
+        holds_end(list, 3, answer, &lent.table, &lent.own)
     }
-}
-
-// train of what was drawn, its evaluation and its number at a place of the list: the number of the first that is refused
-fn train(
-    list: &[u8],
-    at: usize,
-    drawn: Drawn,
-    table: &Table,
-    reals: &mut Reals,
-    counts: &mut Counts,
-) -> u64
-    requires { at < 32 }
-{
-    if drawn.refused != 0 {
-        return drawn.refused;
-    }
-    let drawing = drawn.drawing;
-    let evaluation = double(word(list, at));
-    let number = word(list, at + 1);
-    grid::train(table, reals, counts, drawing.sample, evaluation, number)
-}
-
-// Where the evaluation of a training stands: behind the sample, if the list has one.
-fn evaluation_at(kind: usize) -> usize
-    ensures { result < 32 }
-{
-    if kind == 12 { 2 } else { 22 }
-}
-
-// train, or draw and train of what was drawn
-fn on_sample(
-    list: &[u8],
-    kind: usize,
-    start: MonteCarloRng,
-    table: &Table,
-    reals: &mut Reals,
-    counts: &mut Counts,
-) -> Called {
-    let drawn = sample_of(list, kind, start, table, reals, counts);
-    let drawing = drawn.drawing;
-    let stream = drawing.stream;
-    let at = evaluation_at(kind);
-    let number = train(list, at, drawn, table, reals, counts);
-    let agrees = holds_end(list, at + 2, number, table, reals, counts);
-    Called { agrees, stream }
-}
-
-// update, on a spare that holds other numbers
-fn update(list: &[u8], table: &Table, reals: &mut Reals, counts: &mut Counts) -> u64 {
-    let mut spare_reals = [1.0f64; 16384];
-    let mut spare_counts = [1u64; 8192];
-    grid::update(
-        table,
-        reals,
-        counts,
-        &mut spare_reals,
-        &mut spare_counts,
-        double(word(list, 2)),
-        double(word(list, 3)),
-    )
-}
-
-// A call on one memory. An update's end stands behind its two rates, that of a set cell behind the cell.
-pub fn on_one(
-    list: &[u8],
-    kind: usize,
-    stream: MonteCarloRng,
-    table: &Table,
-    reals: &mut Reals,
-    counts: &mut Counts,
-) -> Called {
-    if kind == 7 {
-        let number = update(list, table, reals, counts);
-        let agrees = holds_end(list, 4, number, table, reals, counts);
-        return Called { agrees, stream };
-    }
-    if kind == 11 {
-        memory::put(list, reals, counts);
-        let agrees = holds_end(list, 5, 0, table, reals, counts);
-        return Called { agrees, stream };
-    }
-    on_sample(list, kind, stream, table, reals, counts)
-}
-
-// clone_without_samples, from one memory into another
-fn copy(
-    list: &[u8],
-    table: &Table,
-    reals: &Reals,
-    counts: &Counts,
-    to_reals: &mut Reals,
-    to_counts: &mut Counts,
-) -> bool {
-    let answer = grid::clone_without_samples(table, reals, counts, to_reals, to_counts);
-    holds_end(list, 3, answer, table, to_reals, to_counts)
 }
 
 // is_mergeable
-fn is_mergeable(
-    list: &[u8],
-    table: &Table,
-    reals: &Reals,
-    counts: &Counts,
-    other_reals: &Reals,
-    other_counts: &Counts,
-) -> bool {
-    grid::is_mergeable(table, reals, counts, table, other_reals, other_counts) == word(list, 2)
+pub fn is_mergeable(list: &[u8], lent: &Lent) -> bool {
+    number_of(lent.is_mergeable()) == word(list, 2)
 }
 
-// merge of the other memory's grid; the plan's table serves both
-fn merge(
-    list: &[u8],
-    table: &Table,
-    reals: &mut Reals,
-    counts: &mut Counts,
-    other_reals: &Reals,
-    other_counts: &Counts,
-) -> bool {
-    let answer = grid::merge(table, reals, counts, table, other_reals, other_counts);
-    holds_end(list, 2, answer, table, reals, counts)
-}
-
-// A call on both memories. A copy goes into the other memory, or back from it where the list's third word is not 0.
-pub fn on_both(
-    list: &[u8],
-    kind: usize,
-    table: &Table,
-    reals: &mut Reals,
-    counts: &mut Counts,
-    other_reals: &mut Reals,
-    other_counts: &mut Counts,
-) -> bool {
-    if kind == 9 {
-        return is_mergeable(list, table, reals, counts, other_reals, other_counts);
-    }
-    if kind == 10 {
-        return merge(list, table, reals, counts, other_reals, other_counts);
-    }
-    if word(list, 2) == 0 {
-        return copy(list, table, reals, counts, other_reals, other_counts);
-    }
-    copy(list, table, other_reals, other_counts, reals, counts)
+// merge of the other memory's grid
+pub fn merge(list: &[u8], lent: &mut Lent) -> bool {
+    let answer = lent.merge();
+    holds_end(list, 2, answer, &lent.table, &lent.own)
 }

@@ -1,7 +1,7 @@
 // What an answer comes to as one number below 65,536: 4096 times a refusal's number plus its offset, or what a digest leaves.
 ghost use Rattle.std.specs.Prelude.{◌≡◌, ◌<◌, length};
 
-use plan::{Needs, Read, Sized};
+use plan::{Misread, Needs, Read};
 
 // What the program lends the reader holds this where nothing was written.
 pub const UNTOUCHED: u64 = 7;
@@ -36,68 +36,39 @@ fn fold_table(d: u64, table: &[u64], words: usize) -> u64
     ensures { result < 4294967291 }
 {
     let mut sum = d;
-    let mut i = 0;
-    while i < table.len() {
-        if i == words {
-            return sum;
-        }
-        sum = fold(sum, table[i]);
-        i += 1;
+    for x in table.iter().take(words) {
+        sum = fold(sum, *x);
     }
     sum
 }
 
 // Whether nothing was written to a table.
 fn is_untouched(table: &[u64]) -> bool {
-    let mut i = 0;
-    while i < table.len() {
-        if table[i] != UNTOUCHED {
-            return false;
-        }
-        i += 1;
-    }
-    true
+    table.iter().all(|x| *x == UNTOUCHED)
 }
 
 // Whether what lies behind a plan's words is as it was, and its table is known again with the same needs.
 fn is_kept(table: &[u64], n: Needs) -> bool {
     let words = n.words;
-    if table.len() < words {
-        return false;
-    }
-    if !is_untouched(&table[words..]) {
-        return false;
-    }
-    match plan::sizes(table) {
-        Sized::Plan(m) => fold_needs(0, m) == fold_needs(0, n),
-        Sized::Refused(_) => false,
-    }
+    words <= table.len() && is_untouched(&table[words..]) && plan::sizes(table) == Ok(n)
 }
 
 // Reads a plan, or a prefix that is one, into a table that nothing was written to.
 pub fn of_plan(bytes: &[u8], whole: bool, table: &mut [u64]) -> u64
     ensures { length table.new ≡ length table.old }
 {
-    let answer = read(bytes, whole, table);
-    match answer {
-        Read::Refused { number, offset } => {
-            if is_untouched(table) {
-                return refused(number, offset);
-            }
-            65535
+    match read(bytes, whole, table) {
+        Err(m) if is_untouched(table) => refused(m.why.number(), m.at),
+        Ok(r) if is_kept(table, r.needs) => {
+            let d = fold_needs(fold(0, r.end as u64), r.needs);
+            fold_table(d, table, r.needs.words) % 4096
         }
-        Read::Plan { end, needs } => {
-            if is_kept(table, needs) {
-                let d = fold_needs(fold(0, end as u64), needs);
-                return fold_table(d, table, needs.words) % 4096;
-            }
-            65535
-        }
+        _ => 65535,
     }
 }
 
 // A plan, or a prefix that is one, read into a table.
-fn read(bytes: &[u8], whole: bool, table: &mut [u64]) -> Read {
+fn read(bytes: &[u8], whole: bool, table: &mut [u64]) -> Result<Read, Misread> {
     if whole {
         return plan::read_plan(bytes, table);
     }
@@ -107,7 +78,7 @@ fn read(bytes: &[u8], whole: bool, table: &mut [u64]) -> Read {
 // What a table's sizes come to.
 pub fn of_table(table: &[u64]) -> u64 {
     match plan::sizes(table) {
-        Sized::Plan(n) => fold_needs(0, n) % 4096,
-        Sized::Refused(number) => refused(number, 0),
+        Ok(n) => fold_needs(0, n) % 4096,
+        Err(why) => refused(why.number(), 0),
     }
 }

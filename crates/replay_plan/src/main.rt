@@ -4,16 +4,16 @@
 
 mod cases;
 mod codes;
+mod rule;
 
+use answers::Replayed;
 use input::read_full;
 use std::io;
 
 // Replays the list, and prints how much of it agrees.
 fn say_list(rt: &HostRuntime, text: &mut [u8]) -> io::Result<()> {
     let got = read_full(&mut rt.stdin(), text)?;
-    let told = cases::replay(&text[..got]);
-    let agreed = told.agreed;
-    let all = told.all;
+    let Replayed { agreed, all } = cases::replay(&text[..got]);
     println!(rt; "plans and tables: {agreed} of {all} agree")
 }
 

@@ -9,30 +9,28 @@ mod tally;
 
 ghost use Rattle.std.specs.Prelude.{◌*◌, ◌≤◌, length, IfOk};
 
+use answers::{below, load};
 use input::read_full;
-use list::below;
 use std::io;
 use tally::Tally;
 
 // Whether the input at the list's begin agrees.
 fn agrees_at(list: &[u8]) -> bool {
     let mut room = [0u8; 1024];
-    list::load(list, &mut room);
+    load(list, 2, &mut room);
     feeding::feed_cuts(list, &room, below(list, 1, 1024))
 }
 
-// The inputs of a list of so many words one after the other.
+// The inputs of a list of so many words one after the other: a `while`, since an input says how long it is.
 fn replay(list: &[u8], words: usize) -> Tally
     requires { words * 17 ≤ length list.now }
 {
-    let mut tally = [0u64; 15];
+    let mut tally = Tally::new();
     let mut at = 0;
     while at < words {
-        let start = at * 17;
-        let here = &list[start..];
-        let more = tally::count(tally, list::ends_in(here), agrees_at(here));
-        tally = more;
-        at = at + 1 + below(here, 0, 4096);
+        let here = &list[at * 17..];
+        tally.count(list::ends_in(here), agrees_at(here));
+        at += 1 + below(here, 0, 4096);
     }
     tally
 }
@@ -49,8 +47,7 @@ fn read(rt: &HostRuntime, text: &mut [u8]) -> io::Result<usize>
 // its zeros.
 fn run(rt: &HostRuntime, text: &mut [u8; 1048576]) -> io::Result<()> {
     let words = read(rt, text)?;
-    let tally = replay(text, words);
-    tally::print(rt, &tally)
+    replay(text, words).print(rt)
 }
 
 fn main(rt: HostRuntime) -> io::Result<()> {

@@ -1,48 +1,44 @@
 // How many inputs agree, of how many, and how many end in each refusal.
 ghost use Rattle.std.specs.Prelude.{◌<◌};
 
+use answers::Replayed;
 use std::io;
-use std::num::wrapping_add_u64;
 
-// How many inputs end in each number, 0 for no refusal; then how many agree, and how many there are.
-pub type Tally = [u64; 15];
-
-// 1 for an input that agrees, 0 for any other.
-fn one_if(test: bool) -> u64 {
-    if test { 1 } else { 0 }
+// The inputs, and how many of them end in each refusal's number, 0 for none.
+#[derive(Drop)]
+pub struct Tally {
+    inputs: Replayed,
+    endings: [u64; 13],
 }
 
-// The tally with one more input, which ends in this number.
-pub fn count(tally: Tally, number: usize, agrees: bool) -> Tally
-    requires { number < 13 }
-{
-    let mut counted = tally;
-    counted[number] = wrapping_add_u64(counted[number], 1);
-    counted[13] = wrapping_add_u64(counted[13], one_if(agrees));
-    counted[14] = wrapping_add_u64(counted[14], 1);
-    counted
-}
-
-// How many inputs end in a refusal of this number, where there are any; 0 stands for none.
-fn print_ending(rt: &HostRuntime, number: u64, many: u64) -> io::Result<()> {
-    if 0 < many {
-        println!(rt; "ends in {number}: {many}")?;
+impl Tally {
+    // Nothing counted yet.
+    pub fn new() -> Tally {
+        Tally {
+            inputs: Replayed { agreed: 0, all: 0 },
+            endings: [0; 13],
+        }
     }
-    Ok(())
-}
 
-// How many inputs agree, of how many.
-fn print_agreed(rt: &HostRuntime, agreed: u64, all: u64) -> io::Result<()> {
-    println!(rt; "inputs: {agreed} of {all} agree")
-}
-
-// A line for all, and one for each number.
-pub fn print(rt: &HostRuntime, tally: &Tally) -> io::Result<()> {
-    print_agreed(rt, tally[13], tally[14])?;
-    let mut number = 0;
-    while number < 13 {
-        print_ending(rt, number as u64, tally[number])?;
-        number += 1;
+    // One input more, which ends in this number.
+    pub fn count(&mut self, number: usize, agrees: bool)
+        requires { number < 13 }
+    {
+        self.inputs = self.inputs.count(agrees);
+        self.endings[number] = self.endings[number].wrapping_add(1);
     }
-    Ok(())
+
+    // A line for all, and one for each number in which any ends.
+    pub fn print(&self, rt: &HostRuntime) -> io::Result<()> {
+        println!(rt;
+            "inputs: {} of {} agree",
+            self.inputs.agreed, self.inputs.all
+        )?;
+        for (number, many) in self.endings.iter().enumerate() {
+            if 0 < *many {
+                println!(rt; "ends in {number}: {many}")?;
+            }
+        }
+        Ok(())
+    }
 }

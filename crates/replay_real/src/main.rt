@@ -3,12 +3,14 @@
 // with, and at the end how many lines of each kind it compared and how many differ. The list is that of list.py beside it.
 #![tactic(auto)]
 
-ghost use Rattle.std.specs.Prelude.{◌≤◌};
+mod call;
 
+use answers::{bits, double, word};
+use call::Call;
 use input::read_full;
 use std::io;
 
-#[derive(Clone, Copy)]
+#[derive(Clone, Copy, Default)]
 struct Tally {
     root: u64,
     ln: u64,
@@ -18,50 +20,9 @@ struct Tally {
     differ: u64,
 }
 
-// A letter or digit as a number from 0 to 15; anything else is 0.
-fn digit(b: u8) -> u64 {
-    if b < 48 {
-        return 0;
-    }
-    if b < 58 {
-        return (b - 48) as u64;
-    }
-    if b < 97 {
-        return 0;
-    }
-    if b < 103 {
-        return (b - 87) as u64;
-    }
-    0
-}
-
-// The 16 hexadecimal digits from `at` on.
-fn word(line: &[u8; 53], at: usize) -> u64
-    requires { at ≤ 37 }
-{
-    let mut v: u64 = 0;
-    let mut i = 0;
-    while i < 16 {
-        v = (v << 4) | digit(line[at + i]);
-        i += 1;
-    }
-    v
-}
-
-// The double with these bits, one NaN for all.
-fn double(bits: u64) -> f64 {
-    if 9218868437227405312 < bits % 9223372036854775808 {
-        return 0.0 / 0.0;
-    }
-    f64::from_bits(bits)
-}
-
 // Whether r has the bits `want`, those of the one NaN for any NaN.
 fn same(r: f64, want: u64) -> bool {
-    if r != r {
-        return want == 0x7ff8_0000_0000_0000;
-    }
-    f64::to_bits(r) == want
+    bits(r) == want
 }
 
 // Whether r is within relative 1e-12 of a library's value.
@@ -69,63 +30,43 @@ fn near(r: f64, v: f64) -> bool {
     real::norm(r - v) <= 0.000000000001 * real::norm(v)
 }
 
-// 1 for true.
-fn bit(c: bool) -> u64 {
-    if c { 1 } else { 0 }
-}
-
-// Whether an operation gives what the list wants.
-fn agrees(op: u8, x: u64, a: u64, want: u64) -> bool {
-    match op {
-        b's' => same(real::sqrt(double(x)), want),
-        b'l' => same(real::ln(double(x)), want),
-        b'p' => same(real::power(double(x), double(a)), want),
-        b'L' => near(real::ln(double(x)), double(want)),
-        b'P' => near(real::power(double(x), double(a)), double(want)),
-        b'n' => same(real::norm(double(x)), want),
-        b'i' => same(real::inv(double(x)), want),
-        b'c' => same(real::count(x), want),
-        b'w' => real::whole(double(x)) == want,
-        b'f' => bit(real::finite(double(x))) == want,
-        _ => false,
+// Whether a call gives what the list wants.
+fn agrees(call: Call, x: u64, a: u64, want: u64) -> bool {
+    match call {
+        Call::Sqrt => same(real::sqrt(double(x)), want),
+        Call::Ln => same(real::ln(double(x)), want),
+        Call::Power => same(real::power(double(x), double(a)), want),
+        Call::LibraryLn => near(real::ln(double(x)), double(want)),
+        Call::LibraryPower => near(real::power(double(x), double(a)), double(want)),
+        Call::Norm => same(real::norm(double(x)), want),
+        Call::Inv => same(real::inv(double(x)), want),
+        Call::Count => same(real::count(x), want),
+        Call::Whole => real::whole(double(x)) == want,
+        Call::Finite => u64::from(real::finite(double(x))) == want,
     }
 }
 
-// One more.
-fn more(n: u64) -> u64 {
-    std::num::wrapping_add_u64(n, 1)
-}
-
 // The tally with one line more of its kind.
-fn counted(t: Tally, op: u8) -> Tally {
+fn counted(t: Tally, call: Option<Call>) -> Tally {
     let mut r = t;
-    match op {
-        b's' => {
-            r.root = more(t.root);
-        }
-        b'l' => {
-            r.ln = more(t.ln);
-        }
-        b'p' => {
-            r.power = more(t.power);
-        }
-        b'L' | b'P' => {
-            r.library = more(t.library);
-        }
-        _ => {
-            r.plain = more(t.plain);
-        }
+    match call {
+        Some(Call::Sqrt) => r.root = t.root.wrapping_add(1),
+        Some(Call::Ln) => r.ln = t.ln.wrapping_add(1),
+        Some(Call::Power) => r.power = t.power.wrapping_add(1),
+        Some(Call::LibraryLn | Call::LibraryPower) => r.library = t.library.wrapping_add(1),
+        _ => r.plain = t.plain.wrapping_add(1),
     }
     r
 }
 
-// The tally after a line, which is shown where it differs.
+// The tally after a line, which is shown where it differs. A line of no call differs.
 fn judged(rt: &HostRuntime, t: Tally, line: &[u8; 53]) -> io::Result<Tally> {
-    let op = line[0];
-    let mut r = counted(t, op);
-    if !agrees(op, word(line, 2), word(line, 19), word(line, 36)) {
+    let call = Call::try_from(line[0]).ok();
+    let words = &line[2..];
+    let mut r = counted(t, call);
+    if !call.is_some_and(|call| agrees(call, word(words, 0), word(words, 1), word(words, 2))) {
         rt.write_all(line)?;
-        r.differ = more(t.differ);
+        r.differ = t.differ.wrapping_add(1);
     }
     Ok(r)
 }
@@ -135,47 +76,24 @@ fn show(rt: &HostRuntime, label: &str, n: u64) -> io::Result<()> {
     println!(rt; "{label}{n}")
 }
 
-#[derive(Clone, Copy)]
-struct Turn {
-    tally: Tally,
-    ended: bool,
-}
-
-// One line read and judged, or the end of the input.
-fn turned(rt: &HostRuntime, t: Tally) -> io::Result<Turn> {
+// The tally after one line more, and none at the end of the input.
+fn turned(rt: &HostRuntime, t: Tally) -> io::Result<Option<Tally>> {
     let mut line = [0u8; 53];
     if read_full(&mut rt.stdin(), &mut line)? < 53 {
-        return Ok(Turn {
-            tally: t,
-            ended: true,
-        });
+        return Ok(None);
     }
     let r = judged(rt, t, &line)?;
-    Ok(Turn {
-        tally: r,
-        ended: false,
-    })
+    Ok(Some(r))
 }
 
 // A proved loop has to end, and nothing says that the input does: so it counts its turns down.
 fn replayed(rt: &HostRuntime) -> io::Result<Tally> {
-    let mut t = Tally {
-        root: 0,
-        ln: 0,
-        power: 0,
-        library: 0,
-        plain: 0,
-        differ: 0,
-    };
-    let mut turns: u64 = 1000000;
-    while turns > 0 {
-        let step = turned(rt, t)?;
-        if step.ended {
-            return Ok(t);
+    let mut t = Tally::default();
+    for _ in 0..1000000u64 {
+        match turned(rt, t)? {
+            Some(next) => t = next,
+            None => return Ok(t),
         }
-        let r = step.tally;
-        t = r;
-        turns -= 1;
     }
     Ok(t)
 }

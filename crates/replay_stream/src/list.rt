@@ -1,23 +1,13 @@
 // The oracle's list, record by record (oracle/README.md, "stream"): each is a line. A list here begins with the record at hand.
 ghost use Rattle.std.specs.Prelude.{◌<◌, ◌≤◌, length};
 
-use answers::{bits, word};
-use std::num::{wrapping_add_u64, wrapping_add_usize};
-use stream::{Made, MonteCarloRng, unit_of};
-
-// How many records agreed, of how many.
-#[derive(Clone, Copy)]
-pub struct Replayed {
-    pub agreed: u64,
-    pub all: u64,
-}
+use crate::call::Call;
+use answers::{Replayed, bits, byte_of, holds, load, word};
+use stream::{MonteCarloRng, unit_of};
 
 // Whether the four words from a place on are a state.
 fn holds_state(list: &[u8], at: usize, state: MonteCarloRng) -> bool {
-    (word(list, at) == state.s0)
-        & (word(list, wrapping_add_usize(at, 1)) == state.s1)
-        & (word(list, wrapping_add_usize(at, 2)) == state.s2)
-        & (word(list, wrapping_add_usize(at, 3)) == state.s3)
+    holds(list, at, &[state.s0, state.s1, state.s2, state.s3])
 }
 
 // Whether the words from a place on are a stream's, `count` of them, and then its state.
@@ -25,13 +15,11 @@ fn holds_words(list: &[u8], from: usize, start: MonteCarloRng, count: u64) -> bo
     let mut agrees = count < 256;
     let mut at = from;
     let mut stream = start;
-    let mut left = count % 256;
-    while 0 < left {
+    for _ in 0..count % 256 {
         let drawn = stream.next_u64();
         agrees = agrees & (word(list, at) == drawn.value);
         stream = drawn.stream;
-        at = wrapping_add_usize(at, 1);
-        left -= 1;
+        at = at.wrapping_add(1);
     }
     agrees & holds_state(list, at, stream)
 }
@@ -46,35 +34,20 @@ fn state_of(list: &[u8]) -> MonteCarloRng {
     }
 }
 
-// Byte `i` of the bytes packed from word `at` on, lowest first.
-fn packed(list: &[u8], at: usize, i: usize) -> u64
-    ensures { result < 256 }
-{
-    let lowest = (i as u64) % 8 * 8;
-    (word(list, wrapping_add_usize(at, i / 8)) >> lowest) % 256
-}
-
 // Whether `bytes` are those packed from word `at` on.
 fn same_bytes(list: &[u8], at: usize, bytes: &[u8]) -> bool {
     let mut agrees = true;
-    let mut i = 0;
-    while i < bytes.len() {
-        agrees = agrees & (packed(list, at, i) == wide(bytes[i]));
-        i += 1;
+    for (i, byte) in bytes.iter().enumerate() {
+        agrees = agrees & (byte_of(list, at, i) == *byte);
     }
     agrees
-}
-
-// A byte as a word.
-fn wide(x: u8) -> u64 {
-    x as u64
 }
 
 // new(seed, number), then the first words.
 fn replay_new(list: &[u8]) -> bool {
     match MonteCarloRng::new(word(list, 1), word(list, 2)) {
-        Made::Refused(number) => word(list, 4) == number,
-        Made::Stream(stream) => {
+        Err(why) => word(list, 4) == why.number(),
+        Ok(stream) => {
             (word(list, 4) == 0)
                 & holds_state(list, 5, stream)
                 & holds_words(list, 9, stream, word(list, 3))
@@ -91,7 +64,7 @@ fn replay_words(list: &[u8]) -> bool {
 fn replay_half(list: &[u8]) -> bool {
     let half = state_of(list).next_u32();
     let stream = half.stream;
-    (word(list, 5) == half.value as u64) & holds_state(list, 6, stream)
+    (word(list, 5) == u64::from(half.value)) & holds_state(list, 6, stream)
 }
 
 // `bytes` filled in from a state, held against the bytes packed behind their number.
@@ -114,15 +87,6 @@ fn replay_fill(list: &[u8]) -> bool {
     holds_fill(list, &mut bytes[..length])
 }
 
-// A jump, or a long jump.
-fn replay_jump(list: &[u8], long: bool) -> bool {
-    let state = state_of(list);
-    if long {
-        return holds_state(list, 5, state.long_jump());
-    }
-    holds_state(list, 5, state.jump())
-}
-
 // A state's bytes, packed behind their number, and the state.
 fn replay_export(list: &[u8]) -> bool {
     let state = state_of(list);
@@ -133,11 +97,7 @@ fn replay_export(list: &[u8]) -> bool {
 // 32 packed bytes behind their number, and the state that they import as.
 fn replay_import(list: &[u8]) -> bool {
     let mut bytes = [0u8; 32];
-    let mut i = 0;
-    while i < 32 {
-        bytes[i] = packed(list, 2, i) as u8;
-        i += 1;
-    }
+    load(list, 2, &mut bytes);
     (word(list, 1) == 32) & holds_state(list, 6, MonteCarloRng::import(bytes))
 }
 
@@ -158,30 +118,26 @@ fn replay_unit_of(list: &[u8]) -> bool {
     word(list, 2) == bits(unit_of(word(list, 1)))
 }
 
-// The calls of seeds, jumps and bytes.
-fn replay_other(list: &[u8], call: u64) -> bool {
+// One record's call made, and what it gives held against the list.
+fn replay_call(list: &[u8], call: Call) -> bool {
     match call {
-        1 => replay_new(list),
-        5 => replay_jump(list, false),
-        6 => replay_jump(list, true),
-        7 => replay_export(list),
-        8 => replay_import(list),
-        10 => replay_seed(list),
-        _ => false,
+        Call::New => replay_new(list),
+        Call::NextU64 => replay_words(list),
+        Call::NextU32 => replay_half(list),
+        Call::FillBytes => replay_fill(list),
+        Call::Jump => holds_state(list, 5, state_of(list).jump()),
+        Call::LongJump => holds_state(list, 5, state_of(list).long_jump()),
+        Call::Export => replay_export(list),
+        Call::Import => replay_import(list),
+        Call::Unit => replay_unit(list),
+        Call::SeedFromU64 => replay_seed(list),
+        Call::UnitOf => replay_unit_of(list),
     }
 }
 
 // One record: its first word says which call it is of. A record of no call never agrees.
 fn replay_record(list: &[u8]) -> bool {
-    let call = word(list, 0);
-    match call {
-        2 => replay_words(list),
-        3 => replay_half(list),
-        4 => replay_fill(list),
-        9 => replay_unit(list),
-        11 => replay_unit_of(list),
-        _ => replay_other(list, call),
-    }
+    Call::try_from(word(list, 0)).is_ok_and(|call| replay_call(list, call))
 }
 
 // Where the line of a place ends: behind its line end, or with the list.
@@ -189,31 +145,19 @@ fn line_end(list: &[u8], from: usize) -> usize
     requires { from < length list.now }
     ensures { (from < result) × (result ≤ length list.now) }
 {
-    let mut at = from;
-    while at < list.len() {
-        if list[at] == b'\n' {
-            return at + 1;
-        }
-        at += 1;
+    match list[from..].iter().position(|byte| *byte == b'\n') {
+        Some(before) => from + before + 1,
+        None => list.len(),
     }
-    at
 }
 
-// All records of the list, in order.
+// All records of the list, in order: a `while`, since a record is as long as its line.
 pub fn replay(list: &[u8]) -> Replayed {
-    let mut agreed: u64 = 0;
-    let mut all: u64 = 0;
+    let mut replayed = Replayed { agreed: 0, all: 0 };
     let mut at = 0;
     while at < list.len() {
-        let agrees = replay_record(&list[at..]);
-        agreed = wrapping_add_u64(agreed, one_if(agrees));
-        all = wrapping_add_u64(all, 1);
+        replayed = replayed.count(replay_record(&list[at..]));
         at = line_end(list, at);
     }
-    Replayed { agreed, all }
-}
-
-// 1 for true.
-fn one_if(b: bool) -> u64 {
-    if b { 1 } else { 0 }
+    replayed
 }

@@ -2,15 +2,17 @@
 // of `oracle/target/release/answers stream 1 1500`.
 #![tactic(auto)]
 
+mod call;
 mod list;
 mod published;
 
+use answers::Replayed;
 use input::read_full;
 use std::io;
 
 // A line of what agreed.
-fn line(rt: &HostRuntime, name: &str, agreed: u64, all: u64) -> io::Result<()> {
-    println!(rt; "{name}{agreed} of {all} agree")
+fn line(rt: &HostRuntime, name: &str, replayed: Replayed) -> io::Result<()> {
+    println!(rt; "{name}{} of {} agree", replayed.agreed, replayed.all)
 }
 
 // The published words.
@@ -19,31 +21,22 @@ fn say_published(rt: &HostRuntime) -> io::Result<()> {
         rt,
         "xoshiro256** from 1, 2, 3, 4, words: ",
         published::xoshiro(),
-        10,
     )?;
-    line(
-        rt,
-        "SplitMix64 from 0, words: ",
-        published::splitmix_zero(),
-        4,
-    )?;
+    line(rt, "SplitMix64 from 0, words: ", published::splitmix_zero())?;
     line(
         rt,
         "SplitMix64 from 1234567, words: ",
         published::splitmix_1234567(),
-        4,
     )
 }
 
 // The list.
 fn say_list(rt: &HostRuntime, text: &mut [u8]) -> io::Result<()> {
     let got = read_full(&mut rt.stdin(), text)?;
-    let replayed = list::replay(&text[..got]);
     line(
         rt,
         "the oracle's list, records: ",
-        replayed.agreed,
-        replayed.all,
+        list::replay(&text[..got]),
     )
 }
 

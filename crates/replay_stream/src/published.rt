@@ -1,6 +1,5 @@
 // Published words, and how many of them the stream gives.
-ghost use Rattle.std.specs.Prelude.{◌≤◌};
-
+use answers::Replayed;
 use stream::MonteCarloRng;
 
 // xoshiro256** from the state 1, 2, 3, 4: the reference implementation's first words, as rand_xoshiro's tests have them.
@@ -17,40 +16,35 @@ const XOSHIRO: [u64; 10] = [
     2904607092377533576,
 ];
 
-// 1 where two words are the same, else 0.
-fn same(a: u64, b: u64) -> u64
-    ensures { result ≤ 1 }
-{
-    if a == b { 1 } else { 0 }
-}
-
 // How many of the ten words the state 1, 2, 3, 4 gives.
-pub fn xoshiro() -> u64 {
+pub fn xoshiro() -> Replayed {
     let mut stream = MonteCarloRng {
         s0: 1,
         s1: 2,
         s2: 3,
         s3: 4,
     };
-    let mut agreed: u64 = 0;
-    let mut i = 0;
-    while i < 10 {
+    let mut replayed = Replayed { agreed: 0, all: 0 };
+    for known in &XOSHIRO {
         let word = stream.next_u64();
-        agreed += same(word.value, XOSHIRO[i]);
+        replayed = replayed.count(word.value == *known);
         stream = word.stream;
-        i += 1;
     }
-    agreed
+    replayed
 }
 
 // How many words of a seed's stream are these.
-fn splitmix(seed: u64, s0: u64, s1: u64, s2: u64, s3: u64) -> u64 {
+fn splitmix(seed: u64, s0: u64, s1: u64, s2: u64, s3: u64) -> Replayed {
     let state = MonteCarloRng::seed_from_u64(seed);
-    same(state.s0, s0) + same(state.s1, s1) + same(state.s2, s2) + same(state.s3, s3)
+    Replayed { agreed: 0, all: 0 }
+        .count(state.s0 == s0)
+        .count(state.s1 == s1)
+        .count(state.s2 == s2)
+        .count(state.s3 == s3)
 }
 
 // SplitMix64's words from 0, as splitmix64.c gives them.
-pub fn splitmix_zero() -> u64 {
+pub fn splitmix_zero() -> Replayed {
     splitmix(
         0,
         0xe220_a839_7b1d_cdaf,
@@ -61,7 +55,7 @@ pub fn splitmix_zero() -> u64 {
 }
 
 // The same from 1234567.
-pub fn splitmix_1234567() -> u64 {
+pub fn splitmix_1234567() -> Replayed {
     splitmix(
         1234567,
         6457827717110365317,

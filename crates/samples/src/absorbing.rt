@@ -1,18 +1,21 @@
 // A sample taken into the tree: a bins grid's records gain before what hangs below takes the sample, so that nothing is kept across the
 // recursion; what hangs below lies past them, and sees memory as it was.
 ghost use Rattle.std.specs.Prelude.{◌≡◌, true, ◌+◌, ◌≤◌, length, get_or};
+ghost use Rattle.doubles.specs.Refusal.{fault_of};
 ghost use Rattle.model.specs.Grid.{axes, bins};
 ghost use Rattle.model.specs.Sound.{sound};
 ghost use Rattle.model.specs.Train.{train_of};
 ghost use Rattle.lent.specs.State.{root_of};
 ghost use Rattle.lent.specs.Memory.{memory};
 ghost use Rattle.lent.specs.Tree.{axes_grid_at, head_at, child_in, bins_in, grid_at, AxesLaid, BinsLaid, Laid};
-ghost use Rattle.lent.specs.Sampled.{sample_in, sample_of, ChildLaid};
+ghost use Rattle.lent.specs.Sampled.{sample_of, ChildLaid};
 ghost use Rattle.lent.specs.Absorbed.{form_of, absorbed_axes, absorbed_child, absorbed_bins, absorbed, objection_of, admitted};
-ghost use Rattle.lent.specs.Found.{Held, HeldChild, held, held_child};
+ghost use Rattle.lent.specs.Found.{Held, HeldChild};
 
 use crate::reading::place_at;
 use crate::{acceptance, adding, training};
+use doubles::Refusal;
+use lent::{Lent, Sample};
 
 // At an axes grid: a bin of each axis, then its own accumulator.
 fn absorb_axes(
@@ -20,18 +23,16 @@ fn absorb_axes(
     reals: &mut [f64],
     counts: &mut [u64],
     w: usize,
-    path: &[usize; 4],
-    weights: &[f64; 5],
+    s: &Sample,
     depth: usize,
     evaluation: f64,
     number: u64,
     spots: &[usize; 8],
 )
-    requires { AxesLaid table.now (length reals.old) (length counts.old) w × (depth ≤ 4) × Held path.now weights.now spots.now (axes (axes_grid_at table.now reals.old counts.old w)) depth number }
-    ensures { (h : Held path.now weights.now spots.now (axes (axes_grid_at table.now reals.old counts.old w)) depth number)
-        → memory reals.new counts.new ≡ absorbed_axes table.now (held h) evaluation number w depth (memory reals.old counts.old) }
+    requires { AxesLaid table.now (length reals.old) (length counts.old) w × (depth ≤ 4) × Held s.now spots.now (axes (axes_grid_at table.now reals.old counts.old w)) depth number }
+    ensures { memory reals.new counts.new ≡ absorbed_axes table.now s.now evaluation number w depth (memory reals.old counts.old) }
 {
-    let weight = weights[depth];
+    let weight = s.weights[depth];
     let g = place_at(table, w);
     let r = table[w + 9] as usize;
     let c = table[w + 10] as usize;
@@ -48,22 +49,20 @@ fn absorb_child(
     counts: &mut [u64],
     level: usize,
     link: usize,
-    path: &[usize; 4],
-    weights: &[f64; 5],
+    s: &Sample,
     depth: usize,
     evaluation: f64,
     number: u64,
     spots: &[usize; 8],
 )
-    requires { ChildLaid level table.now (length reals.old) (length counts.old) link × (depth + level ≤ 4) × HeldChild path.now weights.now spots.now (child_in (grid_at level table.now reals.old counts.old) link) depth number }
-    ensures { (h : HeldChild path.now weights.now spots.now (child_in (grid_at level table.now reals.old counts.old) link) depth number)
-        → memory reals.new counts.new ≡ absorbed_child (absorbed level table.now (held_child h) evaluation number) link depth (memory reals.old counts.old) }
+    requires { ChildLaid level table.now (length reals.old) (length counts.old) link × (depth + level ≤ 4) × HeldChild s.now spots.now (child_in (grid_at level table.now reals.old counts.old) link) depth number }
+    ensures { memory reals.new counts.new ≡ absorbed_child (absorbed level table.now s.now evaluation number) link depth (memory reals.old counts.old) }
 {
     if link == 0 {
         return;
     }
     absorb_grid(
-        table, reals, counts, level, link, path, weights, depth, evaluation, number, spots,
+        table, reals, counts, level, link, s, depth, evaluation, number, spots,
     );
 }
 
@@ -75,20 +74,18 @@ fn absorb_bins(
     counts: &mut [u64],
     level: usize,
     w: usize,
-    path: &[usize; 4],
-    weights: &[f64; 5],
+    s: &Sample,
     depth: usize,
     evaluation: f64,
     number: u64,
     spots: &[usize; 8],
 )
     requires { BinsLaid (Laid level table.now (length reals.old) (length counts.old)) table.now (length reals.old) (length counts.old) w × (depth + level ≤ 3)
-        × Held path.now weights.now spots.now (bins (head_at table.now reals.old counts.old w) (bins_in (grid_at level table.now reals.old counts.old) table.now reals.old counts.old w 0 (get_or table.now (w + 2) 0))) depth number }
-    ensures { (h : Held path.now weights.now spots.now (bins (head_at table.now reals.old counts.old w) (bins_in (grid_at level table.now reals.old counts.old) table.now reals.old counts.old w 0 (get_or table.now (w + 2) 0))) depth number)
-        → memory reals.new counts.new ≡ absorbed_bins (absorbed level table.now (held h) evaluation number) table.now (held h) evaluation number w depth (memory reals.old counts.old) }
+        × Held s.now spots.now (bins (head_at table.now reals.old counts.old w) (bins_in (grid_at level table.now reals.old counts.old) table.now reals.old counts.old w 0 (get_or table.now (w + 2) 0))) depth number }
+    ensures { memory reals.new counts.new ≡ absorbed_bins (absorbed level table.now s.now evaluation number) table.now s.now evaluation number w depth (memory reals.old counts.old) }
 {
-    let bin = path[depth];
-    let weight = weights[depth];
+    let bin = s.path[depth];
+    let weight = s.weights[depth];
     let n = table[w + 2] as usize;
     let r = table[w + 5] as usize;
     let c = table[w + 6] as usize;
@@ -106,8 +103,7 @@ fn absorb_bins(
         counts,
         level,
         link,
-        path,
-        weights,
+        s,
         depth + 1,
         evaluation,
         number,
@@ -123,21 +119,17 @@ pub fn absorb_grid(
     counts: &mut [u64],
     level: usize,
     w: usize,
-    path: &[usize; 4],
-    weights: &[f64; 5],
+    s: &Sample,
     depth: usize,
     evaluation: f64,
     number: u64,
     spots: &[usize; 8],
 )
-    requires { Laid level table.now (length reals.old) (length counts.old) w × (depth + level ≤ 4) × Held path.now weights.now spots.now (grid_at level table.now reals.old counts.old w) depth number }
-    ensures { (h : Held path.now weights.now spots.now (grid_at level table.now reals.old counts.old w) depth number)
-        → memory reals.new counts.new ≡ absorbed level table.now (held h) evaluation number w depth (memory reals.old counts.old) }
+    requires { Laid level table.now (length reals.old) (length counts.old) w × (depth + level ≤ 4) × Held s.now spots.now (grid_at level table.now reals.old counts.old w) depth number }
+    ensures { memory reals.new counts.new ≡ absorbed level table.now s.now evaluation number w depth (memory reals.old counts.old) }
 {
     if table[w] == 1 {
-        absorb_axes(
-            table, reals, counts, w, path, weights, depth, evaluation, number, spots,
-        );
+        absorb_axes(table, reals, counts, w, s, depth, evaluation, number, spots);
         return;
     }
     absorb_bins(
@@ -146,8 +138,7 @@ pub fn absorb_grid(
         counts,
         level - 1,
         w,
-        path,
-        weights,
+        s,
         depth,
         evaluation,
         number,
@@ -155,47 +146,28 @@ pub fn absorb_grid(
     );
 }
 
-// Takes a sample into a well-formed state where nothing stands against it: 0, or what does. Its form was judged, or is known.
+// Takes a sample into a well-formed state where nothing stands against it. Its form was judged, or is known.
 pub fn admit(
     table: &[u64],
     reals: &mut [f64],
     counts: &mut [u64],
-    path: &[usize; 4],
-    weights: &[f64; 5],
-    coordinates: &[f64; 8],
+    s: &Sample,
     evaluation: f64,
     number: u64,
     spots: &mut [usize; 8],
-    levels: usize,
-    weighed: usize,
-    many: usize,
-    form: u64,
-) -> u64
+    form: Result<(), Refusal>,
+) -> Result<(), Refusal>
     requires { Laid 4 table.now (length reals.old) (length counts.old) 0 × (sound (root_of table.now reals.old counts.old) ≡ true)
-        × (form ≡ form_of (root_of table.now reals.old counts.old) (sample_in path.now levels weights.now weighed coordinates.now many)) × (length spots.old ≡ 8) }
-    ensures { (result ≡ objection_of (train_of (root_of table.now reals.old counts.old) (sample_of (sample_in path.now levels weights.now weighed coordinates.now many)) evaluation number))
-        × (memory reals.new counts.new ≡ admitted result table.now (sample_in path.now levels weights.now weighed coordinates.now many) evaluation number (memory reals.old counts.old)) }
+        × (fault_of form ≡ form_of (root_of table.now reals.old counts.old) s.now) × (length spots.old ≡ 8) }
+    ensures { (fault_of result ≡ objection_of (train_of (root_of table.now reals.old counts.old) (sample_of s.now) evaluation number))
+        × (memory reals.new counts.new ≡ admitted (fault_of result) table.now s.now evaluation number (memory reals.old counts.old)) }
 {
-    let refused = acceptance::objection(
+    let m = Lent {
         table,
         reals,
         counts,
-        path,
-        weights,
-        coordinates,
-        evaluation,
-        number,
-        spots,
-        levels,
-        weighed,
-        many,
-        form,
-    );
-    if refused != 0 {
-        return refused;
-    }
-    absorb_grid(
-        table, reals, counts, 4, 0, path, weights, 0, evaluation, number, spots,
-    );
-    refused
+    };
+    acceptance::objection(m, s, evaluation, number, spots, form)?;
+    absorb_grid(table, reals, counts, 4, 0, s, 0, evaluation, number, spots);
+    Ok(())
 }

@@ -1,13 +1,14 @@
 // A value joins an accumulator in lent memory.
-ghost use Rattle.std.specs.Prelude.{◌≡◌, true, cond, ◌+◌, ◌≤◌, length};
+ghost use Rattle.std.specs.Prelude.{◌≡◌, true, ◌+◌, ◌≤◌, length};
 ghost use Rattle.accumulator.specs.Record.{well_formed};
-ghost use Rattle.accumulator.specs.Steps.{replaced, added_of};
+ghost use Rattle.accumulator.specs.Steps.{added_of};
 ghost use Rattle.model.specs.Train.{numbered};
 ghost use Rattle.lent.specs.Memory.{memory, record_at};
 ghost use Rattle.lent.specs.Absorbed.{gain_at, gained};
 
 use crate::reading::{count_at, real_at};
 use crate::training;
+use accumulator::{either, is_replaced, zero_count};
 use lent::Gain;
 
 // Whether the record at r and c may be kept once v has joined it: of a well-formed one only what changes is asked.
@@ -18,30 +19,9 @@ pub fn fits_with(reals: &[f64], counts: &[u64], r: usize, c: usize, v: f64, numb
     let sum = real_at(reals, r) + v;
     let squares = real_at(reals, r + 1) + v * v;
     let waiting = count_at(counts, c) + 1;
-    let zeros = count_at(counts, c + 1) + training::zero_count(v);
+    let zeros = count_at(counts, c + 1) + zero_count(v);
     (training::are_sums_finite(sum, squares) & (waiting <= 9007199254740992))
         & (zeros <= 9007199254740992)
-}
-
-// One of two doubles.
-fn either(first: bool, a: f64, b: f64) -> f64
-    ensures { result ≡ cond first a b }
-{
-    if first { a } else { b }
-}
-
-// One of two numbers.
-fn either_number(first: bool, a: u64, b: u64) -> u64
-    ensures { result ≡ cond first a b }
-{
-    if first { a } else { b }
-}
-
-// Whether an extreme gives way: no sample holds it, or it is beaten.
-fn is_replaced(number: u64, beaten: bool) -> bool
-    ensures { result ≡ replaced number beaten }
-{
-    (number == 0) | beaten
 }
 
 // What v leaves in the record at r and c, where it changes it.
@@ -58,16 +38,16 @@ pub fn gain_at(reals: &[f64], counts: &[u64], r: usize, c: usize, v: f64, number
     let sum = real_at(reals, r) + v;
     let squares = real_at(reals, r + 1) + v * v;
     let waiting = count_at(counts, c) + 1;
-    let zeros = count_at(counts, c + 1) + training::zero_count(v);
+    let zeros = count_at(counts, c + 1) + zero_count(v);
     Gain {
         sum,
         sum_sq: squares,
         new_samples: waiting,
         new_zero_evaluations: zeros,
         max_eval_positive: either(high, v, highest),
-        max_eval_positive_number: either_number(high, number, highest_number),
+        max_eval_positive_number: either(high, number, highest_number),
         max_eval_negative: either(low, v, lowest),
-        max_eval_negative_number: either_number(low, number, lowest_number),
+        max_eval_negative_number: either(low, number, lowest_number),
     }
 }
 

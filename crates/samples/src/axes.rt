@@ -58,8 +58,7 @@ fn walk_axes(
     let mut stream = start;
     let mut at = g.reals;
     let mut place = g.counts;
-    let mut done = 0;
-    while done < g.axes {
+    for done in 0..g.axes {
         let held = counts[place] as usize;
         let word = stream.next_u64();
         let unit = stream::unit_of(word.value);
@@ -73,7 +72,6 @@ fn walk_axes(
         at = at + (6 * g.most + 1);
         place = place + (3 * g.most + 2);
         spots[done] = spot.bin;
-        done += 1;
     }
     Walked { weight, stream }
 }

@@ -12,14 +12,16 @@ mod sampling;
 mod training;
 
 ghost use Rattle.std.specs.Prelude.{◌≡◌};
+ghost use Rattle.doubles.specs.Refusal.{fault_of, paper};
 ghost use Rattle.model.specs.Draw.{weight_at};
-ghost use Rattle.lent.specs.Calls.{drawn_as, draw_of, state_end, train_call_of};
-ghost use Rattle.lent.specs.Batched.{batch_end, batch_of};
+ghost use Rattle.lent.specs.Calls.{laid_paper, draw_of, state_end, train_call_of};
+ghost use Rattle.lent.specs.Batched.{said, batch_end, batch_of};
 ghost use Rattle.lent.specs.Memory.{memory};
 ghost use Rattle.lent.specs.Sampled.{sample_of};
 
+use doubles::Refusal;
 use judges::state;
-use lent::{Batched, Drawn, Sample};
+use lent::{Batched, Drawing, Lent, Sample};
 use stream::MonteCarloRng;
 
 // A sample's weight: that of its first level, 1 where it has none.
@@ -32,22 +34,30 @@ pub fn weight_of(s: Sample) -> f64
     s.weights[0]
 }
 
-// Draws a sample. Refused: 12 for a table that is no plan's, 10 for slices too short for it, 12 for a state that is not well formed.
-pub fn draw(table: &[u64], reals: &[f64], counts: &[u64], start: MonteCarloRng) -> Drawn
-    ensures { result ≡ drawn_as start (draw_of table.now reals.now counts.now start) }
+// Draws a sample, and answers it with the stream after it. Refused: 12 for a table that is no plan's, 10 for slices too short for it, 12 for a
+// state that is not well formed.
+pub fn draw(
+    table: &[u64],
+    reals: &[f64],
+    counts: &[u64],
+    start: MonteCarloRng,
+) -> Result<Drawing, Refusal>
+    ensures { paper result ≡ laid_paper (draw_of table.now reals.now counts.now start) }
 {
-    let refused = state::fault(table, reals, counts);
-    if refused != 0 {
-        let drawing = sampling::draw_nothing(start);
-        return Drawn { refused, drawing };
-    }
+    state::fault(table, reals, counts)?;
+    let mut sample = sampling::empty_sample();
     let mut spots = [0usize; 8];
-    let drawing = sampling::draw_root(table, reals, counts, start, &mut spots);
-    Drawn { refused, drawing }
+    let m = Lent {
+        table,
+        reals,
+        counts,
+    };
+    let stream = sampling::draw_root(m, start, &mut sample, &mut spots);
+    Ok(Drawing { sample, stream })
 }
 
-// A sample joins the grid with its evaluation and its number. The answer is 0, or a refusal's number: 12, 10, 12 as in `draw`; 3; 6,
-// then 4, at each level of the path; then 4, 5; 7; 8. Nothing is written then.
+// A sample joins the grid with its evaluation and its number. Refused: 12, 10, 12 as in `draw`; 3; 6, then 4, at each level of the path; then
+// 4, 5; 7; 8. Nothing is written then.
 pub fn train(
     table: &[u64],
     reals: &mut [f64],
@@ -55,33 +65,22 @@ pub fn train(
     s: Sample,
     evaluation: f64,
     number: u64,
-) -> u64
-    ensures { state_end result (memory reals.new counts.new) ≡
+) -> Result<(), Refusal>
+    ensures { state_end (fault_of result) (memory reals.new counts.new) ≡
         train_call_of table.now (memory reals.old counts.old) s evaluation number }
 {
-    let refused = state::fault(table, reals, counts);
-    if refused != 0 {
-        return refused;
-    }
-    let form = forms::fault_of(table, reals, counts, s);
+    state::fault(table, reals, counts)?;
+    let form = forms::fault_of(
+        Lent {
+            table,
+            reals,
+            counts,
+        },
+        &s,
+    );
     let mut spots = [0usize; 8];
-    let path = s.path;
-    let weights = s.weights;
-    let coordinates = s.coordinates;
     absorbing::admit(
-        table,
-        reals,
-        counts,
-        &path,
-        &weights,
-        &coordinates,
-        evaluation,
-        number,
-        &mut spots,
-        s.levels,
-        s.given,
-        s.axes,
-        form,
+        table, reals, counts, &s, evaluation, number, &mut spots, form,
     )
 }
 
@@ -95,16 +94,15 @@ pub fn draw_and_train(
     evaluations: &[f64],
     first: u64,
 ) -> Batched
-    ensures { batch_end result (memory reals.new counts.new) ≡
+    ensures { batch_end (said result) (memory reals.new counts.new) ≡
         batch_of table.now (memory reals.old counts.old) start evaluations.now first }
 {
-    let refused = state::fault(table, reals, counts);
-    if refused != 0 {
-        return Batched {
-            refused,
+    match state::fault(table, reals, counts) {
+        Ok(()) => batching::steps(table, reals, counts, start, evaluations, first),
+        Err(why) => Batched {
+            end: Err(why),
             done: 0,
             stream: start,
-        };
+        },
     }
-    batching::steps(table, reals, counts, start, evaluations, first)
 }

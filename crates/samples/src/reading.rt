@@ -21,7 +21,8 @@ pub fn count_at(counts: &[u64], i: usize) -> u64
     counts[i]
 }
 
-// Where the axes of the axes grid at word w stand, whose run is known to lie in the table; the tests of lent's `axes_place` are spared.
+// Where the axes of the axes grid at word w stand, whose run is known to lie in the table; the tests of lent's `axes_place` are spared. What
+// lent hands on asks nothing, so that its own `place_there` stays inside it.
 pub fn place_at(table: &[u64], w: usize) -> AxesAt
     requires { (w + 11 ≤ length table.now) × (get_or table.now (w + 9) 0 ≤ 2 ^ 63) × (get_or table.now (w + 10) 0 ≤ 2 ^ 63) }
     ensures { result ≡ axes_place table.now w }

@@ -1,24 +1,17 @@
 // Sampling: a grid's draw goes to its axes or to one of its bins, and from there to what hangs at the bin.
-ghost use Rattle.std.specs.Prelude.{◌≡◌, true, cond, ◌+◌, ◌≤◌, ◌<◌, length, get_or};
+ghost use Rattle.std.specs.Prelude.{◌≡◌, true, ◌+◌, ◌≤◌, ◌<◌, length, get_or};
 ghost use Rattle.doubles.specs.Numbers.{zero64};
 ghost use Rattle.recut.specs.Chances.{all_chances};
 ghost use Rattle.model.specs.Grid.{axes, bins};
 ghost use Rattle.model.specs.Sound.{sound};
-ghost use Rattle.model.specs.Draw.{reached, draw_axes, draw_nothing, draw_grid, draw_child};
-ghost use Rattle.lent.specs.Tree.{axes_grid_at, head_at, child_in, bins_in, grid_at, AxesLaid, BinsLaid, Laid};
-ghost use Rattle.lent.specs.Sampled.{laid_drawing, ChildLaid, sound_child, TracesAxes, Traces};
+ghost use Rattle.model.specs.Draw.{reached, draw_axes, draw_grid, draw_child};
+ghost use Rattle.lent.specs.Lent.{LaidAt, BinsLaidAt, AxesLaidAt, ChildLaidAt, grid_in, hung_at, bins_at, head_in, axes_in};
+ghost use Rattle.lent.specs.Sampled.{empty, sample_of, laid_sample, WrittenOver, sound_child, TracesAxes, Traces};
 
 use crate::axes;
 use crate::reading::place_at;
-use lent::{Drawing, Sample, Traced};
+use lent::{Lent, Sample, Traced};
 use stream::MonteCarloRng;
-
-// 1 where the test passed, else 0.
-fn one(test: bool) -> usize
-    ensures { result ≡ cond test 1 0 }
-{
-    if test { 1 } else { 0 }
-}
 
 // The first bin whose running sum of probabilities is at least the draw; if none, the last. The sums go up, so that the bins whose sum lies
 // below the draw are counted. Up to 16 bins all are looked at: a jump at the bin that is reached is one that the processor cannot foresee, and
@@ -28,55 +21,47 @@ fn reach(chances: &[f64], r: f64) -> usize
     ensures { (result ≡ reached r zero64 chances.now) × (result < length chances.now) }
 {
     let mut sum = 0.0;
-    let mut i = 0;
     let mut bin = 0;
-    while i + 1 < chances.len() {
+    for i in 0..chances.len() - 1 {
         sum = sum + chances[i];
-        bin = bin + one(!(r <= sum));
-        i += 1;
-        if (16 < chances.len()) & (bin < i) {
+        bin = bin + usize::from(!(r <= sum));
+        if (16 < chances.len()) & (bin <= i) {
             return bin;
         }
     }
     bin
 }
 
-// Nothing drawn: the answer beside a refusal.
-pub fn draw_nothing(start: MonteCarloRng) -> Drawing
-    ensures { result ≡ laid_drawing (draw_nothing start) }
+// A sample of nothing, into which one is drawn.
+pub fn empty_sample() -> Sample
+    ensures { result ≡ laid_sample empty }
 {
-    Drawing {
-        sample: Sample {
-            path: [0usize; 4],
-            levels: 0,
-            weights: [0.0f64; 5],
-            given: 0,
-            coordinates: [0.0f64; 8],
-            axes: 0,
-        },
-        stream: start,
+    Sample {
+        path: [0usize; 4],
+        levels: 0,
+        weights: [0.0f64; 5],
+        given: 0,
+        coordinates: [0.0f64; 8],
+        axes: 0,
     }
 }
 
 // A draw from the axes grid at word w, below `depth` bins grids.
 fn draw_from_axes(
-    table: &[u64],
-    reals: &[f64],
-    counts: &[u64],
+    m: Lent<'_>,
     w: usize,
     start: MonteCarloRng,
-    weights: &mut [f64; 5],
-    coordinates: &mut [f64; 8],
+    s: &mut Sample,
     spots: &mut [usize; 8],
     depth: usize,
 ) -> Traced
-    requires { AxesLaid table.now (length reals.now) (length counts.now) w × (sound (axes (axes_grid_at table.now reals.now counts.now w)) ≡ true) × (depth ≤ 4) × (length coordinates.old ≡ 8) }
-    ensures { TracesAxes depth (draw_axes (axes_grid_at table.now reals.now counts.now w) start) result
-        weights.old weights.new coordinates.old coordinates.new × (length spots.new ≡ length spots.old) }
+    requires { AxesLaidAt m w × (sound (axes (axes_in m w)) ≡ true) × (depth ≤ 4) }
+    ensures { TracesAxes depth (draw_axes (axes_in m.entry w) start) result
+        s.old.weights s.new.weights s.old.coordinates s.new.coordinates × (length spots.new ≡ length spots.old) × (s.new.path ≡ s.old.path) }
 {
-    let g = place_at(table, w);
-    let walked = axes::draw_axes(reals, counts, g, start, coordinates, spots);
-    weights[depth] = walked.weight;
+    let g = place_at(m.table, w);
+    let walked = axes::draw_axes(m.reals, m.counts, g, start, &mut s.coordinates, spots);
+    s.weights[depth] = walked.weight;
     let stream = walked.stream;
     Traced {
         levels: depth,
@@ -90,21 +75,17 @@ fn draw_from_axes(
 // A draw from what hangs at a link, below `depth` bins grids.
 #[cycle(draw_child_draw_from_bins_draw_grid)]
 fn draw_child(
-    table: &[u64],
-    reals: &[f64],
-    counts: &[u64],
+    m: Lent<'_>,
     level: usize,
     link: usize,
     start: MonteCarloRng,
-    path: &mut [usize; 4],
-    weights: &mut [f64; 5],
-    coordinates: &mut [f64; 8],
+    s: &mut Sample,
     spots: &mut [usize; 8],
     depth: usize,
 ) -> Traced
-    requires { ChildLaid level table.now (length reals.now) (length counts.now) link × (depth + level ≤ 4) × (sound_child (child_in (grid_at level table.now reals.now counts.now) link) ≡ true) × (length coordinates.old ≡ 8) }
-    ensures { Traces level depth (draw_child (child_in (grid_at level table.now reals.now counts.now) link) start) result
-        path.old path.new weights.old weights.new coordinates.old coordinates.new × (length spots.new ≡ length spots.old) }
+    requires { ChildLaidAt m level link × (depth + level ≤ 4) × (sound_child (hung_at m level link) ≡ true) }
+    ensures { Traces level depth (draw_child (hung_at m.entry level link) start) result
+        s.old.path s.new.path s.old.weights s.new.weights s.old.coordinates s.new.coordinates × (length spots.new ≡ length spots.old) }
 {
     if link == 0 {
         return Traced {
@@ -115,67 +96,39 @@ fn draw_child(
             stream: start,
         };
     }
-    draw_grid(
-        table,
-        reals,
-        counts,
-        level,
-        link,
-        start,
-        path,
-        weights,
-        coordinates,
-        spots,
-        depth,
-    )
+    draw_grid(m, level, link, start, s, spots, depth)
 }
 
 // A draw from the bins grid at word w, whose children have so many levels left.
 #[cycle(draw_child_draw_from_bins_draw_grid)]
 fn draw_from_bins(
-    table: &[u64],
-    reals: &[f64],
-    counts: &[u64],
+    m: Lent<'_>,
     level: usize,
     w: usize,
     start: MonteCarloRng,
-    path: &mut [usize; 4],
-    weights: &mut [f64; 5],
-    coordinates: &mut [f64; 8],
+    s: &mut Sample,
     spots: &mut [usize; 8],
     depth: usize,
 ) -> Traced
-    requires { BinsLaid (Laid level table.now (length reals.now) (length counts.now)) table.now (length reals.now) (length counts.now) w × (depth + level ≤ 3)
-        × (sound (bins (head_at table.now reals.now counts.now w) (bins_in (grid_at level table.now reals.now counts.now) table.now reals.now counts.now w 0 (get_or table.now (w + 2) 0))) ≡ true) × (length coordinates.old ≡ 8) }
-    ensures { Traces (level + 1) depth (draw_grid (bins (head_at table.now reals.now counts.now w)
-        (bins_in (grid_at level table.now reals.now counts.now) table.now reals.now counts.now w 0 (get_or table.now (w + 2) 0))) start) result
-        path.old path.new weights.old weights.new coordinates.old coordinates.new × (length spots.new ≡ length spots.old) }
+    requires { BinsLaidAt m level w × (depth + level ≤ 3)
+        × (sound (bins (head_in m w) (bins_at m level w)) ≡ true) }
+    ensures { Traces (level + 1) depth (draw_grid (bins (head_in m.entry w)
+        (bins_at m.entry level w)) start) result
+        s.old.path s.new.path s.old.weights s.new.weights s.old.coordinates s.new.coordinates × (length spots.new ≡ length spots.old) }
 {
     let unit = start.unit();
     let next = unit.stream;
-    let first = table[w + 5] as usize + 14;
-    let past = first + table[w + 2] as usize;
-    let bin = reach(&reals[first..past], unit.value);
-    let chance = reals[first + bin];
+    let first = m.table[w + 5] as usize + 14;
+    let past = first + m.table[w + 2] as usize;
+    let bin = reach(&m.reals[first..past], unit.value);
+    let chance = m.reals[first + bin];
     // Divided before the recursion, so that neither waits for the other.
     let share = plain::inv(chance);
-    let link = table[w + 7 + bin] as usize;
-    path[depth] = bin;
-    let mut traced = draw_child(
-        table,
-        reals,
-        counts,
-        level,
-        link,
-        next,
-        path,
-        weights,
-        coordinates,
-        spots,
-        depth + 1,
-    );
+    let link = m.table[w + 7 + bin] as usize;
+    s.path[depth] = bin;
+    let mut traced = draw_child(m, level, link, next, s, spots, depth + 1);
     let weight = share * traced.weight;
-    weights[depth] = weight;
+    s.weights[depth] = weight;
     traced.weight = weight;
     traced
 }
@@ -183,85 +136,38 @@ fn draw_from_bins(
 // A draw from the grid whose run begins at word w, below `depth` bins grids.
 #[cycle(draw_child_draw_from_bins_draw_grid)]
 pub fn draw_grid(
-    table: &[u64],
-    reals: &[f64],
-    counts: &[u64],
+    m: Lent<'_>,
     level: usize,
     w: usize,
     start: MonteCarloRng,
-    path: &mut [usize; 4],
-    weights: &mut [f64; 5],
-    coordinates: &mut [f64; 8],
+    s: &mut Sample,
     spots: &mut [usize; 8],
     depth: usize,
 ) -> Traced
-    requires { Laid level table.now (length reals.now) (length counts.now) w × (depth + level ≤ 4) × (sound (grid_at level table.now reals.now counts.now w) ≡ true) × (length coordinates.old ≡ 8) }
-    ensures { Traces level depth (draw_grid (grid_at level table.now reals.now counts.now w) start) result
-        path.old path.new weights.old weights.new coordinates.old coordinates.new × (length spots.new ≡ length spots.old) }
+    requires { LaidAt m level w × (depth + level ≤ 4) × (sound (grid_in m level w) ≡ true) }
+    ensures { Traces level depth (draw_grid (grid_in m.entry level w) start) result
+        s.old.path s.new.path s.old.weights s.new.weights s.old.coordinates s.new.coordinates × (length spots.new ≡ length spots.old) }
 {
-    if table[w] == 1 {
-        return draw_from_axes(
-            table,
-            reals,
-            counts,
-            w,
-            start,
-            weights,
-            coordinates,
-            spots,
-            depth,
-        );
+    if m.table[w] == 1 {
+        return draw_from_axes(m, w, start, s, spots, depth);
     }
-    draw_from_bins(
-        table,
-        reals,
-        counts,
-        level - 1,
-        w,
-        start,
-        path,
-        weights,
-        coordinates,
-        spots,
-        depth,
-    )
+    draw_from_bins(m, level - 1, w, start, s, spots, depth)
 }
 
 // A draw from the whole grid.
 pub fn draw_root(
-    table: &[u64],
-    reals: &[f64],
-    counts: &[u64],
+    m: Lent<'_>,
     start: MonteCarloRng,
+    s: &mut Sample,
     spots: &mut [usize; 8],
-) -> Drawing
-    requires { Laid 4 table.now (length reals.now) (length counts.now) 0 × (sound (grid_at 4 table.now reals.now counts.now 0) ≡ true) }
-    ensures { result ≡ laid_drawing (draw_grid (grid_at 4 table.now reals.now counts.now 0) start) }
+) -> MonteCarloRng
+    requires { LaidAt m 4 0 × (sound (grid_in m 4 0) ≡ true) }
+    ensures { (result ≡ (draw_grid (grid_in m.entry 4 0) start).stream) × WrittenOver s.old s.new (draw_grid (grid_in m.entry 4 0) start).sample
+        × (sample_of s.new ≡ (draw_grid (grid_in m.entry 4 0) start).sample) × (length spots.new ≡ length spots.old) }
 {
-    let mut path = [0usize; 4];
-    let mut weights = [0.0f64; 5];
-    let mut coordinates = [0.0f64; 8];
-    let traced = draw_grid(
-        table,
-        reals,
-        counts,
-        4,
-        0,
-        start,
-        &mut path,
-        &mut weights,
-        &mut coordinates,
-        spots,
-        0,
-    );
-    let stream = traced.stream;
-    let sample = Sample {
-        path,
-        levels: traced.levels,
-        weights,
-        given: traced.given,
-        coordinates,
-        axes: traced.axes,
-    };
-    Drawing { sample, stream }
+    let traced = draw_grid(m, 4, 0, start, s, spots, 0);
+    s.levels = traced.levels;
+    s.given = traced.given;
+    s.axes = traced.axes;
+    traced.stream
 }

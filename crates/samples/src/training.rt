@@ -1,43 +1,27 @@
 // Training axes: whether a sample may join its bins is judged first, on all of them; only then is anything written.
-ghost use Rattle.std.specs.Prelude.{◌≡◌, true, ◌&&◌, [], ◌+◌, ◌*◌, ◌^◌, ◌≤◌, ◌<◌, length, get_or};
+ghost use Rattle.std.specs.Prelude.{◌≡◌, Bool, true, ◌&&◌, List, [], ◌∷◌, Float, ◌+◌, ◌*◌, ◌^◌, ◌≤◌, ◌<◌, length, get_or};
 ghost use Rattle.std.specs.Float.{nan};
 ghost use Rattle.axis.specs.Edges.{well_formed, in_unit, bin_of};
 ghost use Rattle.lent.specs.Sampled.{entries};
 ghost use Rattle.doubles.specs.Finite.{finite_of};
-ghost use Rattle.doubles.specs.Total.{all_finite};
-ghost use Rattle.accumulator.specs.Steps.{zero_count};
 ghost use Rattle.lent.specs.Drawn.{axes_at};
 ghost use Rattle.lent.specs.Memory.{memory, Asked};
-ghost use Rattle.lent.specs.Trained.{all_in_unit, bins_on, trained_at, Cell, cell_fits, cells_fit, trained_over, CellsOf};
+ghost use Rattle.lent.specs.Trained.{bins_on, trained_at, Cell, cell_fits, cells_fit, trained_over, CellsOf};
 ghost use Rattle.lent.specs.Found.{Begins};
 
 use crate::reading::{count_at, real_at};
+use accumulator::zero_count;
 use lent::AxesAt;
 
-// Whether the first n coordinates are numbers in [0, 1].
-pub fn are_in_unit(xs: &[f64; 8], n: usize) -> bool
-    requires { n ≤ 8 }
-    ensures { result ≡ all_in_unit (entries nan xs.now 0 n) }
+// Whether the test holds of each of the first n entries.
+pub fn are_all<const N: usize, F: Fn(f64) -> bool>(xs: &[f64; N], n: usize, test: F) -> bool
+    requires { (n ≤ N) × F.IsAlwaysCallable test }
+    ensures { (t : Float → Bool) → ((x : Float) (b : Bool) → F.post test x b → b ≡ t x) → (all : List Float → Bool) → all [] ≡ true
+        → ((x : Float) (rest : List Float) → all (x ∷ rest) ≡ (t x && all rest)) → result ≡ all (entries nan xs.now 0 n) }
 {
     let mut ok = true;
-    let mut i = 0;
-    while i < n {
-        ok = ok & axis::scans::in_unit(xs[i]);
-        i += 1;
-    }
-    ok
-}
-
-// Whether the first n weights are finite.
-pub fn are_finite(ws: &[f64; 5], n: usize) -> bool
-    requires { n ≤ 5 }
-    ensures { result ≡ all_finite (entries nan ws.now 0 n) }
-{
-    let mut ok = true;
-    let mut i = 0;
-    while i < n {
-        ok = ok & plain::finite(ws[i]);
-        i += 1;
+    for i in 0..n {
+        ok = ok & test(xs[i]);
     }
     ok
 }
@@ -61,13 +45,6 @@ pub fn are_sums_finite(sum: f64, squares: f64) -> bool
     ensures { result ≡ (finite_of sum && finite_of squares) }
 {
     (sum - sum) + (squares - squares) == 0.0
-}
-
-// 1 for a zero.
-pub fn zero_count(v: f64) -> u64
-    ensures { result ≡ zero_count v }
-{
-    if v == 0.0 { 1 } else { 0 }
 }
 
 // Whether the sums and counts of a bin may be kept once v has joined it.
@@ -107,8 +84,7 @@ pub fn axes_fit(
     let mut ok = true;
     let mut at = g.reals;
     let mut place = g.counts;
-    let mut done = 0;
-    while done < g.axes {
+    for done in 0..g.axes {
         let held = counts[place] as usize;
         let end = at + held + 1;
         let bin = bin_near(&reals[at..end], xs[done], spots[done]);
@@ -116,7 +92,6 @@ pub fn axes_fit(
         ok = ok & cell_fits(reals, counts, g.most, at, place, bin, v);
         at = at + (6 * g.most + 1);
         place = place + (3 * g.most + 2);
-        done += 1;
     }
     ok
 }
@@ -157,13 +132,11 @@ pub fn train_axes(reals: &mut [f64], counts: &mut [u64], g: AxesAt, spots: &[usi
 {
     let mut at = g.reals;
     let mut place = g.counts;
-    let mut done = 0;
-    while done < g.axes {
+    for done in 0..g.axes {
         let bin = spots[done];
         train_reals(reals, g.most, at, bin, v);
         train_counts(counts, g.most, place, bin, v);
         at = at + (6 * g.most + 1);
         place = place + (3 * g.most + 2);
-        done += 1;
     }
 }

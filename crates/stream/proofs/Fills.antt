@@ -1,10 +1,12 @@
 -- Bytes of words: what a word's bytes are by number, and how `fill_bytes` goes on word by word.
-use Rattle.std.proofs.Common.{◌≡◌, ℕ, zero, suc, ◌+◌, ◌-◌, ◌*◌, ◌/◌, ◌%◌, ◌<◌, ◌≤◌, Bool, true, false, ◌&&◌, eqb, ltb, List, [], ◌∷◌, ◌++◌, length, get_or, take, drop, set, sym, refl, ap, ◌∙◌, append_assoc, append-nil, zero-lt-suc, add-one, arith, length-append, length-set, length-take-le, take_all, drop-cons, take_at, ltb-false, ltb-true, lt-ltb}
+use Rattle.std.proofs.Common.{◌≡◌, ℕ, zero, suc, ◌+◌, ◌-◌, ◌*◌, ◌/◌, ◌%◌, ◌<◌, ◌≤◌, Bool, true, false, ◌&&◌, ◌==◌, w64, ltb, List, [], ◌∷◌, ◌++◌, length, take, drop, set, get_or-take, lit<, sym, refl, ap, ◌∙◌, append_assoc, append-nil, zero-lt-suc, add-one, arith, length-append, length-set, length-take-le, take_all, take_at, ltb-false, ltb-true}
+use Rattle.std.specs.List.{list_all}
+use Rattle.std.specs.Int.{from_le_bytes}
 use lib.Seq.{set_out, sets, sets-eq, length-sets, take-nil, take-append-add}
 use Rattle.stream.specs.declared.MonteCarloRng.{MonteCarloRng}
 use Rattle.stream.specs.declared.Word.{Word}
 use Rattle.stream.specs.Xoshiro.{word_of, step_of, steps_of}
-use Rattle.stream.specs.Bytes.{bytes_of, all_zero, stream_bytes}
+use Rattle.stream.specs.Bytes.{bytes_of, word_in, all_zero, stream_bytes}
 use Rattle.stream.specs.Calls.{drawn_of, Filled, filled, filled_of, words_for}
 
 pub length-bytes : (n w : ℕ) → length (bytes_of n w) ≡ n
@@ -19,10 +21,18 @@ take-bytes zero n w h = refl
 take-bytes (suc m) zero w h = absurd (omega arith)
 take-bytes (suc m) (suc n) w h = ap (λ (l : List ℕ). w % 256 ∷ l) (take-bytes m n (w / 256) (omega arith))
 
--- the zero test, one byte on
-pub zero-on : (l : List ℕ) (i : ℕ) → i < length l → all_zero (drop i l) ≡ (eqb (get_or l i 0) 0 && all_zero (drop (i + 1) l))
+-- the zero test, as a test of each byte
+pub all-zero-each : (l : List ℕ) → list_all (λ b. b == 0) l ≡ all_zero l
 unfolding all_zero
-zero-on l i h = rw (add-one, drop-cons l i 0)
+all-zero-each [] = refl
+all-zero-each (b ∷ l) = ap (λ (z : Bool). b == 0 && z) (all-zero-each l)
+
+-- eight bytes are the word that stands first in a list which begins with them
+pub word-of-eight : (eight l : List ℕ) → eight ≡ take 8 l → from_le_bytes w64 eight ≡ word_in l
+unfolding word_in
+word-of-eight eight l e =
+    let at = λ (k : ℕ) (h : k < 8). get_or-take 8 l k 0 h in
+    rw e (omega (arith, at 0 (lit< tt), at 1 (lit< tt), at 2 (lit< tt), at 3 (lit< tt), at 4 (lit< tt), at 5 (lit< tt), at 6 (lit< tt), at 7 (lit< tt)))
 
 -- stores past the end change nothing
 sets-out : (vs l : List ℕ) (i : ℕ) → length l ≤ i → sets l i vs ≡ l
@@ -36,10 +46,10 @@ put_on d i zero w h = absurd (omega arith)
 put_on d i (suc n) w h = let e : suc n - 1 ≡ n = omega arith in rw (e, add-one)
 
 -- no byte left, or no room
-pub put-done : (d : List ℕ) (i n w : ℕ) → (ltb 0 n && ltb i (length d)) ≡ false → sets d i (bytes_of n w) ≡ d
+pub put-done : (d : List ℕ) (i n w : ℕ) → (0 < n → length d ≤ i) → sets d i (bytes_of n w) ≡ d
 unfolding bytes_of
 put-done d i zero w h = refl
-put-done d i (suc n) w h = sets-out (bytes_of (suc n) w) d i (ltb-false i (length d) (rw (lt-ltb 0 (suc n) (zero-lt-suc n)) at h))
+put-done d i (suc n) w h = sets-out (bytes_of (suc n) w) d i (h (zero-lt-suc n))
 
 -- what `fill_bytes` leaves, with `at` bytes of d done and the stream at s
 unfoldable pub onward : List ℕ → ℕ → MonteCarloRng → Filled

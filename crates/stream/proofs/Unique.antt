@@ -8,9 +8,10 @@ use Rattle.stream.specs.declared.MonteCarloRng.{MonteCarloRng}
 use Rattle.stream.specs.declared.Word.{Word}
 use Rattle.stream.specs.declared.Half.{Half}
 use Rattle.stream.specs.declared.Unit.{Unit}
-use Rattle.stream.specs.declared.Made.{Made}
-use Rattle.stream.specs.declared.Made.TheVariants.{Stream, Refused}
-use Rattle.stream.specs.Calls.{Filled, paper}
+use Rattle.stream.specs.Calls.{Filled}
+use Rattle.std.specs.Prelude.{Result}
+use Rattle.doubles.specs.declared.refusal.Refusal.{Refusal}
+use Rattle.doubles.proofs.Refusals.{paper-one}
 use Rattle.stream.proofs.unit_of.Kinds as unit-of
 use Rattle.stream.proofs.unit_of.Reads as unit-of-reads
 use Rattle.stream.proofs.MonteCarloRng.next_u64.Kinds as next-u64
@@ -35,14 +36,6 @@ use Rattle.stream.proofs.MonteCarloRng.new.Kinds as new
 use Rattle.stream.proofs.MonteCarloRng.new.Reads as new-reads
 use Rattle.stream.proofs.MonteCarloRng.fill_bytes.Kinds as fill-bytes
 use Rattle.stream.proofs.MonteCarloRng.fill_bytes.Reads as fill-bytes-reads
-
--- the paper's words tell the answers of `new` apart
-pub paper-one : (a b : Made) → paper a ≡ paper b → a ≡ b
-unfolding paper
-paper-one (Stream s) (Stream t) e = cc
-paper-one (Stream s) (Refused n) e = cc
-paper-one (Refused m) (Stream t) e = cc
-paper-one (Refused m) (Refused n) e = cc
 
 pub unit-of-total : (κs : Lfts 0) (a : Dens κs unit-of.ps) → unit-of-reads.Pre κs a
 unit-of-total κs a = tt
@@ -117,7 +110,7 @@ long-jump-unique κs a r r' s s' p q = p ∙ sym q
 pub new-total : (κs : Lfts 0) (a : Dens κs new.ps) → new-reads.Pre κs a
 new-total κs a = tt
 
-pub new-unique : (κs : Lfts 0) (a : Dens κs new.ps) (r r' : Made) (s s' : AtExit (ended_of 0 new.ps new.r) κs)
+pub new-unique : (κs : Lfts 0) (a : Dens κs new.ps) (r r' : Result MonteCarloRng Refusal) (s s' : AtExit (ended_of 0 new.ps new.r) κs)
     → new-reads.Post κs a r s → new-reads.Post κs a r' s' → r ≡ r'
 new-unique κs a r r' s s' p q = paper-one r r' (p ∙ sym q)
 

@@ -6,8 +6,6 @@ use Rattle.stream.specs.declared.MonteCarloRng.{MonteCarloRng}
 use Rattle.stream.specs.declared.Word.{Word}
 use Rattle.stream.specs.declared.Half.{Half}
 use Rattle.stream.specs.declared.Unit.{Unit}
-use Rattle.stream.specs.declared.Made.{Made}
-use Rattle.stream.specs.declared.Made.TheVariants.{Stream, Refused}
 use Rattle.stream.specs.SplitMix.{seeded_of}
 use Rattle.stream.specs.Xoshiro.{word_of, step_of, steps_of}
 use Rattle.stream.specs.Jumps.{jumps_of}
@@ -56,11 +54,6 @@ state_in l = record { s0 = word_in l; s1 = word_in (drop 8 l); s2 = word_in (dro
 -- import: the state in 32 bytes; of zero bytes alone, new(0, 0)
 unfoldable pub import_of : List ℕ → MonteCarloRng
 import_of l = cond (all_zero l) (seeded_of 0) (state_in l)
-
--- what `Made` says
-unfoldable pub paper : Made → Paper MonteCarloRng
-paper (Stream s) = gives s
-paper (Refused n) = refuses n
 
 -- new(seed, k): four words from the seed, then k jumps; 3 for a stream number above 4,095
 unfoldable pub new_of : ℕ → ℕ → Paper MonteCarloRng

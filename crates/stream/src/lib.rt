@@ -5,18 +5,18 @@
 #![tactic(auto)]
 
 mod bytes;
-mod words;
 
 ghost use Rattle.std.specs.Prelude.{◌≡◌, ◌<◌, ◌≤◌, length};
+ghost use Rattle.doubles.specs.Refusal.{paper};
 ghost use Rattle.stream.specs.SplitMix.{advanced, mix_of, seeded_of};
 ghost use Rattle.stream.specs.Jumps.{jump_table, long_jump_table, joined, walk_bit, walk_bits, jump_of, jumps_of};
-ghost use Rattle.stream.specs.Calls.{drawn_of, upper_of, unit_of, unit_drawn_of, words_for, filled, filled_of, export_of, state_in, import_of, paper, new_of};
+ghost use Rattle.stream.specs.Calls.{drawn_of, upper_of, unit_of, unit_drawn_of, words_for, filled, filled_of, export_of, state_in, import_of, new_of};
 
 use bytes::{is_all_zero, put_word, with_word, word_at};
-use words::{rotl, wrapping_mul};
+use doubles::Refusal;
 
 // The state: four words in the order of the publication.
-#[derive(Clone, Copy)]
+#[derive(Clone, Copy, Debug, PartialEq, Eq)]
 pub struct MonteCarloRng {
     pub s0: u64,
     pub s1: u64,
@@ -45,13 +45,6 @@ pub struct Unit {
     pub stream: MonteCarloRng,
 }
 
-// What `new` answers: a stream, or a refusal's number.
-#[derive(Clone, Copy)]
-pub enum Made {
-    Stream(MonteCarloRng),
-    Refused(u64),
-}
-
 // The top 53 bits of a word times 2^-53: a number of [0, 1 - 2^-53].
 pub fn unit_of(word: u64) -> f64
     ensures { result ≡ unit_of word }
@@ -70,15 +63,15 @@ pub struct Walk {
 fn advance(x: u64) -> u64
     ensures { result ≡ advanced x }
 {
-    std::num::wrapping_add_u64(x, MonteCarloRng::SPLITMIX64_GAMMA)
+    x.wrapping_add(MonteCarloRng::SPLITMIX64_GAMMA)
 }
 
 // SplitMix64's word at the state x.
 fn mix(x: u64) -> u64
     ensures { result ≡ mix_of x }
 {
-    let y = wrapping_mul(x ^ (x >> 30), 0xbf58_476d_1ce4_e5b9);
-    let z = wrapping_mul(y ^ (y >> 27), 0x94d0_49bb_1331_11eb);
+    let y = (x ^ (x >> 30)).wrapping_mul(0xbf58_476d_1ce4_e5b9);
+    let z = (y ^ (y >> 27)).wrapping_mul(0x94d0_49bb_1331_11eb);
     z ^ (z >> 31)
 }
 
@@ -137,10 +130,8 @@ fn walk_word(word: u64, walk: Walk) -> Walk
     ensures { result ≡ walk_bits word 64 0 walk }
 {
     let mut at = walk;
-    let mut bit: u64 = 0;
-    while bit < 64 {
+    for bit in 0..64 {
         at = walk_bit(word, bit, at);
-        bit += 1;
     }
     at
 }
@@ -179,13 +170,13 @@ impl MonteCarloRng {
     }
 
     // The stream of a seed and a stream number: `seed_from_u64`, then that many jumps. A number above 4,095 is refused with 3.
-    pub fn new(seed: u64, number: u64) -> Made
+    pub fn new(seed: u64, number: u64) -> Result<MonteCarloRng, Refusal>
         ensures { paper result ≡ new_of seed number }
     {
         if 4095 < number {
-            return Made::Refused(3);
+            return Err(Refusal::Range);
         }
-        Made::Stream(MonteCarloRng::seed_from_u64(seed).jumps(number))
+        Ok(MonteCarloRng::seed_from_u64(seed).jumps(number))
     }
 
     // The stream whose words stand in 32 bytes, as `export` writes them; of 32 zero bytes, the stream of seed 0.
@@ -219,7 +210,7 @@ impl MonteCarloRng {
     pub fn next_u64(self) -> Word
         ensures { result ≡ drawn_of self }
     {
-        let value = wrapping_mul(rotl(wrapping_mul(self.s1, 5), 7), 9);
+        let value = self.s1.wrapping_mul(5).rotate_left(7).wrapping_mul(9);
         let t = self.s1 << 17;
         let s2 = self.s2 ^ self.s0;
         let s3 = self.s3 ^ self.s1;
@@ -229,7 +220,7 @@ impl MonteCarloRng {
                 s0: self.s0 ^ s3,
                 s1: self.s1 ^ s2,
                 s2: s2 ^ t,
-                s3: rotl(s3, 45),
+                s3: s3.rotate_left(45),
             },
         }
     }
@@ -264,12 +255,10 @@ impl MonteCarloRng {
     {
         let words = words_for(dest.len());
         let mut stream = self;
-        let mut k = 0;
-        while k < words {
+        for k in 0..words {
             let word = stream.next_u64();
             put_word(dest, k * 8, word.value);
             stream = word.stream;
-            k += 1;
         }
         stream
     }
@@ -302,10 +291,8 @@ impl MonteCarloRng {
             sum: none,
             state: self,
         };
-        let mut i = 0;
-        while i < table.len() {
-            walk = walk_word(table[i], walk);
-            i += 1;
+        for word in table {
+            walk = walk_word(*word, walk);
         }
         walk.sum
     }
@@ -315,10 +302,8 @@ impl MonteCarloRng {
         ensures { result ≡ jumps_of count self }
     {
         let mut stream = self;
-        let mut done = 0;
-        while done < count {
+        for _ in 0..count {
             stream = stream.jump();
-            done += 1;
         }
         stream
     }

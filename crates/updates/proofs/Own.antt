@@ -36,13 +36,13 @@ use Rattle.updates.specs.Own.{bins_place, BinsFit, bin_own, bins_updated, bins_i
 -- ---- loops over bins
 
 module _ (r c n : ℕ) where
-  pub accounts-next : (i : ℕ) (e m : Bool) (s t : Memory) (f : Found) → i < n → found f t ≡ account_updated (r + 14 * i) (c + 7 * i) s
-      → followed (finding (e || f.eight) (m || f.nine) t) (bins_updated r c (i + 1) (n - (i + 1))) ≡ followed (finding e m s) (bins_updated r c i (n - i))
+  pub accounts-next : (i : ℕ) (a b o : Found) (s t : Memory) → i < n → (o.eight ≡ (a.eight || b.eight)) × (o.nine ≡ (a.nine || b.nine)) → found b t ≡ account_updated (r + 14 * i) (c + 7 * i) s
+      → followed (found o t) (bins_updated r c (i + 1) (n - (i + 1))) ≡ followed (found a s) (bins_updated r c i (n - i))
   unfolding bins_updated followed
-  accounts-next i e m s t f h k =
+  accounts-next i a b o s t h e k =
       let g : n - i ≡ suc (n - (i + 1)) = omega arith in
-      followed-next e m s t f (account_updated (r + 14 * i) (c + 7 * i)) (bins_updated r c (i + 1) (n - (i + 1))) k
-      ∙ ap (λ (q : ℕ). followed (finding e m s) (bins_updated r c i q)) (sym g)
+      followed-next a b o s t (account_updated (r + 14 * i) (c + 7 * i)) (bins_updated r c (i + 1) (n - (i + 1))) e k
+      ∙ ap (λ (q : ℕ). followed (found a s) (bins_updated r c i q)) (sym g)
 
   pub accounts-done : (i : ℕ) (o : Outcome Memory) → n ≤ i → followed o (bins_updated r c i (n - i)) ≡ o
   unfolding bins_updated followed

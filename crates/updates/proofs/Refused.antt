@@ -20,19 +20,19 @@ use Rattle.lent.proofs.States.{fault-to-known}
 use Rattle.lent.proofs.Clones.{Ready, ready}
 use Rattle.updates.specs.Refused.{refused_for}
 
-module _ (fault known : ℕ) (bins_rate axes_rate : Float) (d : fault ≡ known) where
-  pub fault-refuses : (fault ≡ 0 → ⊥) → fault ≡ refused_for known bins_rate axes_rate
+module _ (known : ℕ) (bins_rate axes_rate : Float) where
+  pub fault-refuses : (fault : ℕ) → fault ≡ known → (fault ≡ 0 → ⊥) → fault ≡ refused_for known bins_rate axes_rate
   unfolding refused_for
-  fault-refuses z = rw (sym d, ne_eqb fault 0 z)
+  fault-refuses fault d z = rw (sym d, ne_eqb fault 0 z)
 
-  module _ (z : fault ≡ 0) (a b : Bool) (e : a ≡ rate_fits bins_rate) (f : b ≡ rate_fits axes_rate) where
+  module _ (z : known ≡ 0) (a b : Bool) (e : a ≡ rate_fits bins_rate) (f : b ≡ rate_fits axes_rate) where
     pub rate-refuses : (a && b) ≡ false → 3 ≡ refused_for known bins_rate axes_rate
     unfolding refused_for
-    rate-refuses h = rw (sym d, eq-eqb fault 0 z, failed (ap₂ ◌&&◌ e f) h)
+    rate-refuses h = rw (eq-eqb known 0 z, failed (ap₂ ◌&&◌ e f) h)
 
     pub none-refuses : (a && b) ≡ true → 0 ≡ refused_for known bins_rate axes_rate
     unfolding refused_for
-    none-refuses h = rw (sym d, eq-eqb fault 0 z, passed (ap₂ ◌&&◌ e f) h)
+    none-refuses h = rw (eq-eqb known 0 z, passed (ap₂ ◌&&◌ e f) h)
 
 module _ (table : List ℕ) (bins_rate axes_rate : Float) (R C : ℕ) (s : Memory) (needs : Needs) (n : ℕ) where
   ladder : (x y : Bool) (fault : ℕ) (e : StateEnd) → n ≡ cond (not x) fault (cond (not y) 3 0) → (n ≡ 0 → ⊥) → state_end n s ≡ cond (not x) (state_end fault s) (cond (not y) (state_end 3 s) e)
@@ -47,17 +47,17 @@ module _ (table : List ℕ) (bins_rate axes_rate : Float) (R C : ℕ) (s : Memor
       let o = renewed_over table bins_rate axes_rate (front_of needs s) in
       ladder (eqb fault 0) (rate_fits bins_rate && rate_fits axes_rate) fault (state_end o.answer (in_front needs o.state s)) d z
 
-none : (x y : Bool) (fault n : ℕ) → eqb fault 0 ≡ x → n ≡ cond (not x) fault (cond (not y) 3 0) → n ≡ 0 → (fault ≡ 0) × (y ≡ true)
-none false y fault n e d z = let h : fault ≡ 0 = sym d ∙ z in (h, absurd (told (sym e ∙ eq-eqb fault 0 h)))
+none : (x y : Bool) (fault : ℕ) → eqb fault 0 ≡ x → 0 ≡ cond (not x) fault (cond (not y) 3 0) → (fault ≡ 0) × (y ≡ true)
+none false y fault e d = absurd (told (sym e ∙ eq-eqb fault 0 (sym d)))
   where
     told : false ≡ true → ⊥
     told q = let a : ◌≡◌ {A = ℕ} 0 1 = cc in omega arith
-none true false fault n e d z = absurd (omega (arith, sym d ∙ z))
-none true true fault n e d z = (eqb-true fault 0 e, refl)
+none true false fault e d = absurd (omega (arith, d))
+none true true fault e d = (eqb-true fault 0 e, refl)
 
-pub nothing-refuses : (fault n : ℕ) (bins_rate axes_rate : Float) → n ≡ refused_for fault bins_rate axes_rate → n ≡ 0 → (fault ≡ 0) × ((rate_fits bins_rate && rate_fits axes_rate) ≡ true)
+nothing-refuses : (fault : ℕ) (bins_rate axes_rate : Float) → 0 ≡ refused_for fault bins_rate axes_rate → (fault ≡ 0) × ((rate_fits bins_rate && rate_fits axes_rate) ≡ true)
 unfolding refused_for
-nothing-refuses fault n bins_rate axes_rate d z = none (eqb fault 0) (rate_fits bins_rate && rate_fits axes_rate) fault n refl d z
+nothing-refuses fault bins_rate axes_rate d = none (eqb fault 0) (rate_fits bins_rate && rate_fits axes_rate) fault refl d
 
 -- where nothing refuses: the room of the plan's part in the state and in its spare, and rates that fit
 pub record Allowed (table : List ℕ) (bins_rate axes_rate : Float) (s to : Memory) (needs : Needs) : Type 0 where
@@ -71,8 +71,8 @@ pub told-refusal : (table : List ℕ) (bins_rate axes_rate : Float) (s to : Memo
 told-refusal table bins_rate axes_rate s to needs e n d =
     d ∙ ap (λ (k : ℕ). refused_for k bins_rate axes_rate) (fault-to-known table s.reals s.counts (length to.reals) (length to.counts) needs e)
 
-pub allowed-by : (table : List ℕ) (bins_rate axes_rate : Float) (s to : Memory) (needs : Needs) → sizes_of table ≡ plan.gives needs → (n : ℕ)
-    → n ≡ refused_for (fault_to table s.reals s.counts (length to.reals) (length to.counts)) bins_rate axes_rate → n ≡ 0 → Allowed table bins_rate axes_rate s to needs
-allowed-by table bins_rate axes_rate s to needs e n d z =
-    let h = nothing-refuses (judged_to table s.reals s.counts (length to.reals) (length to.counts) needs) n bins_rate axes_rate (told-refusal table bins_rate axes_rate s to needs e n d) z in
+pub allowed-by : (table : List ℕ) (bins_rate axes_rate : Float) (s to : Memory) (needs : Needs) → sizes_of table ≡ plan.gives needs
+    → 0 ≡ refused_for (fault_to table s.reals s.counts (length to.reals) (length to.counts)) bins_rate axes_rate → Allowed table bins_rate axes_rate s to needs
+allowed-by table bins_rate axes_rate s to needs e d =
+    let h = nothing-refuses (judged_to table s.reals s.counts (length to.reals) (length to.counts) needs) bins_rate axes_rate (told-refusal table bins_rate axes_rate s to needs e 0 d) in
     record { fault = h.0; rates = h.1; room = ready table s to needs h.0 }

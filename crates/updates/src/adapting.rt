@@ -8,21 +8,11 @@ ghost use Rattle.lent.specs.Turns.{child_turned, children_turned};
 ghost use Rattle.lent.specs.Adapted.{rule_at, followed, account_updated, accounts_updated, axes_updated, bins_adapted, updated_in};
 ghost use Rattle.updates.specs.Own.{bins_place, BinsFit, bins_updated, bins_idle, bins_raws, chances_of, own_adapted, AxesFit, axes_own};
 
-use crate::{parts, renewal};
-use accumulator::{StatisticsAccumulator, Updated};
-use ground::accounts;
+use crate::renewal;
+use accumulator::StatisticsAccumulator;
+use ground::{accounts, parts};
 use judges::judging;
 use lent::{AxesAt, Found, Rule, layout};
-
-// What was found in either of two.
-fn either(a: Found, b: Found) -> Found
-    ensures { (result.eight ≡ (a.eight || b.eight)) × (result.nine ≡ (a.nine || b.nine)) }
-{
-    Found {
-        eight: a.eight | b.eight,
-        nine: a.nine | b.nine,
-    }
-}
 
 // The update of the accumulator at r and c; refused, it stays as it was.
 fn update_account(reals: &mut [f64], counts: &mut [u64], r: usize, c: usize) -> Found
@@ -30,17 +20,11 @@ fn update_account(reals: &mut [f64], counts: &mut [u64], r: usize, c: usize) -> 
     ensures { found result (memory reals.new counts.new) ≡ account_updated r c (memory reals.old counts.old) }
 {
     match accounts::load(reals, counts, r, c).update_iter(false) {
-        Updated::Record(_, a) => {
-            accounts::store(reals, counts, r, c, a);
-            Found {
-                eight: false,
-                nine: false,
-            }
+        Ok(updated) => {
+            accounts::store(reals, counts, r, c, updated.after);
+            Found::NOTHING
         }
-        Updated::Refused(_) => Found {
-            eight: true,
-            nine: false,
-        },
+        Err(_) => Found::EIGHT,
     }
 }
 
@@ -55,6 +39,7 @@ pub struct BinsAt {
 }
 
 // What a run says of its axes' update.
+#[tactic(auto, unfolding(lent::specs::Adapted::rule_at))]
 fn rule_at(table: &[u64], w: usize) -> Rule
     requires { w + 11 ≤ length table.now }
     ensures { result ≡ rule_at table.now w }
@@ -80,14 +65,11 @@ fn update_standing(
     ensures { found result (memory reals.new counts.new) ≡ axes_own g rule values.now rate (memory reals.old counts.old) }
 {
     if !judging::axes_fit(reals, counts, g, rule.bins as u64, values) {
-        return Found {
-            eight: true,
-            nine: false,
-        };
+        return Found::EIGHT;
     }
     let axes = renewal::update_axes(reals, counts, g, rule, values, rate);
     let own = update_account(reals, counts, g.reals - 14, g.counts - 7);
-    either(axes, own)
+    axes | own
 }
 
 // An axes grid: its axes, then its own accumulator.
@@ -109,6 +91,7 @@ fn update_axes_grid(
 }
 
 // What a bins grid's run says.
+#[tactic(auto, unfolding(crate::specs::Own::bins_place))]
 fn bins_place(table: &[u64], w: usize) -> BinsAt
     requires { w + 7 ≤ length table.now }
     ensures { result ≡ bins_place table.now w }
@@ -130,19 +113,15 @@ fn update_accounts(reals: &mut [f64], counts: &mut [u64], b: BinsAt) -> Found
     let n = b.bins;
     let r = b.reals + 14 + n;
     let c = b.counts + 7;
-    let mut eight = false;
-    let mut nine = false;
-    let mut i = 0;
-    while i < n {
-        let f = update_account(reals, counts, r + 14 * i, c + 7 * i);
-        eight = eight | f.eight;
-        nine = nine | f.nine;
-        i += 1;
+    let mut found = Found::NOTHING;
+    for i in 0..n {
+        found |= update_account(reals, counts, r + 14 * i, c + 7 * i);
     }
-    Found { eight, nine }
+    found
 }
 
 // Whether a bin leaves nothing to adapt to.
+#[tactic(auto, unfolding(model::specs::Update::idle))]
 fn is_idle(averages: bool, a: StatisticsAccumulator) -> bool
     ensures { result ≡ idle averages a }
 {
@@ -161,16 +140,15 @@ fn are_idle(reals: &[f64], counts: &[u64], b: BinsAt) -> bool
     let r = b.reals + 14 + n;
     let c = b.counts + 7;
     let mut all = true;
-    let mut i = 0;
-    while i < n {
+    for i in 0..n {
         let own = accounts::load(reals, counts, r + 14 * i, c + 7 * i);
         all = all & is_idle(b.averages, own);
-        i += 1;
     }
     all
 }
 
 // A bin's raw probability: the size of its average; or its error times the root of its samples less one, 0 for fewer than two.
+#[tactic(auto, using(std::proofs::lemmas::Bool::Decides::nat_tests), unfolding(model::specs::Update::raw_of))]
 fn raw_of(averages: bool, a: StatisticsAccumulator) -> f64
     ensures { result ≡ raw_of averages a }
 {
@@ -188,14 +166,11 @@ fn find_raws(reals: &[f64], counts: &[u64], b: BinsAt, raws: &mut [f64])
     requires { BinsFit b (length reals.now) (length counts.now) × (length raws.old ≡ b.bins) }
     ensures { raws.new ≡ bins_raws b (memory reals.now counts.now) 0 b.bins }
 {
-    let n = b.bins;
-    let r = b.reals + 14 + n;
+    let r = b.reals + 14 + b.bins;
     let c = b.counts + 7;
-    let mut i = 0;
-    while i < n {
+    for (i, raw) in raws.iter_mut().enumerate() {
         let own = accounts::load(reals, counts, r + 14 * i, c + 7 * i);
-        raws[i] = raw_of(b.averages, own);
-        i += 1;
+        *raw = raw_of(b.averages, own);
     }
 }
 
@@ -206,7 +181,7 @@ fn lay_chances(reals: &mut [f64], counts: &[u64], b: BinsAt, room: &mut [f64]) -
 {
     find_raws(reals, counts, b, room);
     let fit = recut::adapt(room, b.ratio);
-    parts::put_reals(reals, b.reals + 14, room);
+    parts::set(reals, b.reals + 14, room);
     Found {
         eight: false,
         nine: !fit,
@@ -229,14 +204,11 @@ fn adapt_bins(reals: &mut [f64], counts: &mut [u64], b: BinsAt, rate: f64) -> Fo
     ensures { found result (memory reals.new counts.new) ≡ own_adapted b rate (memory reals.old counts.old) }
 {
     if (rate == 0.0) | are_idle(reals, counts, b) {
-        return Found {
-            eight: false,
-            nine: false,
-        };
+        return Found::NOTHING;
     }
     let chances = adapt_chances(reals, counts, b);
     let own = update_account(reals, counts, b.reals, b.counts);
-    either(chances, own)
+    chances | own
 }
 
 // A bins grid once what hangs below it is updated: its bins' accumulators, then its own.
@@ -248,7 +220,7 @@ fn update_bins(table: &[u64], reals: &mut [f64], counts: &mut [u64], w: usize, r
     let b = bins_place(table, w);
     let accounts = update_accounts(reals, counts, b);
     let own = adapt_bins(reals, counts, b, rate);
-    either(accounts, own)
+    accounts | own
 }
 
 // What hangs at a link: nothing where it is 0.
@@ -267,10 +239,7 @@ fn update_child(
         child_turned (updated_in level table.now bins_rate axes_rate) link (memory reals.old counts.old) }
 {
     if link == 0 {
-        return Found {
-            eight: false,
-            nine: false,
-        };
+        return Found::NOTHING;
     }
     update_grid(table, reals, counts, level, link, bins_rate, axes_rate)
 }
@@ -291,17 +260,12 @@ fn update_children(
         children_turned (updated_in level table.now bins_rate axes_rate) table.now w 0 (get_or table.now (w + 2) 0) (memory reals.old counts.old) }
 {
     let n = table[w + 2] as usize;
-    let mut eight = false;
-    let mut nine = false;
-    let mut i = 0;
-    while i < n {
+    let mut found = Found::NOTHING;
+    for i in 0..n {
         let link = table[w + 7 + i] as usize;
-        let f = update_child(table, reals, counts, level, link, bins_rate, axes_rate);
-        eight = eight | f.eight;
-        nine = nine | f.nine;
-        i += 1;
+        found |= update_child(table, reals, counts, level, link, bins_rate, axes_rate);
     }
-    Found { eight, nine }
+    found
 }
 
 // The grid whose run begins at word w, with all below it.
@@ -325,5 +289,5 @@ pub fn update_grid(
     let below = level - 1;
     let children = update_children(table, reals, counts, below, w, bins_rate, axes_rate);
     let own = update_bins(table, reals, counts, w, bins_rate);
-    either(children, own)
+    children | own
 }

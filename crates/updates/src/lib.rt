@@ -2,17 +2,17 @@
 #![tactic(auto)]
 
 mod adapting;
-mod parts;
 mod renewal;
 mod updating;
 
 ghost use Rattle.std.specs.Prelude.{◌≡◌, length};
+ghost use Rattle.doubles.specs.Refusal.{fault_of};
 ghost use Rattle.lent.specs.Calls.{state_end, update_of};
 ghost use Rattle.lent.specs.Memory.{memory};
 
-use plan::Sized;
+use doubles::Refusal;
 
-// Processes the waiting samples and adapts axes and probabilities, worked out on a spare of the state's size. 0, or refused: 12, 10, 12, the
+// Processes the waiting samples and adapts axes and probabilities, worked out on a spare of the state's size. Refused: 12, 10, 12, the
 // spare's room behind the state's; 3 for a rate; 8 anywhere, then 9 anywhere. Nothing of the state is written then.
 pub fn update(
     table: &[u64],
@@ -22,21 +22,19 @@ pub fn update(
     spare_counts: &mut [u64],
     bins_rate: f64,
     axes_rate: f64,
-) -> u64
-    ensures { state_end result (memory reals.new counts.new) ≡
+) -> Result<(), Refusal>
+    ensures { state_end (fault_of result) (memory reals.new counts.new) ≡
         update_of table.now bins_rate axes_rate (length spare_reals.old) (length spare_counts.old) (memory reals.old counts.old) }
 {
-    match plan::sizes(table) {
-        Sized::Plan(needs) => updating::update_state(
-            table,
-            reals,
-            counts,
-            spare_reals,
-            spare_counts,
-            bins_rate,
-            axes_rate,
-            needs,
-        ),
-        Sized::Refused(_) => 12,
-    }
+    let needs = plan::sizes(table)?;
+    updating::update_state(
+        table,
+        reals,
+        counts,
+        spare_reals,
+        spare_counts,
+        bins_rate,
+        axes_rate,
+        needs,
+    )
 }

@@ -1,8 +1,7 @@
 // The update of axes in lent memory: each axis is judged on work slices, and written only once it is known to be accepted.
-ghost use Rattle.std.specs.Prelude.{◌≡◌, ◌&&◌, [], ◌+◌, ◌*◌, ◌≤◌, length, get_or};
+ghost use Rattle.std.specs.Prelude.{List, ◌≡◌, ◌&&◌, [], ◌+◌, ◌*◌, ◌≤◌, length, get_or};
 ghost use Rattle.doubles.specs.Total.{all_finite};
 ghost use Rattle.axis.specs.Scans.{all_bounded};
-ghost use Rattle.recut.specs.Gather.{gathered_of, joined_counts};
 ghost use Rattle.recut.specs.Renew.{renew_of};
 ghost use Rattle.lent.specs.Layout.{stretch};
 ghost use Rattle.lent.specs.Memory.{memory};
@@ -10,8 +9,8 @@ ghost use Rattle.lent.specs.Drawn.{Stands};
 ghost use Rattle.lent.specs.Laid.{Roomy};
 ghost use Rattle.lent.specs.Renewed.{bins_to, Within, trained_from, kept_at, found, recut_into, recut_at, adapted_at, update_at, update_all_at};
 
-use crate::parts;
-use ground::laying;
+use doubles::Refusal;
+use ground::{laying, parts};
 use lent::{AxesAt, Found, Rule};
 
 // The number of bins after so many re-cuts: the list's value there, or its last; where there is none, `bins`.
@@ -28,40 +27,30 @@ fn bins_after(rule: Rule, values: &[u64], recuts: u64) -> usize
     values[k - 1] as usize
 }
 
-// The importances of an axis's bins with what was trained joined to each: where each column begins, for as many bins as there is room.
-fn gather_importances(importances: &mut [f64], reals: &[f64], start: usize, trained: usize)
-    requires { (start + length importances.old ≤ length reals.now) × (trained + length importances.old ≤ length reals.now) }
-    ensures { importances.new ≡
-        gathered_of (stretch start (length importances.old) reals.now) (stretch trained (length importances.old) reals.now) }
+// A column of an axis's bins with another joined to it: where each begins, for as many bins as there is room.
+fn gather<T: Copy, F: Fn(&mut [T], &[T])>(
+    room: &mut [T],
+    entries: &[T],
+    start: usize,
+    from: usize,
+    join: F,
+)
+    requires { (start + length room.old ≤ length entries.now) × (from + length room.old ≤ length entries.now) × F.IsAlwaysCallable join }
+    ensures { (g : List T → List T → List T) → ((x : _) (y : _) (u : _) (z : _) → F.post join x y u z → z.now ≡ g x.now y.now) → room.new ≡
+        g (stretch start (length room.old) entries.now) (stretch from (length room.old) entries.now) }
 {
-    let n = importances.len();
+    let n = room.len();
     let end = start + n;
-    let last = trained + n;
-    parts::copy_reals(importances, &reals[start..end]);
-    recut::gather(importances, &reals[trained..last]);
-}
-
-// The counters of an axis's bins with their waiting samples.
-fn gather_counters(counters: &mut [u64], counts: &[u64], start: usize, waiting: usize)
-    requires { (start + length counters.old ≤ length counts.now) × (waiting + length counters.old ≤ length counts.now) }
-    ensures { counters.new ≡
-        joined_counts (stretch start (length counters.old) counts.now) (stretch waiting (length counters.old) counts.now) }
-{
-    let n = counters.len();
-    let end = start + n;
-    let last = waiting + n;
-    parts::copy_counts(counters, &counts[start..end]);
-    recut::gather_counts(counters, &counts[waiting..last]);
+    let last = from + n;
+    room.copy_from_slice(&entries[start..end]);
+    join(room, &entries[from..last]);
 }
 
 // Whether gathered importances are finite and gathered counters at most 2^53.
 fn may_be_kept(importances: &[f64], counters: &[u64]) -> bool
     ensures { result ≡ (all_finite importances.now && all_bounded counters.now) }
 {
-    if !axis::scans::are_finite(importances) {
-        return false;
-    }
-    axis::scans::are_bounded(counters)
+    axis::scans::are_finite(importances) && axis::scans::are_bounded(counters)
 }
 
 // Keeps gathered importances and counters; nothing waits.
@@ -78,8 +67,8 @@ fn keep(
     ensures { memory reals.new counts.new ≡
         kept_at most r c importances.now counters.now (memory reals.old counts.old) }
 {
-    parts::put_reals(reals, r + (most + 1), importances);
-    parts::put_counts(counts, c + (2 * most + 2), counters);
+    parts::set(reals, r + (most + 1), importances);
+    parts::set(counts, c + (2 * most + 2), counters);
     laying::clear_waiting(reals, counts, most, r, c, importances.len());
 }
 
@@ -107,17 +96,14 @@ fn recut_into(
     let edges = importances.len() + 1;
     let end = r + edges;
     match recut::renew(&reals[r..end], importances, counters, rate, room) {
-        recut::Renewed::Refused(k) => Found {
-            eight: k == 8,
-            nine: k == 9,
+        Err(refusal) => Found {
+            eight: refusal == Refusal::Overflow,
+            nine: refusal == Refusal::Edges,
         },
-        recut::Renewed::Done => {
-            parts::put_reals(reals, r, room);
+        Ok(()) => {
+            parts::set(reals, r, room);
             laying::empty_axis(reals, counts, most, r, c, n, recuts);
-            Found {
-                eight: false,
-                nine: false,
-            }
+            Found::NOTHING
         }
     }
 }
@@ -141,10 +127,7 @@ fn recut_axis(
 {
     let recuts = counts[c + 1];
     if 9007199254740992 <= recuts {
-        return Found {
-            eight: true,
-            nine: false,
-        };
+        return Found::EIGHT;
     }
     let n = rule.bins;
     let places = n + 1;
@@ -182,30 +165,22 @@ fn adapt(
         adapted_at rule [] rate most r c importances.old counters.now (memory reals.old counts.old) }
 {
     if !may_be_kept(importances, counters) {
-        return Found {
-            eight: true,
-            nine: false,
-        };
+        return Found::EIGHT;
     }
     if !recut::reaches(counters, rule.least) {
         keep(reals, counts, most, r, c, importances, counters);
-        return Found {
-            eight: false,
-            nine: false,
-        };
+        return Found::NOTHING;
     }
     if rate == 0.0 {
         let recuts = counts[c + 1];
         laying::empty_axis(reals, counts, most, r, c, importances.len(), recuts);
-        return Found {
-            eight: false,
-            nine: false,
-        };
+        return Found::NOTHING;
     }
     recut_axis(reals, counts, most, r, c, rule, rate, importances, counters)
 }
 
 // Where the column that is trained on begins: the sums on averages, the squares else.
+#[tactic(auto, unfolding(lent::specs::Renewed::trained_from))]
 fn trained_from(averages: bool, most: usize) -> usize
     requires { most ≤ 1024 }
     ensures { result ≡ trained_from averages most }
@@ -234,8 +209,20 @@ fn renew_axis(
         update_at rule [] rate most r c (memory reals.old counts.old) }
 {
     let trained = trained_from(rule.averages, most);
-    gather_importances(importances, reals, r + (most + 1), r + trained);
-    gather_counters(counters, counts, c + (2 * most + 2), c + 2);
+    gather(
+        importances,
+        reals,
+        r + (most + 1),
+        r + trained,
+        recut::gather,
+    );
+    gather(
+        counters,
+        counts,
+        c + (2 * most + 2),
+        c + 2,
+        recut::gather_counts,
+    );
     adapt(reals, counts, most, r, c, rule, rate, importances, counters)
 }
 
@@ -293,13 +280,11 @@ fn update_each(
     let axes = g.axes;
     let reals_each = 6 * most + 1;
     let counts_each = 3 * most + 2;
-    let mut eight = false;
-    let mut nine = false;
+    let mut found = Found::NOTHING;
     let mut r = g.reals;
     let mut c = g.counts;
-    let mut done = 0;
-    while done < axes {
-        let found = update_axis(
+    for _ in 0..axes {
+        found |= update_axis(
             reals,
             counts,
             most,
@@ -311,13 +296,10 @@ fn update_each(
             importances,
             counters,
         );
-        eight = eight | found.eight;
-        nine = nine | found.nine;
         r = r + reals_each;
         c = c + counts_each;
-        done += 1;
     }
-    Found { eight, nine }
+    found
 }
 
 // The update of a grid's axes in turn.

@@ -1,5 +1,6 @@
 // The update as a call: worked out on the spare, judged whole, and only then copied back.
 ghost use Rattle.std.specs.Prelude.{◌≡◌, length};
+ghost use Rattle.doubles.specs.Refusal.{fault_of};
 ghost use Rattle.plan.specs.Paper.{gives};
 ghost use Rattle.plan.specs.Calls.{sizes_of};
 ghost use Rattle.model.specs.Update.{rate_fits};
@@ -9,7 +10,8 @@ ghost use Rattle.lent.specs.State.{fault_to};
 ghost use Rattle.lent.specs.Calls.{state_end, renewed_over, updated_by};
 ghost use Rattle.updates.specs.Refused.{refused_for};
 
-use crate::{adapting, parts};
+use crate::adapting;
+use doubles::Refusal;
 use judges::state;
 use plan::Needs;
 
@@ -17,7 +19,7 @@ use plan::Needs;
 fn is_rate(r: f64) -> bool
     ensures { result ≡ rate_fits r }
 {
-    (0.0 <= r) & (r <= 10.0)
+    (0.0..=10.0).contains(&r)
 }
 
 // The update of memory that is just the plan's, on a spare of the same size. Refused: 8, 9.
@@ -29,26 +31,26 @@ fn update_over(
     spare_counts: &mut [u64],
     bins_rate: f64,
     axes_rate: f64,
-) -> u64
+) -> Result<(), Refusal>
     requires { (length spare_reals.old ≡ length reals.old) × (length spare_counts.old ≡ length counts.old) × Laid 4 table.now (length reals.old) (length counts.old) 0 }
-    ensures { state_end result (memory reals.new counts.new) ≡
+    ensures { state_end (fault_of result) (memory reals.new counts.new) ≡
         renewed_over table.now bins_rate axes_rate (memory reals.old counts.old) }
 {
-    parts::copy_reals(spare_reals, reals);
-    parts::copy_counts(spare_counts, counts);
+    spare_reals.copy_from_slice(reals);
+    spare_counts.copy_from_slice(counts);
     let f = adapting::update_grid(table, spare_reals, spare_counts, 4, 0, bins_rate, axes_rate);
     if f.eight {
-        return 8;
+        return Err(Refusal::Overflow);
     }
     if f.nine {
-        return 9;
+        return Err(Refusal::Edges);
     }
-    parts::copy_reals(reals, spare_reals);
-    parts::copy_counts(counts, spare_counts);
-    0
+    reals.copy_from_slice(spare_reals);
+    counts.copy_from_slice(spare_counts);
+    Ok(())
 }
 
-// What refuses the update before it is worked out: the state and the room of its spare, then a rate; 0 where nothing does.
+// What refuses the update before it is worked out: the state and the room of its spare, then a rate.
 fn refusal(
     table: &[u64],
     reals: &[f64],
@@ -57,17 +59,14 @@ fn refusal(
     tallies: usize,
     bins_rate: f64,
     axes_rate: f64,
-) -> u64
-    ensures { result ≡ refused_for (fault_to table.now reals.now counts.now places tallies) bins_rate axes_rate }
+) -> Result<(), Refusal>
+    ensures { fault_of result ≡ refused_for (fault_to table.now reals.now counts.now places tallies) bins_rate axes_rate }
 {
-    let fault = state::fault_to(table, reals, counts, places, tallies);
-    if fault != 0 {
-        return fault;
-    }
+    state::fault_to(table, reals, counts, places, tallies)?;
     if !(is_rate(bins_rate) & is_rate(axes_rate)) {
-        return 3;
+        return Err(Refusal::Range);
     }
-    0
+    Ok(())
 }
 
 // The update of a state whose plan needs so much. Refused: 10, 12, 3, 8, 9.
@@ -80,17 +79,14 @@ pub fn update_state(
     bins_rate: f64,
     axes_rate: f64,
     needs: Needs,
-) -> u64
+) -> Result<(), Refusal>
     requires { sizes_of table.now ≡ gives needs }
-    ensures { state_end result (memory reals.new counts.new) ≡
+    ensures { state_end (fault_of result) (memory reals.new counts.new) ≡
         updated_by table.now bins_rate axes_rate (length spare_reals.old) (length spare_counts.old) (memory reals.old counts.old) needs }
 {
     let places = spare_reals.len();
     let tallies = spare_counts.len();
-    let refused = refusal(table, reals, counts, places, tallies, bins_rate, axes_rate);
-    if refused != 0 {
-        return refused;
-    }
+    refusal(table, reals, counts, places, tallies, bins_rate, axes_rate)?;
     let last = needs.reals;
     let end = needs.counts;
     update_over(

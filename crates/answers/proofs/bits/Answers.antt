@@ -1,5 +1,5 @@
 -- Only a NaN differs from itself.
-use mathlib.Core.Path.{◌≡◌, refl, sym}
+use mathlib.Core.Path.{◌≡◌, sym}
 use mathlib.Core.Bool.{true, false, not, false≢true}
 use lib.Dec.{T}
 use lib.Ieee.{Float, nan, inf, fin, binary64, to_bits, ne, is_nan}
@@ -23,6 +23,3 @@ returns-then-x c = nan-word _ c.if-x.true
 
 pub float_to_bits-result : goal.float_to_bits-result
 float_to_bits-result c = is_number c.args.x c.if-x.false
-
-pub returns : goal.returns
-returns c = refl

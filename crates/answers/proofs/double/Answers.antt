@@ -18,6 +18,3 @@ returns-then-is_nan c = one-nan _ (sym (nan_bits_is binary64 c.args.bits) ∙ sy
 
 pub float_from_bits-result : goal.float_from_bits-result
 float_from_bits-result c = rw (sym c.is_nan.ensures ∙ c.if-is_nan.false) tt
-
-pub returns : goal.returns
-returns c = refl

@@ -1,20 +1,19 @@
 -- The phase decides.
-use Rattle.std.proofs.Common.{sym, ap}
+use mathlib.Core.Path.{◌≡◌, refl, ◌∙◌}
+use denote.Enum.Bare.{sameb}
+use Rattle.feed.specs.contracts.Phase.{the_type}
+use Rattle.feed.specs.declared.Phase.{Phase}
+use Rattle.feed.specs.declared.Phase.TheVariants as phase
 use Rattle.feed.specs.Said.{is_over_in, is_over_of}
 use Rattle.feed.proofs.is_over.Goals as goal
 
-pub returns-in-Plan : goal.returns-in-Plan
-unfolding is_over_of is_over_in
-returns-in-Plan c = sym (ap is_over_in c.in-Plan.is)
+over-same : (p : Phase) → sameb the_type p phase.Over ≡ is_over_in p
+unfolding is_over_in
+over-same phase.Plan = refl
+over-same phase.Stream = refl
+over-same phase.Samples = refl
+over-same phase.Over = refl
 
-pub returns-in-Stream : goal.returns-in-Stream
-unfolding is_over_of is_over_in
-returns-in-Stream c = sym (ap is_over_in c.in-Stream.is)
-
-pub returns-in-Samples : goal.returns-in-Samples
-unfolding is_over_of is_over_in
-returns-in-Samples c = sym (ap is_over_in c.in-Samples.is)
-
-pub returns-in-Over : goal.returns-in-Over
-unfolding is_over_of is_over_in
-returns-in-Over c = sym (ap is_over_in c.in-Over.is)
+pub returns : goal.returns
+unfolding is_over_of
+returns c = c.eq.ensures ∙ over-same c.args.run.phase

@@ -5,12 +5,6 @@ use Rattle.integrate.proofs.Full.{turns-short}
 use Rattle.integrate.proofs.Turning.{ends, onward}
 use Rattle.integrate.proofs.pour.Goals as goal
 
-pub loop-spare_reals-init : goal.loop-spare_reals-init
-loop-spare_reals-init c = (omega arith, λ q t. t)
-
-pub step-poured-requires : goal.step-poured-requires
-step-poured-requires c = omega arith
-
 pub returns-then-not-poured : goal.returns-then-not-poured
 returns-then-not-poured c = let i = c.loop-spare_reals.invariant in
     let s = c.step-poured.ensures in record {

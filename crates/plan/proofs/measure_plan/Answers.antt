@@ -1,20 +1,13 @@
--- What stops the judge is the refusal; a plan that ends before the bytes leaves surplus (1), else its tally gives the needs.
-use mathlib.Core.Path.{sym, ◌∙◌}
-use Rattle.plan.proofs.Calls.{measure-refused, measure-surplus, measure-whole}
-use native.Mathlib.Omega.{arith}
+-- The judge's answer, as it stands.
+use mathlib.Core.Path.{ap, ◌∙◌}
+use Rattle.std.proofs.lemmas.Result.{err_from_is_err_and}
+use Rattle.plan.proofs.Calls.{paper_step, measured-whole}
 use Rattle.plan.proofs.measure_plan.Goals as goal
 
-pub enum_known-number : goal.enum_known-number
-enum_known-number c = omega arith
+pub returns-in_err-judge_whole : goal.returns-in_err-judge_whole
+returns-in_err-judge_whole c =
+    let p = err_from_is_err_and c.from_residual.result c.from_residual.ensures.1 in
+    rw (p.1, p.2) (ap paper_step c.in_err-judge_whole.ensures ∙ measured-whole _)
 
-pub enum_known-past : goal.enum_known-past
-enum_known-past c = omega arith
-
-pub returns-then-at-bytes : goal.returns-then-at-bytes
-returns-then-at-bytes c = measure-surplus _ (sym c.in-Done.is ∙ c.judge.ensures) c.if-at-bytes.true
-
-pub returns-in-Stopped : goal.returns-in-Stopped
-returns-in-Stopped c = measure-refused _ (sym c.in-Stopped.is ∙ c.judge.ensures)
-
-pub returns-else-at-bytes : goal.returns-else-at-bytes
-returns-else-at-bytes c = measure-whole _ (sym c.in-Done.is ∙ c.judge.ensures) c.if-at-bytes.false c.needs_of.ensures
+pub returns : goal.returns
+returns c = rw (c.read_to.ensures.0, c.read_to.ensures.1) (ap paper_step c.in_ok-judge_whole.ensures ∙ measured-whole _)

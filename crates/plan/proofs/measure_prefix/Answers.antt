@@ -1,17 +1,13 @@
--- The judge alone decides: stopped is the refusal, done gives its end and the needs of its tally, whatever follows.
-use mathlib.Core.Path.{sym, ◌∙◌}
-use Rattle.plan.proofs.Calls.{prefix-measured, prefix-unmeasured}
-use native.Mathlib.Omega.{arith}
+-- The judge's answer, as it stands.
+use mathlib.Core.Path.{ap, ◌∙◌}
+use Rattle.std.proofs.lemmas.Result.{err_from_is_err_and}
+use Rattle.plan.proofs.Calls.{paper_step, measured-prefix}
 use Rattle.plan.proofs.measure_prefix.Goals as goal
 
-pub enum_known-number : goal.enum_known-number
-enum_known-number c = omega arith
+pub returns-in_err-judge : goal.returns-in_err-judge
+returns-in_err-judge c =
+    let p = err_from_is_err_and c.from_residual.result c.from_residual.ensures.1 in
+    rw (p.1, p.2) (ap paper_step c.in_err-judge.ensures ∙ measured-prefix _)
 
-pub enum_known-past : goal.enum_known-past
-enum_known-past c = omega arith
-
-pub returns-in-Stopped : goal.returns-in-Stopped
-returns-in-Stopped c = prefix-unmeasured _ (sym c.in-Stopped.is ∙ c.judge.ensures)
-
-pub returns-in-Done : goal.returns-in-Done
-returns-in-Done c = prefix-measured _ (sym c.in-Done.is ∙ c.judge.ensures) c.needs_of.ensures
+pub returns : goal.returns
+returns c = rw (c.read_to.ensures.0, c.read_to.ensures.1) (ap paper_step c.in_ok-judge.ensures ∙ measured-prefix _)

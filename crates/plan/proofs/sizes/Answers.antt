@@ -1,24 +1,17 @@
 -- The walk's answer; a table that ends before its plan does is cut.
-use mathlib.Core.Path.{sym, ◌∙◌}
-use Rattle.plan.proofs.Trees.{start-roomy}
-use Rattle.plan.proofs.Calls.{sizes-stray, sizes-cut, sizes-whole}
-use native.Mathlib.Omega.{arith}
+use mathlib.Core.Path.{refl}
+use Rattle.std.proofs.lemmas.Result.{err_from_is_err_and}
+use Rattle.plan.proofs.Calls.{not_there, is_there, sizes-stray, sizes-cut, sizes-whole}
 use Rattle.plan.proofs.sizes.Goals as goal
 
-pub known-requires : goal.known-requires
-known-requires c = rw c.start.ensures start-roomy
+pub returns-in_err-past : goal.returns-in_err-past
+returns-in_err-past c =
+    let p = err_from_is_err_and c.from_residual.result c.from_residual.ensures.1 in
+    let n = not_there _ c.in_err-past.ensures.value in
+    rw (p.1, p.2, n.0) (record { sized = sizes-stray _ c.start.ensures _ c.known.ensures n.1; refused = refl })
 
-pub enum_told-1 : goal.enum_told-1
-enum_told-1 c = omega arith
+pub returns-then-table-past : goal.returns-then-table-past
+returns-then-table-past c = record { sized = sizes-cut _ c.start.ensures _ c.known.ensures (is_there _ c.in_ok-past.ensures.value) c.if-table-past.true; refused = refl }
 
-pub enum_known-past : goal.enum_known-past
-enum_known-past c = omega arith
-
-pub returns-then-taken-table : goal.returns-then-taken-table
-returns-then-taken-table c = sizes-whole _ c.start.ensures (sym c.in-Done.is ∙ c.known.ensures) c.needs_of.ensures c.if-taken-table.true
-
-pub returns-in-Stopped : goal.returns-in-Stopped
-returns-in-Stopped c = sizes-stray _ c.start.ensures (sym c.in-Stopped.is ∙ c.known.ensures)
-
-pub returns-else-taken-table : goal.returns-else-taken-table
-returns-else-taken-table c = sizes-cut _ c.start.ensures (sym c.in-Done.is ∙ c.known.ensures) c.if-taken-table.false
+pub returns : goal.returns
+returns c = record { sized = sizes-whole _ c.start.ensures _ c.known.ensures (is_there _ c.in_ok-past.ensures.value) c.needs_of.ensures c.if-table-past.false; refused = tt }

@@ -1,11 +1,7 @@
 -- Highest, raise, total, divide: one call's result put into the next is `adapted_to`, and the scan judges what came out.
 use mathlib.Core.Path.{refl}
 use Rattle.recut.specs.Chances.{adapted_to}
-use native.Mathlib.Omega.{arith}
 use Rattle.recut.proofs.adapt.Goals as goal
-
-pub shape_of-ps : goal.shape_of-ps
-shape_of-ps c = omega arith
 
 pub returns : goal.returns
 unfolding adapted_to

@@ -1,7 +1,6 @@
 -- `recut::from_damped` meets its contract: each return by the law of its stage.
 use Rattle.recut.specs.Renew.{paper_renewed}
 use Rattle.recut.proofs.Stages.{damped-8, damped-9, damped-done}
-use native.Mathlib.Omega.{arith}
 use borrow.Author.Rules.{rules}
 use Rattle.recut.proofs.from_damped.Goals as goal
 
@@ -9,18 +8,9 @@ pub returns-then-not-finite : goal.returns-then-not-finite
 unfolding paper_renewed
 returns-then-not-finite c = search (damped-8, rules)
 
-pub overflow_sub-room : goal.overflow_sub-room
-overflow_sub-room c = omega arith
-
-pub shape_of-room-then-not-is_well_formed : goal.shape_of-room-then-not-is_well_formed
-shape_of-room-then-not-is_well_formed c = omega arith
-
 pub returns-then-not-is_well_formed : goal.returns-then-not-is_well_formed
 unfolding paper_renewed
 returns-then-not-is_well_formed c = search (damped-9, rules)
-
-pub shape_of-room : goal.shape_of-room
-shape_of-room c = omega arith
 
 pub returns : goal.returns
 unfolding paper_renewed

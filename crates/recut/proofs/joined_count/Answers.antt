@@ -1,11 +1,7 @@
 -- `recut::joined_count` meets its contract: two counts that a record may hold have a sum that fits.
 use borrow.Author.Tests.{le-leb, lt-leb}
 use Rattle.recut.specs.Gather.{joined_count}
-use native.Mathlib.Omega.{arith}
 use Rattle.recut.proofs.joined_count.Goals as goal
-
-pub overflow_add-result : goal.overflow_add-result
-overflow_add-result c = omega arith
 
 pub returns-then-waiting-le9007199254740992 : goal.returns-then-waiting-le9007199254740992
 unfolding joined_count

@@ -1,15 +1,11 @@
 -- `recut::lengths_fit` meets its contract: at each return the decider, with the tests that led there put in.
 use borrow.Author.Tests.{eq-eqb, ne_eqb, le-leb, lt-leb}
 use Rattle.recut.specs.Renew.{lengths_fit}
-use native.Mathlib.Omega.{arith}
 use Rattle.recut.proofs.lengths_fit.Goals as goal
 
 pub returns-then-n-lt1 : goal.returns-then-n-lt1
 unfolding lengths_fit
 returns-then-n-lt1 c = rw (lt-leb _ _ c.if-n-lt1.true)
-
-pub overflow_add-n : goal.overflow_add-n
-overflow_add-n c = omega arith
 
 pub returns-then-edges-n : goal.returns-then-edges-n
 unfolding lengths_fit

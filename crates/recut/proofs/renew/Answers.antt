@@ -11,12 +11,6 @@ use Rattle.recut.proofs.renew.Goals.{Else-not-lengths_fit}
 fit : (c : Else-not-lengths_fit) → Fitting c.args.edges.now c.args.importances.now c.args.counters.now (length c.args.room.now)
 fit c = fitting _ _ _ _ (passed c.lengths_fit.ensures c.if-not-lengths_fit.false)
 
-pub shape_of-importances-then-not-lengths_fit : goal.shape_of-importances-then-not-lengths_fit
-shape_of-importances-then-not-lengths_fit c = omega arith
-
-pub shape_of-room-then-not-lengths_fit : goal.shape_of-room-then-not-lengths_fit
-shape_of-room-then-not-lengths_fit c = omega arith
-
 pub returns-then-not-lengths_fit : goal.returns-then-not-lengths_fit
 unfolding paper_renewed
 returns-then-not-lengths_fit c = search (renew-10, rules)
@@ -27,12 +21,6 @@ normalise-requires c = (fit (goal.at.normalise-requires c).Else-not-lengths_fit)
 pub from_divided-requires : goal.from_divided-requires
 from_divided-requires c = let f = fit (goal.at.from_divided-requires c).Else-not-lengths_fit in
     omega (arith, c.normalise.auto.importances)
-
-pub shape_of-importances : goal.shape_of-importances
-shape_of-importances c = omega arith
-
-pub shape_of-room : goal.shape_of-room
-shape_of-room c = omega arith
 
 pub returns : goal.returns
 returns c = search (renew-on, rules)

@@ -1,11 +1,8 @@
 -- The test of the bit is the definition's: set, the state joins the sum; either way the state goes one step on.
-use Rattle.std.proofs.Common.{arith, eq-eqb, ne_eqb}
+use Rattle.std.proofs.Common.{eq-eqb, ne_eqb}
 use Rattle.stream.specs.Jumps.{walk_bit}
 use Rattle.stream.specs.Calls.{drawn_of}
 use Rattle.stream.proofs.walk_bit.Goals as goal
-
-pub overflow_shr-word : goal.overflow_shr-word
-overflow_shr-word c = omega arith
 
 pub returns-then-word-bit-eq1 : goal.returns-then-word-bit-eq1
 unfolding walk_bit drawn_of

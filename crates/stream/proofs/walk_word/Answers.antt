@@ -1,21 +1,12 @@
 -- The walk over the bits from `bit` on, from where it stands, stays the walk over all 64.
 use Rattle.stream.proofs.Walks.{walk-on}
-use Rattle.std.proofs.Common.{◌≡◌, ◌+◌, ◌-◌, sym, refl, ap, ◌∙◌, arith}
+use Rattle.std.proofs.Common.{◌≡◌, ◌+◌, ◌-◌, sym, ap, ◌∙◌, arith}
 use Rattle.stream.specs.Jumps.{walk_bits}
 use Rattle.stream.proofs.walk_word.Goals as goal
 
-pub loop-bit-init : goal.loop-bit-init
-loop-bit-init c = (omega arith, refl)
-
-pub overflow_add-bit : goal.overflow_add-bit
-overflow_add-bit c = omega arith
-
-pub loop-bit-smaller : goal.loop-bit-smaller
-loop-bit-smaller c = omega arith
-
 pub loop-bit-preserved : goal.loop-bit-preserved
-loop-bit-preserved c = (omega arith, ap (walk_bits c.args.word (64 - (c.loop-bit.bit + 1)) (c.loop-bit.bit + 1)) c.walk_bit-at.ensures ∙ sym (walk-on _ _ _ c.loop-bit-test.true) ∙ c.loop-bit.invariant.1)
+loop-bit-preserved c = ap (walk_bits c.args.word (64 - (c.loop-bit.bit + 1)) (c.loop-bit.bit + 1)) c.walk_bit-at.ensures ∙ sym (walk-on _ _ _ c.loop-bit-test.true) ∙ c.loop-bit.invariant
 
 pub returns : goal.returns
 unfolding walk_bits
-returns c = let e : 64 - c.loop-bit.bit ≡ 0 = omega arith in rw e at c.loop-bit.invariant.1
+returns c = let e : 64 - c.loop-bit.bit ≡ 0 = omega arith in rw e at c.loop-bit.invariant

@@ -26,6 +26,6 @@ returns c = added_is _ _ _ _ _ _ _ _ _ _
     c.is_replaced-high.ensures
     c.is_replaced-low.ensures
     c.either.ensures
-    c.either_number.ensures
     c.either-2.ensures
-    c.either_number-2.ensures
+    c.either-3.ensures
+    c.either-4.ensures

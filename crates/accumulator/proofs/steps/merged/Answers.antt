@@ -13,4 +13,4 @@ overflow_add-r-2 c = let v = within _ c.requires.0 in let w = within _ c.require
 
 pub returns : goal.returns
 unfolding merged_of with_extremes with_waiting
-returns c = rw (c.either_number-2.ensures, c.either-2.ensures, c.either_number.ensures, c.either.ensures)
+returns c = rw (c.either-4.ensures, c.either-3.ensures, c.either-2.ensures, c.either.ensures)

@@ -15,30 +15,9 @@ pub returns-then-edges-lt2 : goal.returns-then-edges-lt2
 unfolding search_of bins_of
 returns-then-edges-lt2 c = sym (search-out c.args.edges.now c.args.x 0 (length c.args.edges.now - 1) (omega arith))
 
-pub overflow_sub-size : goal.overflow_sub-size
-overflow_sub-size c = omega arith
-
 pub loop-size-init : goal.loop-size-init
 unfolding search_of bins_of
 loop-size-init c = (omega arith, omega arith, refl)
-
-pub overflow_add-base : goal.overflow_add-base
-overflow_add-base c = omega arith
-
-pub offset_bounds-edges-base : goal.offset_bounds-edges-base
-offset_bounds-edges-base c = omega arith
-
-pub bounds-edges-base : goal.bounds-edges-base
-bounds-edges-base c = omega arith
-
-pub overflow_add-base-in-loop-size : goal.overflow_add-base-in-loop-size
-overflow_add-base-in-loop-size c = let k = kept_small (lt (get_or c.args.edges.now (c.loop-size.base + c.loop-size.size / 2) nan) c.args.x) (c.loop-size.size / 2) in omega (arith, c.keep-base.ensures)
-
-pub overflow_sub-size-in-loop-size : goal.overflow_sub-size-in-loop-size
-overflow_sub-size-in-loop-size c = omega arith
-
-pub loop-size-smaller : goal.loop-size-smaller
-loop-size-smaller c = omega arith
 
 pub loop-size-preserved : goal.loop-size-preserved
 loop-size-preserved c = let k = kept_small (lt (get_or c.args.edges.now (c.loop-size.base + c.loop-size.size / 2) nan) c.args.x) (c.loop-size.size / 2) in

@@ -2,8 +2,6 @@
 use native.Mathlib.Omega.{arith}
 use Prim.Native.Nat.{◌+◌, ◌≤◌, ◌<◌}
 use borrow.Author.Tests.{ltb-true, leb-true}
-use lib.Dec.{le→leb}
-use lib.Ieee.{in_float}
 use lib.ListN.{length}
 use Rattle.doubles.specs.Count.{count_of}
 use Rattle.doubles.proofs.Truth.{both}
@@ -21,29 +19,8 @@ known c = let t = both _ _ c.if-guess-last.true in
     let e = c.bins-last.ensures in
     (a, b, omega arith)
 
-pub overflow_add-next : goal.overflow_add-next
-overflow_add-next c = let k = known (goal.at.overflow_add-next c).Then-guess-last in omega arith
-
-pub int_to_float-n : goal.int_to_float-n
-unfolding in_float
-int_to_float-n c = let k = known (goal.at.int_to_float-n c).Then-guess-last in omega (arith, le→leb)
-
-pub int_to_float-low : goal.int_to_float-low
-unfolding in_float
-int_to_float-low c = let k = known (goal.at.int_to_float-low c).Then-guess-last in omega (arith, le→leb)
-
-pub int_to_float-high : goal.int_to_float-high
-unfolding in_float
-int_to_float-high c = let k = known (goal.at.int_to_float-high c).Then-guess-last in omega (arith, le→leb)
-
-pub offset_bounds-edges-guess : goal.offset_bounds-edges-guess
-offset_bounds-edges-guess c = let k = known (goal.at.offset_bounds-edges-guess c).Then-guess-last in omega arith
-
 pub bounds-edges-guess : goal.bounds-edges-guess
 bounds-edges-guess c = let k = known (goal.at.bounds-edges-guess c).Then-guess-last in omega arith
-
-pub offset_bounds-edges-next : goal.offset_bounds-edges-next
-offset_bounds-edges-next c = let k = known (goal.at.offset_bounds-edges-next c).Then-guess-last in omega arith
 
 pub bounds-edges-next : goal.bounds-edges-next
 bounds-edges-next c = let k = known (goal.at.bounds-edges-next c).Then-guess-last in omega arith

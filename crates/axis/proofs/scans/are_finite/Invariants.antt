@@ -1,13 +1,9 @@
--- `ok`, and all finite from place k on, is the answer at every turn; past the end nothing is left.
+-- `ok`, and all finite from place x-index on, is the answer at every turn.
 use mathlib.Core.Path.{◌≡◌}
 use mathlib.Core.Bool.{◌&&◌}
-use Prim.Native.Nat.{◌-◌}
-use lib.ListN.{length, drop}
+use lib.ListN.{drop}
 use Rattle.doubles.specs.Total.{all_finite}
 use Rattle.axis.proofs.scans.are_finite.Given as goal
 
-abbrev pub invariant-loop-k : goal.invariant-loop-k
-invariant-loop-k l = (l.ok && all_finite (drop l.k l.xs)) ≡ all_finite l.xs
-
-abbrev pub decreases-loop-k : goal.decreases-loop-k
-decreases-loop-k l = length l.xs - l.k
+abbrev pub invariant-loop-x : goal.invariant-loop-x
+invariant-loop-x l = (l.ok && all_finite (drop l.x-index l.xs)) ≡ all_finite l.xs

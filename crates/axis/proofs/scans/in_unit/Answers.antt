@@ -6,6 +6,6 @@ pub returns-then-x : goal.returns-then-x
 unfolding in_unit
 returns-then-x c = rw c.if-x.true
 
-pub returns : goal.returns
+pub returns-else-x : goal.returns-else-x
 unfolding in_unit
-returns c = rw c.if-x.false
+returns-else-x c = rw c.if-x.false

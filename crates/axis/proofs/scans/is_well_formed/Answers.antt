@@ -6,28 +6,15 @@ use Rattle.doubles.specs.Numbers.{zero64, one64}
 use borrow.Author.Tests.{lt-leb, le-leb, not-true, not-false}
 use lib.Ieee.{ne}
 use Rattle.axis.specs.Edges.{bins_of, well_formed}
-use native.Mathlib.Omega.{arith}
 use Rattle.axis.proofs.scans.is_well_formed.Goals as goal
 
 pub returns-then-n-lt2 : goal.returns-then-n-lt2
 unfolding well_formed
 returns-then-n-lt2 c = rw (lt-leb _ _ c.if-n-lt2.true)
 
-pub bounds-edges-0 : goal.bounds-edges-0
-bounds-edges-0 c = omega arith
-
 pub returns-then-edges : goal.returns-then-edges
 unfolding well_formed ne
 returns-then-edges c = rw (le-leb _ _ c.if-n-lt2.false, not-true (eq (get_or c.args.edges.now 0 nan) zero64) c.if-edges.true)
-
-pub overflow_sub-n : goal.overflow_sub-n
-overflow_sub-n c = omega arith
-
-pub offset_bounds-edges-n : goal.offset_bounds-edges-n
-offset_bounds-edges-n c = omega arith
-
-pub bounds-edges-n : goal.bounds-edges-n
-bounds-edges-n c = omega arith
 
 pub returns-then-edges-n : goal.returns-then-edges-n
 unfolding well_formed bins_of ne

@@ -1,13 +1,9 @@
 -- `nearest` stops where the judge accepts, and each step on the way comes closer to the nearest. Assumes nothing.
-use native.Mathlib.Omega.{arith}
 use Rattle.careful.proofs.Judge.{near_of, near-root}
 use Rattle.careful.proofs.digits.nearest.Goals as goal
 
 pub loop-q-init : goal.loop-q-init
 loop-q-init c = (c.requires.0, c.requires.1)
-
-pub is_near-requires : goal.is_near-requires
-is_near-requires c = omega arith
 
 pub moved-q-requires : goal.moved-q-requires
 moved-q-requires c = let i = c.loop-q.invariant in

@@ -4,8 +4,5 @@ use Rattle.feed.specs.Fields.{row_from}
 use Rattle.feed.proofs.fields.gather.Given as goal
 
 abbrev pub invariant-loop-many : goal.invariant-loop-many
-invariant-loop-many l = (l.many ≤ length l.evaluations) × (length l.evaluations ≡ length l.initial.evaluations) × (l.at ≤ length l.bytes)
+invariant-loop-many l = (l.at ≤ length l.bytes)
     × (take l.many l.evaluations ++ row_from l.bytes l.at (length l.initial.evaluations - l.many) ≡ row_from l.bytes 0 (length l.initial.evaluations))
-
-abbrev pub decreases-loop-many : goal.decreases-loop-many
-decreases-loop-many l = length l.evaluations - l.many

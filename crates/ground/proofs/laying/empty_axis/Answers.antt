@@ -2,7 +2,6 @@
 use Rattle.doubles.proofs.Truth.{failed, passed}
 use Rattle.lent.specs.Laid.{where_roomy, empty_of}
 use Rattle.lent.proofs.Rooms.{roomy-had}
-use native.Mathlib.Omega.{arith}
 use Rattle.ground.proofs.laying.empty_axis.Goals as goal
 
 pub returns-then-not-is_roomy : goal.returns-then-not-is_roomy
@@ -11,12 +10,6 @@ returns-then-not-is_roomy c = rw (failed c.is_roomy.ensures c.if-not-is_roomy.tr
 
 pub empty_axis_there-requires : goal.empty_axis_there-requires
 empty_axis_there-requires c = roomy-had _ _ _ _ c.args.reals.now c.args.counts.now (passed c.is_roomy.ensures c.if-not-is_roomy.false)
-
-pub shape_of-reals : goal.shape_of-reals
-shape_of-reals c = omega arith
-
-pub shape_of-counts : goal.shape_of-counts
-shape_of-counts c = omega arith
 
 pub returns : goal.returns
 unfolding empty_of where_roomy

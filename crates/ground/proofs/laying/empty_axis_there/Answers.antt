@@ -4,32 +4,15 @@ use Rattle.lent.specs.Layout.{axis_reals, axis_counts}
 use mathlib.Core.Path.{ap, ◌∙◌}
 use lib.ListN.{length-set}
 use Rattle.lent.specs.Laid.{headed_at, forgotten_at, empty_at}
-use borrow.Author.Rules.{rules}
 use Rattle.ground.proofs.laying.empty_axis_there.Goals as goal
-
-pub offset_bounds-counts-c : goal.offset_bounds-counts-c
-offset_bounds-counts-c c = omega arith
 
 pub bounds-counts-c : goal.bounds-counts-c
 unfolding axis_reals axis_counts
 bounds-counts-c c = omega arith
 
-pub overflow_add-counts : goal.overflow_add-counts
-overflow_add-counts c = omega arith
-
-pub offset_bounds-counts-c-2 : goal.offset_bounds-counts-c-2
-offset_bounds-counts-c-2 c = omega arith
-
 pub bounds-counts-c-2 : goal.bounds-counts-c-2
 unfolding axis_reals axis_counts
 bounds-counts-c-2 c = simp length-set (omega arith)
-
-pub shape_of-reals : goal.shape_of-reals
-shape_of-reals c = omega arith
-
-pub shape_of-counts : goal.shape_of-counts
-unfolding axis_reals axis_counts
-shape_of-counts c = simp length-set (search rules)
 
 pub returns : goal.returns
 unfolding empty_at headed_at

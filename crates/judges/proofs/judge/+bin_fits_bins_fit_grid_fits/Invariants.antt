@@ -16,7 +16,4 @@ abbrev pub decreases-grid_fits : goal.decreases-grid_fits
 decreases-grid_fits l = 3 * l.level
 
 abbrev pub invariant-bins_fit-loop-i : goal.invariant-bins_fit-loop-i
-invariant-bins_fit-loop-i l = (l.i ≤ l.n) × ((l.ok && sound_bins (bins_in (grid_at l.level l.table l.reals l.counts) l.table l.reals l.counts l.w l.i (l.n - l.i))) ≡ (l.initial.ok && sound_bins (bins_in (grid_at l.level l.table l.reals l.counts) l.table l.reals l.counts l.w 0 l.n)))
-
-abbrev pub decreases-bins_fit-loop-i : goal.decreases-bins_fit-loop-i
-decreases-bins_fit-loop-i l = l.n - l.i
+invariant-bins_fit-loop-i l = (l.i ≤ l.n) × ((l.ok && sound_bins (bins_in (grid_at l.level l.m.table.now l.m.reals.now l.m.counts.now) l.m.table.now l.m.reals.now l.m.counts.now l.w l.i (l.n - l.i))) ≡ (l.initial.ok && sound_bins (bins_in (grid_at l.level l.m.table.now l.m.reals.now l.m.counts.now) l.m.table.now l.m.reals.now l.m.counts.now l.w 0 l.n)))

@@ -12,8 +12,8 @@ use Rattle.judges.proofs.judge.axes_grid_fits.Goals as goal
 
 pub axes_fit_there-fit-requires : goal.axes_fit_there-fit-requires
 unfolding axes_place
-axes_fit_there-fit-requires c = rw (placed c.args.table.now c.args.w c.axes_place-g.ensures (search rules), (part (c.args.w + 11) (get_or c.args.table.now (c.args.w + 8) 0) c.args.table.now ∙ words-stretch c.args.table.now (c.args.w + 11) (get_or c.args.table.now (c.args.w + 8) 0) (omega (arith, c.requires.head)))) (c.requires.most, numbers-upto c.args.table.now (length c.args.reals.now) (length c.args.counts.now) c.args.w c.requires, c.requires.room, c.requires.places)
+axes_fit_there-fit-requires c = rw (placed c.args.m.table.now c.args.w c.axes_place-g.ensures (search rules), (part (c.args.w + 11) (get_or c.args.m.table.now (c.args.w + 8) 0) c.args.m.table.now ∙ words-stretch c.args.m.table.now (c.args.w + 11) (get_or c.args.m.table.now (c.args.w + 8) 0) (omega (arith, c.requires.head)))) (c.requires.most, numbers-upto c.args.m.table.now (length c.args.m.reals.now) (length c.args.m.counts.now) c.args.w c.requires, c.requires.room, c.requires.places)
 
 pub returns : goal.returns
 unfolding axes_place
-returns c = rw (c.axes_fit_there-fit.ensures, c.is_sound-own.ensures, placed c.args.table.now c.args.w c.axes_place-g.ensures (search rules), (part (c.args.w + 11) (get_or c.args.table.now (c.args.w + 8) 0) c.args.table.now ∙ words-stretch c.args.table.now (c.args.w + 11) (get_or c.args.table.now (c.args.w + 8) 0) (omega (arith, c.requires.head)))) (sound-axes c.args.table.now c.args.reals.now c.args.counts.now c.args.w c.requires)
+returns c = rw (c.axes_fit_there-fit.ensures, c.is_sound-own.ensures, placed c.args.m.table.now c.args.w c.axes_place-g.ensures (search rules), (part (c.args.w + 11) (get_or c.args.m.table.now (c.args.w + 8) 0) c.args.m.table.now ∙ words-stretch c.args.m.table.now (c.args.w + 11) (get_or c.args.m.table.now (c.args.w + 8) 0) (omega (arith, c.requires.head)))) (sound-axes c.args.m.table.now c.args.m.reals.now c.args.m.counts.now c.args.w c.requires)

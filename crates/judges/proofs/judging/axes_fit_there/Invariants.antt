@@ -7,9 +7,6 @@ use lib.ListN.{length}
 use Rattle.lent.specs.Judged.{axes_fit}
 use Rattle.judges.proofs.judging.axes_fit_there.Given as goal
 
-abbrev pub invariant-loop-done : goal.invariant-loop-done
-invariant-loop-done l = (l.done ≤ l.g.axes) × (l.at + (l.g.axes - l.done) * (6 * l.g.most + 1) ≤ length l.reals) × (l.place + (l.g.axes - l.done) * (3 * l.g.most + 2) ≤ length l.counts)
-    × ((l.ok && axes_fit (l.bins ∷ l.values) l.g.most l.reals l.counts (l.g.axes - l.done) l.at l.place) ≡ axes_fit (l.bins ∷ l.values) l.g.most l.reals l.counts l.g.axes l.g.reals l.g.counts)
-
-abbrev pub decreases-loop-done : goal.decreases-loop-done
-decreases-loop-done l = l.g.axes - l.done
+abbrev pub invariant-loop : goal.invariant-loop
+invariant-loop l = (l.at + (l.g.axes - l.counter) * (6 * l.g.most + 1) ≤ length l.reals) × (l.place + (l.g.axes - l.counter) * (3 * l.g.most + 2) ≤ length l.counts)
+    × ((l.ok && axes_fit (l.bins ∷ l.values) l.g.most l.reals l.counts (l.g.axes - l.counter) l.at l.place) ≡ axes_fit (l.bins ∷ l.values) l.g.most l.reals l.counts l.g.axes l.g.reals l.g.counts)

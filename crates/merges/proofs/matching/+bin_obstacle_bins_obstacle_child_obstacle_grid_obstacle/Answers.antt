@@ -1,11 +1,8 @@
 -- What was found so far, joined with what the bins that are left come to, is what all of them come to.
 use mathlib.Core.Path.{sym, ap, ap₂, ◌∙◌}
-use Prim.Native.Nat.{◌+◌}
 use native.Mathlib.Omega.{arith}
-use lib.ListN.{length, get_or}
-use Rattle.model.specs.Grid.{bins}
 use Rattle.model.specs.Sound.{sound}
-use Rattle.lent.specs.Tree.{head_at, bins_in, grid_at, Laid}
+use Rattle.lent.specs.Tree.{head_at}
 use Rattle.lent.specs.Sampled.{ChildLaid}
 use mathlib.Core.Bool.{true}
 use Rattle.lent.specs.Matched.{obstacle, grid_obstacle}
@@ -15,96 +12,18 @@ use Rattle.lent.proofs.Samples.{sound-in, sound-below, child-sound}
 use Rattle.lent.proofs.Matches.{own-sound, head-sound, bin-room, bin-joined, going-begin, going_on, going-out, many-differ, both-none, first-none, second_none, both-there, first-axes, second-axes}
 use Rattle.merges.proofs.matching.+bin_obstacle_bins_obstacle_child_obstacle_grid_obstacle.Goals as goal
 
-pub bin_obstacle-overflow_add-link : goal.bin_obstacle-overflow_add-link
-bin_obstacle-overflow_add-link t c = omega (arith, c.requires.0, c.requires.1, c.requires.2, c.requires.3)
-
-pub bin_obstacle-overflow_add-link-2 : goal.bin_obstacle-overflow_add-link-2
-bin_obstacle-overflow_add-link-2 t c = omega (arith, c.requires.0, c.requires.1, c.requires.2, c.requires.3)
-
-pub bin_obstacle-offset_bounds-table-w : goal.bin_obstacle-offset_bounds-table-w
-bin_obstacle-offset_bounds-table-w t c = omega (arith, c.requires.0, c.requires.1, c.requires.2, c.requires.3)
-
-pub bin_obstacle-bounds-table-w : goal.bin_obstacle-bounds-table-w
-bin_obstacle-bounds-table-w t c = omega (arith, c.requires.0, c.requires.1, c.requires.2, c.requires.3)
-
-pub bin_obstacle-overflow_add-far : goal.bin_obstacle-overflow_add-far
-bin_obstacle-overflow_add-far t c = omega (arith, c.requires.0, c.requires.1, c.requires.2, c.requires.3)
-
-pub bin_obstacle-overflow_add-far-2 : goal.bin_obstacle-overflow_add-far-2
-bin_obstacle-overflow_add-far-2 t c = omega (arith, c.requires.0, c.requires.1, c.requires.2, c.requires.3)
-
-pub bin_obstacle-offset_bounds-other-v : goal.bin_obstacle-offset_bounds-other-v
-bin_obstacle-offset_bounds-other-v t c = omega (arith, c.requires.0, c.requires.1, c.requires.2, c.requires.3)
-
-pub bin_obstacle-bounds-other-v : goal.bin_obstacle-bounds-other-v
-bin_obstacle-bounds-other-v t c = omega (arith, c.requires.0, c.requires.1, c.requires.2, c.requires.3)
-
 pub bin_obstacle-bin_own_obstacle-own-requires : goal.bin_obstacle-bin_own_obstacle-own-requires
-bin_obstacle-bin_own_obstacle-own-requires t c = (bin-room (Laid c.args.level c.args.table.now (length c.args.reals.now) (length c.args.counts.now)) c.args.table.now (length c.args.reals.now) (length c.args.counts.now) c.args.w c.args.i c.requires.0 c.requires.2, bin-room (Laid c.args.level c.args.other.now (length c.args.theirs.now) (length c.args.tallies.now)) c.args.other.now (length c.args.theirs.now) (length c.args.tallies.now) c.args.v c.args.i c.requires.1 c.requires.3, own-sound _ _ c.requires.4, own-sound _ _ c.requires.5)
+bin_obstacle-bin_own_obstacle-own-requires t c = (bin-room _ _ _ _ _ _ c.requires.0 c.requires.2, bin-room _ _ _ _ _ _ c.requires.1 c.requires.3, own-sound _ _ c.requires.4, own-sound _ _ c.requires.5)
 
 pub bin_obstacle-child_obstacle-below-requires : goal.bin_obstacle-child_obstacle-below-requires
 unfolding ChildLaid
 bin_obstacle-child_obstacle-below-requires t c = (omega (arith, c.decreases), (c.requires.0.children c.args.i c.requires.2, c.requires.1.children c.args.i c.requires.3, sound-below _ _ c.requires.4, sound-below _ _ c.requires.5))
 
 pub bin_obstacle-returns : goal.bin_obstacle-returns
-bin_obstacle-returns t c = bin-joined _ _ _ _ c.bin_own_obstacle-own.result c.child_obstacle-below.result c.worse.result c.bin_own_obstacle-own.ensures c.child_obstacle-below.ensures c.worse.ensures
-
-pub bins_obstacle-overflow_add-n : goal.bins_obstacle-overflow_add-n
-bins_obstacle-overflow_add-n t c = omega (arith, c.requires.0, c.requires.1)
-
-pub bins_obstacle-offset_bounds-table-w : goal.bins_obstacle-offset_bounds-table-w
-bins_obstacle-offset_bounds-table-w t c = omega (arith, c.requires.0, c.requires.1)
-
-pub bins_obstacle-bounds-table-w : goal.bins_obstacle-bounds-table-w
-bins_obstacle-bounds-table-w t c = omega (arith, c.requires.0, c.requires.1)
-
-pub bins_obstacle-overflow_add-many : goal.bins_obstacle-overflow_add-many
-bins_obstacle-overflow_add-many t c = omega (arith, c.requires.0, c.requires.1)
-
-pub bins_obstacle-offset_bounds-other-v : goal.bins_obstacle-offset_bounds-other-v
-bins_obstacle-offset_bounds-other-v t c = omega (arith, c.requires.0, c.requires.1)
-
-pub bins_obstacle-bounds-other-v : goal.bins_obstacle-bounds-other-v
-bins_obstacle-bounds-other-v t c = omega (arith, c.requires.0, c.requires.1)
+bin_obstacle-returns t c = bin-joined _ _ _ _ _ _ _ c.bin_own_obstacle-own.ensures c.child_obstacle-below.ensures c.worse.ensures
 
 pub bins_obstacle-returns-then-n-many : goal.bins_obstacle-returns-then-n-many
-bins_obstacle-returns-then-n-many t c = many-differ (grid_at c.args.level c.args.table.now c.args.reals.now c.args.counts.now) (grid_at c.args.level c.args.other.now c.args.theirs.now c.args.tallies.now) c.args.table.now c.args.reals.now c.args.counts.now c.args.w c.args.other.now c.args.theirs.now c.args.tallies.now c.args.v (get_or c.args.table.now (c.args.w + 2) 0) (get_or c.args.other.now (c.args.v + 2) 0) (head_at c.args.table.now c.args.reals.now c.args.counts.now c.args.w) (head_at c.args.other.now c.args.theirs.now c.args.tallies.now c.args.v) c.if-n-many.true
-
-pub bins_obstacle-overflow_add-r : goal.bins_obstacle-overflow_add-r
-bins_obstacle-overflow_add-r t c = omega (arith, c.requires.0, c.requires.1)
-
-pub bins_obstacle-offset_bounds-table-w-2 : goal.bins_obstacle-offset_bounds-table-w-2
-bins_obstacle-offset_bounds-table-w-2 t c = omega (arith, c.requires.0, c.requires.1)
-
-pub bins_obstacle-bounds-table-w-2 : goal.bins_obstacle-bounds-table-w-2
-bins_obstacle-bounds-table-w-2 t c = omega (arith, c.requires.0, c.requires.1)
-
-pub bins_obstacle-overflow_add-c : goal.bins_obstacle-overflow_add-c
-bins_obstacle-overflow_add-c t c = omega (arith, c.requires.0, c.requires.1)
-
-pub bins_obstacle-offset_bounds-table-w-3 : goal.bins_obstacle-offset_bounds-table-w-3
-bins_obstacle-offset_bounds-table-w-3 t c = omega (arith, c.requires.0, c.requires.1)
-
-pub bins_obstacle-bounds-table-w-3 : goal.bins_obstacle-bounds-table-w-3
-bins_obstacle-bounds-table-w-3 t c = omega (arith, c.requires.0, c.requires.1)
-
-pub bins_obstacle-overflow_add-q : goal.bins_obstacle-overflow_add-q
-bins_obstacle-overflow_add-q t c = omega (arith, c.requires.0, c.requires.1)
-
-pub bins_obstacle-offset_bounds-other-v-2 : goal.bins_obstacle-offset_bounds-other-v-2
-bins_obstacle-offset_bounds-other-v-2 t c = omega (arith, c.requires.0, c.requires.1)
-
-pub bins_obstacle-bounds-other-v-2 : goal.bins_obstacle-bounds-other-v-2
-bins_obstacle-bounds-other-v-2 t c = omega (arith, c.requires.0, c.requires.1)
-
-pub bins_obstacle-overflow_add-d : goal.bins_obstacle-overflow_add-d
-bins_obstacle-overflow_add-d t c = omega (arith, c.requires.0, c.requires.1)
-
-pub bins_obstacle-offset_bounds-other-v-3 : goal.bins_obstacle-offset_bounds-other-v-3
-bins_obstacle-offset_bounds-other-v-3 t c = omega (arith, c.requires.0, c.requires.1)
-
-pub bins_obstacle-bounds-other-v-3 : goal.bins_obstacle-bounds-other-v-3
-bins_obstacle-bounds-other-v-3 t c = omega (arith, c.requires.0, c.requires.1)
+bins_obstacle-returns-then-n-many t c = many-differ _ _ _ _ _ _ _ _ _ _ _ _ _ (head_at c.args.other.now c.args.theirs.now c.args.tallies.now c.args.v) c.if-n-many.true
 
 pub bins_obstacle-account_fits-fits-requires : goal.bins_obstacle-account_fits-fits-requires
 unfolding head_at
@@ -112,74 +31,68 @@ bins_obstacle-account_fits-fits-requires t c = (omega (arith, c.requires.0, c.re
 
 pub bins_obstacle-loop-i-init : goal.bins_obstacle-loop-i-init
 unfolding head_at
-bins_obstacle-loop-i-init t c = (omega arith, going-begin (grid_at c.args.level c.args.table.now c.args.reals.now c.args.counts.now) (grid_at c.args.level c.args.other.now c.args.theirs.now c.args.tallies.now) c.args.table.now c.args.reals.now c.args.counts.now c.args.w c.args.other.now c.args.theirs.now c.args.tallies.now c.args.v (get_or c.args.table.now (c.args.w + 2) 0) (head_at c.args.table.now c.args.reals.now c.args.counts.now c.args.w) (head_at c.args.other.now c.args.theirs.now c.args.tallies.now c.args.v) (get_or c.args.other.now (c.args.v + 2) 0) c.found_of-found.result c.if-n-many.false (c.found_of-found.ensures ∙ ap (obstacle true true) c.account_fits-fits.ensures))
+bins_obstacle-loop-i-init t c = going-begin _ _ _ _ _ _ _ _ _ _ _ _ _ _ _ c.if-n-many.false (c.found_of-found.ensures ∙ ap (obstacle true true) c.account_fits-fits.ensures)
 
 pub bins_obstacle-bin_obstacle-here-requires : goal.bins_obstacle-bin_obstacle-here-requires
-bins_obstacle-bin_obstacle-here-requires t c = (omega (arith, c.decreases), (c.requires.0, c.requires.1, c.loop-i-test.true, omega (arith, c.if-n-many.false, c.loop-i-test.true), sound-in (grid_at c.args.level c.args.table.now c.args.reals.now c.args.counts.now) c.args.table.now c.args.reals.now c.args.counts.now c.args.w (head_at c.args.table.now c.args.reals.now c.args.counts.now c.args.w) (get_or c.args.table.now (c.args.w + 2) 0) c.loop-i.i c.loop-i-test.true c.requires.2, sound-in (grid_at c.args.level c.args.other.now c.args.theirs.now c.args.tallies.now) c.args.other.now c.args.theirs.now c.args.tallies.now c.args.v (head_at c.args.other.now c.args.theirs.now c.args.tallies.now c.args.v) (get_or c.args.other.now (c.args.v + 2) 0) c.loop-i.i (omega (arith, c.if-n-many.false, c.loop-i-test.true)) c.requires.3))
-
-pub bins_obstacle-overflow_add-i : goal.bins_obstacle-overflow_add-i
-bins_obstacle-overflow_add-i t c = omega (arith, c.requires.0, c.loop-i-test.true)
-
-pub bins_obstacle-loop-i-smaller : goal.bins_obstacle-loop-i-smaller
-bins_obstacle-loop-i-smaller t c = omega (arith, c.loop-i-test.true)
+bins_obstacle-bin_obstacle-here-requires t c = (omega (arith, c.decreases), (c.requires.0, c.requires.1, c.loop-i-test.true, omega (arith, c.if-n-many.false, c.loop-i-test.true), sound-in _ _ _ _ _ _ _ c.loop-i.i c.loop-i-test.true c.requires.2, sound-in _ _ _ _ _ _ _ c.loop-i.i (omega (arith, c.if-n-many.false, c.loop-i-test.true)) c.requires.3))
 
 pub bins_obstacle-loop-i-preserved : goal.bins_obstacle-loop-i-preserved
-bins_obstacle-loop-i-preserved t c = (omega (arith, c.loop-i-test.true), going_on (grid_at c.args.level c.args.table.now c.args.reals.now c.args.counts.now) (grid_at c.args.level c.args.other.now c.args.theirs.now c.args.tallies.now) c.args.table.now c.args.reals.now c.args.counts.now c.args.w c.args.other.now c.args.theirs.now c.args.tallies.now c.args.v (get_or c.args.table.now (c.args.w + 2) 0) c.loop-i.found (grid_obstacle (bins (head_at c.args.table.now c.args.reals.now c.args.counts.now c.args.w) (bins_in (grid_at c.args.level c.args.table.now c.args.reals.now c.args.counts.now) c.args.table.now c.args.reals.now c.args.counts.now c.args.w 0 (get_or c.args.table.now (c.args.w + 2) 0))) (bins (head_at c.args.other.now c.args.theirs.now c.args.tallies.now c.args.v) (bins_in (grid_at c.args.level c.args.other.now c.args.theirs.now c.args.tallies.now) c.args.other.now c.args.theirs.now c.args.tallies.now c.args.v 0 (get_or c.args.other.now (c.args.v + 2) 0)))) c.bin_obstacle-here.result c.worse-found.result c.loop-i.i c.loop-i-test.true c.loop-i.invariant.1 c.bin_obstacle-here.ensures c.worse-found.ensures)
+bins_obstacle-loop-i-preserved t c = going_on _ _ _ _ _ _ _ _ _ _ _ _ _ _ _ _ c.loop-i-test.true c.loop-i.invariant c.bin_obstacle-here.ensures c.worse-found.ensures
 
 pub bins_obstacle-returns : goal.bins_obstacle-returns
-bins_obstacle-returns t c = going-out (grid_at c.args.level c.args.table.now c.args.reals.now c.args.counts.now) (grid_at c.args.level c.args.other.now c.args.theirs.now c.args.tallies.now) c.args.table.now c.args.reals.now c.args.counts.now c.args.w c.args.other.now c.args.theirs.now c.args.tallies.now c.args.v (get_or c.args.table.now (c.args.w + 2) 0) c.loop-i.found (grid_obstacle (bins (head_at c.args.table.now c.args.reals.now c.args.counts.now c.args.w) (bins_in (grid_at c.args.level c.args.table.now c.args.reals.now c.args.counts.now) c.args.table.now c.args.reals.now c.args.counts.now c.args.w 0 (get_or c.args.table.now (c.args.w + 2) 0))) (bins (head_at c.args.other.now c.args.theirs.now c.args.tallies.now c.args.v) (bins_in (grid_at c.args.level c.args.other.now c.args.theirs.now c.args.tallies.now) c.args.other.now c.args.theirs.now c.args.tallies.now c.args.v 0 (get_or c.args.other.now (c.args.v + 2) 0)))) c.loop-i.i c.loop-i-test.false c.loop-i.invariant.1
+bins_obstacle-returns t c = going-out _ _ _ _ _ _ _ _ _ _ _ _ _ _ c.loop-i-test.false c.loop-i.invariant
 
 pub child_obstacle-returns-then-far-eq0 : goal.child_obstacle-returns-then-far-eq0
-child_obstacle-returns-then-far-eq0 t c = both-none (grid_at c.args.level c.args.table.now c.args.reals.now c.args.counts.now) (grid_at c.args.level c.args.other.now c.args.theirs.now c.args.tallies.now) c.args.link c.args.far c.if-link-eq0.true c.if-far-eq0.true
+child_obstacle-returns-then-far-eq0 t c = both-none _ _ _ _ c.if-link-eq0.true c.if-far-eq0.true
 
 pub child_obstacle-returns-then-link-eq0 : goal.child_obstacle-returns-then-link-eq0
-child_obstacle-returns-then-link-eq0 t c = first-none (grid_at c.args.level c.args.table.now c.args.reals.now c.args.counts.now) (grid_at c.args.level c.args.other.now c.args.theirs.now c.args.tallies.now) c.args.link c.args.far c.if-link-eq0.true c.if-far-eq0.false
+child_obstacle-returns-then-link-eq0 t c = first-none _ _ _ _ c.if-link-eq0.true c.if-far-eq0.false
 
 pub child_obstacle-returns-then-far-eq0-2 : goal.child_obstacle-returns-then-far-eq0-2
-child_obstacle-returns-then-far-eq0-2 t c = second_none (grid_at c.args.level c.args.table.now c.args.reals.now c.args.counts.now) (grid_at c.args.level c.args.other.now c.args.theirs.now c.args.tallies.now) c.args.link c.args.far c.if-link-eq0.false c.if-far-eq0-2.true
+child_obstacle-returns-then-far-eq0-2 t c = second_none _ _ _ _ c.if-link-eq0.false c.if-far-eq0-2.true
 
 pub child_obstacle-grid_obstacle-requires : goal.child_obstacle-grid_obstacle-requires
 unfolding ChildLaid
-child_obstacle-grid_obstacle-requires t c = (omega (arith, c.decreases), (c.requires.0 c.if-link-eq0.false, c.requires.1 c.if-far-eq0-2.false, child-sound (grid_at c.args.level c.args.table.now c.args.reals.now c.args.counts.now) c.args.link c.if-link-eq0.false c.requires.2, child-sound (grid_at c.args.level c.args.other.now c.args.theirs.now c.args.tallies.now) c.args.far c.if-far-eq0-2.false c.requires.3))
+child_obstacle-grid_obstacle-requires t c = (omega (arith, c.decreases), (c.requires.0 c.if-link-eq0.false, c.requires.1 c.if-far-eq0-2.false, child-sound _ _ c.if-link-eq0.false c.requires.2, child-sound _ _ c.if-far-eq0-2.false c.requires.3))
 
 pub child_obstacle-returns : goal.child_obstacle-returns
-child_obstacle-returns t c = c.grid_obstacle.ensures ∙ both-there (grid_at c.args.level c.args.table.now c.args.reals.now c.args.counts.now) (grid_at c.args.level c.args.other.now c.args.theirs.now c.args.tallies.now) c.args.link c.args.far c.if-link-eq0.false c.if-far-eq0-2.false
-
-pub grid_obstacle-offset_bounds-table-w : goal.grid_obstacle-offset_bounds-table-w
-grid_obstacle-offset_bounds-table-w t c = omega (arith, laid-head c.args.level c.args.table.now (length c.args.reals.now) (length c.args.counts.now) c.args.w c.requires.0)
-
-pub grid_obstacle-bounds-table-w : goal.grid_obstacle-bounds-table-w
-grid_obstacle-bounds-table-w t c = omega (arith, laid-head c.args.level c.args.table.now (length c.args.reals.now) (length c.args.counts.now) c.args.w c.requires.0)
-
-pub grid_obstacle-offset_bounds-other-v : goal.grid_obstacle-offset_bounds-other-v
-grid_obstacle-offset_bounds-other-v t c = omega (arith, laid-head c.args.level c.args.other.now (length c.args.theirs.now) (length c.args.tallies.now) c.args.v c.requires.1)
-
-pub grid_obstacle-bounds-other-v : goal.grid_obstacle-bounds-other-v
-grid_obstacle-bounds-other-v t c = omega (arith, laid-head c.args.level c.args.other.now (length c.args.theirs.now) (length c.args.tallies.now) c.args.v c.requires.1)
+child_obstacle-returns t c = c.grid_obstacle.ensures ∙ both-there _ _ _ _ c.if-link-eq0.false c.if-far-eq0-2.false
 
 pub grid_obstacle-axes_obstacle-requires : goal.grid_obstacle-axes_obstacle-requires
-grid_obstacle-axes_obstacle-requires t c = (laid-axes c.args.level c.args.table.now (length c.args.reals.now) (length c.args.counts.now) c.args.w c.requires.0 c.if-table-w-eq1.true, laid-axes c.args.level c.args.other.now (length c.args.theirs.now) (length c.args.tallies.now) c.args.v c.requires.1 c.if-other-v-eq1.true, sym (ap sound (node-axes c.args.level c.args.table.now c.args.reals.now c.args.counts.now c.args.w c.if-table-w-eq1.true)) ∙ c.requires.2, sym (ap sound (node-axes c.args.level c.args.other.now c.args.theirs.now c.args.tallies.now c.args.v c.if-other-v-eq1.true)) ∙ c.requires.3)
+grid_obstacle-axes_obstacle-requires t c = (laid-axes _ _ _ _ _ c.requires.0 c.if-table-w-eq1.true, laid-axes _ _ _ _ _ c.requires.1 c.if-other-v-eq1.true, sym (ap sound (node-axes c.args.level c.args.table.now _ _ c.args.w c.if-table-w-eq1.true)) ∙ c.requires.2, sym (ap sound (node-axes c.args.level c.args.other.now _ _ c.args.v c.if-other-v-eq1.true)) ∙ c.requires.3)
 
 pub grid_obstacle-returns-then-other-v-eq1 : goal.grid_obstacle-returns-then-other-v-eq1
-grid_obstacle-returns-then-other-v-eq1 t c = c.axes_obstacle.ensures ∙ sym (ap₂ grid_obstacle (node-axes c.args.level c.args.table.now c.args.reals.now c.args.counts.now c.args.w c.if-table-w-eq1.true) (node-axes c.args.level c.args.other.now c.args.theirs.now c.args.tallies.now c.args.v c.if-other-v-eq1.true))
+grid_obstacle-returns-then-other-v-eq1 t c = c.axes_obstacle.ensures ∙ sym (ap₂ grid_obstacle (node-axes c.args.level c.args.table.now _ _ c.args.w c.if-table-w-eq1.true) (node-axes c.args.level c.args.other.now _ _ c.args.v c.if-other-v-eq1.true))
 
 pub grid_obstacle-returns-then-table-w-eq1 : goal.grid_obstacle-returns-then-table-w-eq1
-grid_obstacle-returns-then-table-w-eq1 t c = first-axes c.args.level c.args.table.now c.args.reals.now c.args.counts.now c.args.w c.args.other.now c.args.theirs.now c.args.tallies.now c.args.v c.if-table-w-eq1.true c.if-other-v-eq1.false (laid-bins c.args.level c.args.other.now (length c.args.theirs.now) (length c.args.tallies.now) c.args.v c.requires.1 c.if-other-v-eq1.false).level
-
-pub grid_obstacle-offset_bounds-other-v-2 : goal.grid_obstacle-offset_bounds-other-v-2
-grid_obstacle-offset_bounds-other-v-2 t c = omega (arith, laid-head c.args.level c.args.other.now (length c.args.theirs.now) (length c.args.tallies.now) c.args.v c.requires.1)
-
-pub grid_obstacle-bounds-other-v-2 : goal.grid_obstacle-bounds-other-v-2
-grid_obstacle-bounds-other-v-2 t c = omega (arith, laid-head c.args.level c.args.other.now (length c.args.theirs.now) (length c.args.tallies.now) c.args.v c.requires.1)
+grid_obstacle-returns-then-table-w-eq1 t c = first-axes _ _ _ _ _ _ _ _ _ c.if-table-w-eq1.true c.if-other-v-eq1.false (laid-bins _ _ _ _ _ c.requires.1 c.if-other-v-eq1.false).level
 
 pub grid_obstacle-returns-then-other-v-eq1-2 : goal.grid_obstacle-returns-then-other-v-eq1-2
-grid_obstacle-returns-then-other-v-eq1-2 t c = second-axes c.args.level c.args.table.now c.args.reals.now c.args.counts.now c.args.w c.args.other.now c.args.theirs.now c.args.tallies.now c.args.v c.if-table-w-eq1.false c.if-other-v-eq1-2.true (laid-bins c.args.level c.args.table.now (length c.args.reals.now) (length c.args.counts.now) c.args.w c.requires.0 c.if-table-w-eq1.false).level
-
-pub grid_obstacle-overflow_sub-level : goal.grid_obstacle-overflow_sub-level
-grid_obstacle-overflow_sub-level t c = omega (arith, (laid-bins c.args.level c.args.table.now (length c.args.reals.now) (length c.args.counts.now) c.args.w c.requires.0 c.if-table-w-eq1.false).level)
+grid_obstacle-returns-then-other-v-eq1-2 t c = second-axes _ _ _ _ _ _ _ _ _ c.if-table-w-eq1.false c.if-other-v-eq1-2.true (laid-bins _ _ _ _ _ c.requires.0 c.if-table-w-eq1.false).level
 
 pub grid_obstacle-bins_obstacle-requires : goal.grid_obstacle-bins_obstacle-requires
-grid_obstacle-bins_obstacle-requires t c = let d = (laid-bins c.args.level c.args.table.now (length c.args.reals.now) (length c.args.counts.now) c.args.w c.requires.0 c.if-table-w-eq1.false) in let e = laid-bins c.args.level c.args.other.now (length c.args.theirs.now) (length c.args.tallies.now) c.args.v c.requires.1 c.if-other-v-eq1-2.false in (omega (arith, c.decreases, d.level), (d.bins, e.bins, sym (ap sound (node-bins c.args.level c.args.table.now c.args.reals.now c.args.counts.now c.args.w c.if-table-w-eq1.false (laid-bins c.args.level c.args.table.now (length c.args.reals.now) (length c.args.counts.now) c.args.w c.requires.0 c.if-table-w-eq1.false).level)) ∙ c.requires.2, sym (ap sound (node-bins c.args.level c.args.other.now c.args.theirs.now c.args.tallies.now c.args.v c.if-other-v-eq1-2.false e.level)) ∙ c.requires.3))
+grid_obstacle-bins_obstacle-requires t c = let d = (laid-bins _ _ _ _ _ c.requires.0 c.if-table-w-eq1.false) in let e = laid-bins _ _ _ _ _ c.requires.1 c.if-other-v-eq1-2.false in (omega (arith, c.decreases, d.level), (d.bins, e.bins, sym (ap sound (node-bins c.args.level c.args.table.now _ _ c.args.w c.if-table-w-eq1.false (laid-bins _ _ _ _ _ c.requires.0 c.if-table-w-eq1.false).level)) ∙ c.requires.2, sym (ap sound (node-bins c.args.level c.args.other.now _ _ c.args.v c.if-other-v-eq1-2.false e.level)) ∙ c.requires.3))
 
 pub grid_obstacle-returns : goal.grid_obstacle-returns
-grid_obstacle-returns t c = c.bins_obstacle.ensures ∙ sym (ap₂ grid_obstacle (node-bins c.args.level c.args.table.now c.args.reals.now c.args.counts.now c.args.w c.if-table-w-eq1.false (laid-bins c.args.level c.args.table.now (length c.args.reals.now) (length c.args.counts.now) c.args.w c.requires.0 c.if-table-w-eq1.false).level) (node-bins c.args.level c.args.other.now c.args.theirs.now c.args.tallies.now c.args.v c.if-other-v-eq1-2.false (laid-bins c.args.level c.args.table.now (length c.args.reals.now) (length c.args.counts.now) c.args.w c.requires.0 c.if-table-w-eq1.false).level))
+grid_obstacle-returns t c = c.bins_obstacle.ensures ∙ sym (ap₂ grid_obstacle (node-bins c.args.level c.args.table.now _ _ c.args.w c.if-table-w-eq1.false (laid-bins _ _ _ _ _ c.requires.0 c.if-table-w-eq1.false).level) (node-bins c.args.level c.args.other.now _ _ c.args.v c.if-other-v-eq1-2.false (laid-bins _ _ _ _ _ c.requires.0 c.if-table-w-eq1.false).level))
+
+pub grid_obstacle-bounds-table-w : goal.grid_obstacle-bounds-table-w
+grid_obstacle-bounds-table-w t c = omega (arith, laid-head _ _ _ _ _ c.requires.0)
+
+pub grid_obstacle-bounds-other-v : goal.grid_obstacle-bounds-other-v
+grid_obstacle-bounds-other-v t c = omega (arith, laid-head _ _ _ _ _ c.requires.1)
+
+pub grid_obstacle-offset_bounds-other-v : goal.grid_obstacle-offset_bounds-other-v
+grid_obstacle-offset_bounds-other-v t c = omega (arith, laid-head _ _ _ _ _ c.requires.1)
+
+pub grid_obstacle-offset_bounds-other-v-2 : goal.grid_obstacle-offset_bounds-other-v-2
+grid_obstacle-offset_bounds-other-v-2 t c = omega (arith, laid-head _ _ _ _ _ c.requires.1)
+
+pub grid_obstacle-offset_bounds-table-w : goal.grid_obstacle-offset_bounds-table-w
+grid_obstacle-offset_bounds-table-w t c = omega (arith, laid-head _ _ _ _ _ c.requires.0)
+
+pub grid_obstacle-bounds-other-v-2 : goal.grid_obstacle-bounds-other-v-2
+grid_obstacle-bounds-other-v-2 t c = omega (arith, laid-head _ _ _ _ _ c.requires.1)
+
+pub grid_obstacle-overflow_sub-level : goal.grid_obstacle-overflow_sub-level
+grid_obstacle-overflow_sub-level t c = omega (arith, (laid-bins _ _ _ _ _ c.requires.0 c.if-table-w-eq1.false).level)

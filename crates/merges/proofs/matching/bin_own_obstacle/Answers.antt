@@ -1,30 +1,29 @@
 -- `matching::bin_own_obstacle` meets its contract: what stands at the two bins' places is what the definitions read.
 use mathlib.Core.Path.{◌∙◌}
 use native.Mathlib.Omega.{arith}
-use lib.ListN.{length}
 use Rattle.merges.proofs.Places.{bin-there, bin-own, bins-told}
 use Rattle.merges.proofs.matching.bin_own_obstacle.Goals as goal
 
 pub account_fits-fits-requires : goal.account_fits-fits-requires
-account_fits-fits-requires c = let mine = bin-there c.args.table.now (length c.args.reals.now) (length c.args.counts.now) c.args.w c.args.i c.bin_place-b.result c.bin_place-b.ensures c.requires.0.bin c.requires.0.room c.requires.0.places in
-    let theirs = bin-there c.args.other.now (length c.args.theirs.now) (length c.args.tallies.now) c.args.v c.args.i c.bin_place-o.result c.bin_place-o.ensures c.requires.1.bin c.requires.1.room c.requires.1.places in
-    (mine.1, mine.2, theirs.1, theirs.2, bin-own c.args.table.now c.args.reals.now c.args.counts.now c.args.w c.args.i c.bin_place-b.result c.bin_place-b.ensures c.requires.2, bin-own c.args.other.now c.args.theirs.now c.args.tallies.now c.args.v c.args.i c.bin_place-o.result c.bin_place-o.ensures c.requires.3)
+account_fits-fits-requires c = let mine = bin-there _ _ _ _ _ _ c.bin_place-b.ensures c.requires.0.bin c.requires.0.room c.requires.0.places in
+    let theirs = bin-there _ _ _ _ _ _ c.bin_place-o.ensures c.requires.1.bin c.requires.1.room c.requires.1.places in
+    (mine.1, mine.2, theirs.1, theirs.2, bin-own _ _ _ _ _ _ c.bin_place-b.ensures c.requires.2, bin-own _ _ _ _ _ _ c.bin_place-o.ensures c.requires.3)
 
 pub offset_bounds-reals-at : goal.offset_bounds-reals-at
-offset_bounds-reals-at c = let mine = bin-there c.args.table.now (length c.args.reals.now) (length c.args.counts.now) c.args.w c.args.i c.bin_place-b.result c.bin_place-b.ensures c.requires.0.bin c.requires.0.room c.requires.0.places in
+offset_bounds-reals-at c = let mine = bin-there _ _ _ _ _ _ c.bin_place-b.ensures c.requires.0.bin c.requires.0.room c.requires.0.places in
     omega (arith, mine.0)
 
 pub bounds-reals-at : goal.bounds-reals-at
-bounds-reals-at c = let mine = bin-there c.args.table.now (length c.args.reals.now) (length c.args.counts.now) c.args.w c.args.i c.bin_place-b.result c.bin_place-b.ensures c.requires.0.bin c.requires.0.room c.requires.0.places in
+bounds-reals-at c = let mine = bin-there _ _ _ _ _ _ c.bin_place-b.ensures c.requires.0.bin c.requires.0.room c.requires.0.places in
     omega (arith, mine.0)
 
 pub offset_bounds-theirs-from : goal.offset_bounds-theirs-from
-offset_bounds-theirs-from c = let theirs = bin-there c.args.other.now (length c.args.theirs.now) (length c.args.tallies.now) c.args.v c.args.i c.bin_place-o.result c.bin_place-o.ensures c.requires.1.bin c.requires.1.room c.requires.1.places in
+offset_bounds-theirs-from c = let theirs = bin-there _ _ _ _ _ _ c.bin_place-o.ensures c.requires.1.bin c.requires.1.room c.requires.1.places in
     omega (arith, theirs.0)
 
 pub bounds-theirs-from : goal.bounds-theirs-from
-bounds-theirs-from c = let theirs = bin-there c.args.other.now (length c.args.theirs.now) (length c.args.tallies.now) c.args.v c.args.i c.bin_place-o.result c.bin_place-o.ensures c.requires.1.bin c.requires.1.room c.requires.1.places in
+bounds-theirs-from c = let theirs = bin-there _ _ _ _ _ _ c.bin_place-o.ensures c.requires.1.bin c.requires.1.room c.requires.1.places in
     omega (arith, theirs.0)
 
 pub returns : goal.returns
-returns c = c.found_of.ensures ∙ bins-told c.args.table.now c.args.w c.args.other.now c.args.v c.args.i c.bin_place-b.result c.bin_place-o.result c.bin_place-b.ensures c.bin_place-o.ensures c.args.reals.now c.args.counts.now c.args.theirs.now c.args.tallies.now c.account_fits-fits.result c.account_fits-fits.ensures
+returns c = c.found_of.ensures ∙ bins-told _ _ _ _ _ _ _ c.bin_place-b.ensures c.bin_place-o.ensures c.args.reals.now c.args.counts.now c.args.theirs.now c.args.tallies.now c.account_fits-fits.result c.account_fits-fits.ensures

@@ -11,10 +11,10 @@ unfolding axis_counts
 bounds-counts-place c = omega (arith, c.requires.2)
 
 pub returns-then-g-held : goal.returns-then-g-held
-returns-then-g-held c = axis-full c.args.g.most c.args.g.reals c.args.g.counts c.args.o (memory c.args.theirs.now c.args.tallies.now) (memory c.args.reals.now c.args.counts.now) c.if-g-held.true
+returns-then-g-held c = axis-full _ _ _ _ _ _ c.if-g-held.true
 
 pub returns-then-o-held : goal.returns-then-o-held
-returns-then-o-held c = axis-over c.args.g.most c.args.g.reals c.args.g.counts c.args.o (memory c.args.theirs.now c.args.tallies.now) (memory c.args.reals.now c.args.counts.now) c.if-g-held.false c.if-o-held.true
+returns-then-o-held c = axis-over _ _ _ _ _ _ c.if-g-held.false c.if-o-held.true
 
 pub returns : goal.returns
-returns c = ap₂ memory c.merge_reals.ensures c.merge_counts.ensures ∙ axis-joins c.args.g.most c.args.g.reals c.args.g.counts c.args.o (memory c.args.theirs.now c.args.tallies.now) (memory c.args.reals.now c.args.counts.now) c.if-g-held.false c.if-o-held.false
+returns c = ap₂ memory c.merge_reals.ensures c.merge_counts.ensures ∙ axis-joins _ _ _ _ _ _ c.if-g-held.false c.if-o-held.false

@@ -1,25 +1,26 @@
 -- `merging::merge_reals` meets its contract: four columns one after the other.
+use borrow.Author.Rules.{rules}
 use native.Mathlib.Omega.{arith}
 use Rattle.lent.specs.Layout.{axis_reals}
 use Rattle.lent.specs.Merged.{merged_reals}
 use Rattle.merges.proofs.merging.merge_reals.Goals as goal
 
-pub add_reals-requires : goal.add_reals-requires
+pub join-requires : goal.join-requires
 unfolding axis_reals
-add_reals-requires c = (omega arith, omega arith)
+join-requires c = (omega arith, omega arith, search rules)
 
-pub add_reals-requires-2 : goal.add_reals-requires-2
+pub join-requires-2 : goal.join-requires-2
 unfolding axis_reals
-add_reals-requires-2 c = (omega arith, omega arith)
+join-requires-2 c = (omega arith, omega arith, search rules)
 
-pub raise_reals-requires : goal.raise_reals-requires
+pub join-requires-3 : goal.join-requires-3
 unfolding axis_reals
-raise_reals-requires c = (omega arith, omega arith)
+join-requires-3 c = (omega arith, omega arith, search rules)
 
-pub sink_reals-requires : goal.sink_reals-requires
+pub join-requires-4 : goal.join-requires-4
 unfolding axis_reals
-sink_reals-requires c = (omega arith, omega arith)
+join-requires-4 c = (omega arith, omega arith, search rules)
 
 pub returns : goal.returns
 unfolding merged_reals
-returns c = rw (c.sink_reals.ensures, c.raise_reals.ensures, c.add_reals-2.ensures, c.add_reals.ensures)
+returns c = search rules

@@ -13,10 +13,10 @@ use Rattle.lent.proofs.Unites.{none_here, none-there, child-united, children-nex
 use Rattle.merges.proofs.uniting.+merge_child_merge_children_merge_grid.Goals as goal
 
 pub merge_child-returns-then-link-eq0 : goal.merge_child-returns-then-link-eq0
-merge_child-returns-then-link-eq0 t c = none_here c.args.table.now c.args.other.now (memory c.args.theirs.now c.args.tallies.now) (united_grid c.args.table.now c.args.other.now (memory c.args.theirs.now c.args.tallies.now) c.args.level) c.args.link c.args.far (memory c.args.reals.now c.args.counts.now) c.if-link-eq0.true
+merge_child-returns-then-link-eq0 t c = none_here _ _ _ _ _ _ _ c.if-link-eq0.true
 
 pub merge_child-returns-then-far-eq0 : goal.merge_child-returns-then-far-eq0
-merge_child-returns-then-far-eq0 t c = none-there c.args.table.now c.args.other.now (memory c.args.theirs.now c.args.tallies.now) (united_grid c.args.table.now c.args.other.now (memory c.args.theirs.now c.args.tallies.now) c.args.level) c.args.link c.args.far (memory c.args.reals.now c.args.counts.now) c.if-link-eq0.false c.if-far-eq0.true
+merge_child-returns-then-far-eq0 t c = none-there _ _ _ _ _ _ _ c.if-link-eq0.false c.if-far-eq0.true
 
 pub merge_child-merge_grid-requires : goal.merge_child-merge_grid-requires
 unfolding ChildLaid
@@ -29,83 +29,32 @@ pub merge_child-shape_of-counts : goal.merge_child-shape_of-counts
 merge_child-shape_of-counts t c = c.merge_grid.auto.counts
 
 pub merge_child-returns : goal.merge_child-returns
-merge_child-returns t c = c.merge_grid.ensures ∙ child-united c.args.table.now c.args.other.now (memory c.args.theirs.now c.args.tallies.now) (united_grid c.args.table.now c.args.other.now (memory c.args.theirs.now c.args.tallies.now) c.args.level) c.args.link c.args.far (memory c.args.reals.now c.args.counts.now) c.if-link-eq0.false c.if-far-eq0.false
-
-pub merge_children-overflow_add-n : goal.merge_children-overflow_add-n
-merge_children-overflow_add-n t c = omega (arith, c.requires.0, c.requires.1, c.requires.2)
-
-pub merge_children-offset_bounds-table-w : goal.merge_children-offset_bounds-table-w
-merge_children-offset_bounds-table-w t c = omega (arith, c.requires.0, c.requires.1, c.requires.2)
-
-pub merge_children-bounds-table-w : goal.merge_children-bounds-table-w
-merge_children-bounds-table-w t c = omega (arith, c.requires.0, c.requires.1, c.requires.2)
+merge_child-returns t c = c.merge_grid.ensures ∙ child-united _ _ _ _ _ _ _ c.if-link-eq0.false c.if-far-eq0.false
 
 pub merge_children-loop-i-init : goal.merge_children-loop-i-init
-merge_children-loop-i-init t c = let e : (get_or c.args.table.now (c.args.w + 2) 0) - 0 ≡ (get_or c.args.table.now (c.args.w + 2) 0) = omega arith in (omega arith, refl, refl, rw e)
-
-pub merge_children-overflow_add-link : goal.merge_children-overflow_add-link
-merge_children-overflow_add-link t c = omega (arith, c.requires.0, c.requires.1, c.requires.2, c.loop-i-test.true)
-
-pub merge_children-overflow_add-link-in-loop-i : goal.merge_children-overflow_add-link-in-loop-i
-merge_children-overflow_add-link-in-loop-i t c = omega (arith, c.requires.0, c.requires.1, c.requires.2, c.loop-i-test.true)
-
-pub merge_children-offset_bounds-table-w-in-loop-i : goal.merge_children-offset_bounds-table-w-in-loop-i
-merge_children-offset_bounds-table-w-in-loop-i t c = omega (arith, c.requires.0, c.requires.1, c.requires.2, c.loop-i-test.true)
-
-pub merge_children-bounds-table-w-in-loop-i : goal.merge_children-bounds-table-w-in-loop-i
-merge_children-bounds-table-w-in-loop-i t c = omega (arith, c.requires.0, c.requires.1, c.requires.2, c.loop-i-test.true)
-
-pub merge_children-overflow_add-far : goal.merge_children-overflow_add-far
-merge_children-overflow_add-far t c = omega (arith, c.requires.0, c.requires.1, c.requires.2, c.loop-i-test.true)
-
-pub merge_children-overflow_add-far-in-loop-i : goal.merge_children-overflow_add-far-in-loop-i
-merge_children-overflow_add-far-in-loop-i t c = omega (arith, c.requires.0, c.requires.1, c.requires.2, c.loop-i-test.true)
-
-pub merge_children-offset_bounds-other-v : goal.merge_children-offset_bounds-other-v
-merge_children-offset_bounds-other-v t c = omega (arith, c.requires.0, c.requires.1, c.requires.2, c.loop-i-test.true)
-
-pub merge_children-bounds-other-v : goal.merge_children-bounds-other-v
-merge_children-bounds-other-v t c = omega (arith, c.requires.0, c.requires.1, c.requires.2, c.loop-i-test.true)
+merge_children-loop-i-init t c = let e : (get_or c.args.table.now (c.args.w + 2) 0) - 0 ≡ (get_or c.args.table.now (c.args.w + 2) 0) = omega arith in (refl, refl, rw e)
 
 pub merge_children-merge_child-requires : goal.merge_children-merge_child-requires
 unfolding ChildLaid
-merge_children-merge_child-requires t c = (omega (arith, c.decreases), (λ z. laid_kept c.args.level c.args.table.now (length c.args.reals.now) (length c.args.counts.now) (length c.loop-i.reals) (length c.loop-i.counts) (get_or c.args.table.now (c.args.w + 7 + c.loop-i.i) 0) c.loop-i.invariant.1 c.loop-i.invariant.2 (c.requires.0.children c.loop-i.i c.loop-i-test.true z), λ z. c.requires.1.children c.loop-i.i (omega (arith, c.requires.2, c.loop-i-test.true)) z))
-
-pub merge_children-overflow_add-i : goal.merge_children-overflow_add-i
-merge_children-overflow_add-i t c = omega (arith, c.requires.0, c.requires.1, c.requires.2, c.loop-i-test.true)
-
-pub merge_children-loop-i-smaller : goal.merge_children-loop-i-smaller
-merge_children-loop-i-smaller t c = omega (arith, c.loop-i-test.true)
+merge_children-merge_child-requires t c = (omega (arith, c.decreases), (λ z. laid_kept _ _ _ _ _ _ (get_or c.args.table.now (c.args.w + 7 + c.loop-i.i) 0) c.loop-i.invariant.0 c.loop-i.invariant.1 (c.requires.0.children c.loop-i.i c.loop-i-test.true z), λ z. c.requires.1.children c.loop-i.i (omega (arith, c.requires.2, c.loop-i-test.true)) z))
 
 pub merge_children-loop-i-preserved : goal.merge_children-loop-i-preserved
-merge_children-loop-i-preserved t c = (omega (arith, c.loop-i-test.true), c.merge_child.auto.reals ∙ c.loop-i.invariant.1, c.merge_child.auto.counts ∙ c.loop-i.invariant.2, children-next c.args.table.now c.args.other.now (memory c.args.theirs.now c.args.tallies.now) (united_grid c.args.table.now c.args.other.now (memory c.args.theirs.now c.args.tallies.now) c.args.level) c.args.w c.args.v (get_or c.args.table.now (c.args.w + 2) 0) c.loop-i.i (memory c.loop-i.reals c.loop-i.counts) (memory c.merge_child.new.reals c.merge_child.new.counts) c.loop-i-test.true c.merge_child.ensures ∙ c.loop-i.invariant.3)
+merge_children-loop-i-preserved t c = (c.merge_child.auto.reals ∙ c.loop-i.invariant.0, c.merge_child.auto.counts ∙ c.loop-i.invariant.1, children-next _ _ _ _ _ _ _ _ _ (memory c.merge_child.new.reals c.merge_child.new.counts) c.loop-i-test.true c.merge_child.ensures ∙ c.loop-i.invariant.2)
 
 pub merge_children-shape_of-reals : goal.merge_children-shape_of-reals
-merge_children-shape_of-reals t c = c.loop-i.invariant.1
+merge_children-shape_of-reals t c = c.loop-i.invariant.0
 
 pub merge_children-shape_of-counts : goal.merge_children-shape_of-counts
-merge_children-shape_of-counts t c = c.loop-i.invariant.2
+merge_children-shape_of-counts t c = c.loop-i.invariant.1
 
 pub merge_children-returns : goal.merge_children-returns
-merge_children-returns t c = sym (children-done c.args.table.now c.args.other.now (memory c.args.theirs.now c.args.tallies.now) (united_grid c.args.table.now c.args.other.now (memory c.args.theirs.now c.args.tallies.now) c.args.level) c.args.w c.args.v (get_or c.args.table.now (c.args.w + 2) 0) c.loop-i.i (memory c.loop-i.reals c.loop-i.counts) c.loop-i-test.false) ∙ c.loop-i.invariant.3
-
-pub merge_grid-offset_bounds-table-w : goal.merge_grid-offset_bounds-table-w
-merge_grid-offset_bounds-table-w t c = omega (arith, laid-head c.args.level c.args.table.now (length c.args.reals.now) (length c.args.counts.now) c.args.w c.requires.0)
-
-pub merge_grid-bounds-table-w : goal.merge_grid-bounds-table-w
-merge_grid-bounds-table-w t c = omega (arith, laid-head c.args.level c.args.table.now (length c.args.reals.now) (length c.args.counts.now) c.args.w c.requires.0)
-
-pub merge_grid-offset_bounds-other-v : goal.merge_grid-offset_bounds-other-v
-merge_grid-offset_bounds-other-v t c = omega (arith, laid-head c.args.level c.args.other.now (length c.args.theirs.now) (length c.args.tallies.now) c.args.v c.requires.1)
-
-pub merge_grid-bounds-other-v : goal.merge_grid-bounds-other-v
-merge_grid-bounds-other-v t c = omega (arith, laid-head c.args.level c.args.other.now (length c.args.theirs.now) (length c.args.tallies.now) c.args.v c.requires.1)
+merge_children-returns t c = sym (children-done _ _ _ _ _ _ _ _ _ c.loop-i-test.false) ∙ c.loop-i.invariant.2
 
 pub merge_grid-returns-then-other-v-ne1 : goal.merge_grid-returns-then-other-v-ne1
-merge_grid-returns-then-other-v-ne1 t c = axes-bins c.args.table.now c.args.other.now (memory c.args.theirs.now c.args.tallies.now) c.args.level c.args.w c.args.v (memory c.args.reals.now c.args.counts.now) c.if-table-w-eq1.true c.if-other-v-ne1.true (laid-bins c.args.level c.args.other.now (length c.args.theirs.now) (length c.args.tallies.now) c.args.v c.requires.1 c.if-other-v-ne1.true).level
+merge_grid-returns-then-other-v-ne1 t c = axes-bins _ _ _ _ _ _ _ c.if-table-w-eq1.true c.if-other-v-ne1.true (laid-bins _ _ _ _ _ c.requires.1 c.if-other-v-ne1.true).level
 
 pub merge_grid-merge_axes_grid-requires : goal.merge_grid-merge_axes_grid-requires
-merge_grid-merge_axes_grid-requires t c = (laid-axes c.args.level c.args.table.now (length c.args.reals.now) (length c.args.counts.now) c.args.w c.requires.0 c.if-table-w-eq1.true, laid-axes c.args.level c.args.other.now (length c.args.theirs.now) (length c.args.tallies.now) c.args.v c.requires.1 c.if-other-v-ne1.false)
+merge_grid-merge_axes_grid-requires t c = (laid-axes _ _ _ _ _ c.requires.0 c.if-table-w-eq1.true, laid-axes _ _ _ _ _ c.requires.1 c.if-other-v-ne1.false)
 
 pub merge_grid-shape_of-reals-then-table-w-eq1 : goal.merge_grid-shape_of-reals-then-table-w-eq1
 merge_grid-shape_of-reals-then-table-w-eq1 t c = c.merge_axes_grid.auto.reals
@@ -114,46 +63,19 @@ pub merge_grid-shape_of-counts-then-table-w-eq1 : goal.merge_grid-shape_of-count
 merge_grid-shape_of-counts-then-table-w-eq1 t c = c.merge_axes_grid.auto.counts
 
 pub merge_grid-returns-then-table-w-eq1 : goal.merge_grid-returns-then-table-w-eq1
-merge_grid-returns-then-table-w-eq1 t c = c.merge_axes_grid.ensures ∙ both-axes c.args.table.now c.args.other.now (memory c.args.theirs.now c.args.tallies.now) c.args.level c.args.w c.args.v (memory c.args.reals.now c.args.counts.now) c.if-table-w-eq1.true c.if-other-v-ne1.false
-
-pub merge_grid-offset_bounds-other-v-2 : goal.merge_grid-offset_bounds-other-v-2
-merge_grid-offset_bounds-other-v-2 t c = omega (arith, laid-head c.args.level c.args.other.now (length c.args.theirs.now) (length c.args.tallies.now) c.args.v c.requires.1)
-
-pub merge_grid-bounds-other-v-2 : goal.merge_grid-bounds-other-v-2
-merge_grid-bounds-other-v-2 t c = omega (arith, laid-head c.args.level c.args.other.now (length c.args.theirs.now) (length c.args.tallies.now) c.args.v c.requires.1)
+merge_grid-returns-then-table-w-eq1 t c = c.merge_axes_grid.ensures ∙ both-axes _ _ _ _ _ _ _ c.if-table-w-eq1.true c.if-other-v-ne1.false
 
 pub merge_grid-returns-then-other-v-eq1 : goal.merge_grid-returns-then-other-v-eq1
-merge_grid-returns-then-other-v-eq1 t c = bins-axes c.args.table.now c.args.other.now (memory c.args.theirs.now c.args.tallies.now) c.args.level c.args.w c.args.v (memory c.args.reals.now c.args.counts.now) c.if-table-w-eq1.false c.if-other-v-eq1.true (laid-bins c.args.level c.args.table.now (length c.args.reals.now) (length c.args.counts.now) c.args.w c.requires.0 c.if-table-w-eq1.false).level
-
-pub merge_grid-overflow_add-w : goal.merge_grid-overflow_add-w
-merge_grid-overflow_add-w t c = omega (arith, laid-head c.args.level c.args.table.now (length c.args.reals.now) (length c.args.counts.now) c.args.w c.requires.0)
-
-pub merge_grid-offset_bounds-table-w-2 : goal.merge_grid-offset_bounds-table-w-2
-merge_grid-offset_bounds-table-w-2 t c = omega (arith, laid-head c.args.level c.args.table.now (length c.args.reals.now) (length c.args.counts.now) c.args.w c.requires.0)
-
-pub merge_grid-bounds-table-w-2 : goal.merge_grid-bounds-table-w-2
-merge_grid-bounds-table-w-2 t c = omega (arith, laid-head c.args.level c.args.table.now (length c.args.reals.now) (length c.args.counts.now) c.args.w c.requires.0)
-
-pub merge_grid-overflow_add-v : goal.merge_grid-overflow_add-v
-merge_grid-overflow_add-v t c = omega (arith, laid-head c.args.level c.args.other.now (length c.args.theirs.now) (length c.args.tallies.now) c.args.v c.requires.1)
-
-pub merge_grid-offset_bounds-other-v-3 : goal.merge_grid-offset_bounds-other-v-3
-merge_grid-offset_bounds-other-v-3 t c = omega (arith, laid-head c.args.level c.args.other.now (length c.args.theirs.now) (length c.args.tallies.now) c.args.v c.requires.1)
-
-pub merge_grid-bounds-other-v-3 : goal.merge_grid-bounds-other-v-3
-merge_grid-bounds-other-v-3 t c = omega (arith, laid-head c.args.level c.args.other.now (length c.args.theirs.now) (length c.args.tallies.now) c.args.v c.requires.1)
+merge_grid-returns-then-other-v-eq1 t c = bins-axes _ _ _ _ _ _ _ c.if-table-w-eq1.false c.if-other-v-eq1.true (laid-bins _ _ _ _ _ c.requires.0 c.if-table-w-eq1.false).level
 
 pub merge_grid-returns-then-table-w : goal.merge_grid-returns-then-table-w
-merge_grid-returns-then-table-w t c = many-differ c.args.table.now c.args.other.now (memory c.args.theirs.now c.args.tallies.now) c.args.level c.args.w c.args.v (memory c.args.reals.now c.args.counts.now) c.if-table-w-eq1.false c.if-other-v-eq1.false c.if-table-w.true (laid-bins c.args.level c.args.table.now (length c.args.reals.now) (length c.args.counts.now) c.args.w c.requires.0 c.if-table-w-eq1.false).level
-
-pub merge_grid-overflow_sub-below : goal.merge_grid-overflow_sub-below
-merge_grid-overflow_sub-below t c = omega (arith, (laid-bins c.args.level c.args.table.now (length c.args.reals.now) (length c.args.counts.now) c.args.w c.requires.0 c.if-table-w-eq1.false).level)
+merge_grid-returns-then-table-w t c = many-differ _ _ _ _ _ _ _ c.if-table-w-eq1.false c.if-other-v-eq1.false c.if-table-w.true (laid-bins _ _ _ _ _ c.requires.0 c.if-table-w-eq1.false).level
 
 pub merge_grid-merge_own-requires : goal.merge_grid-merge_own-requires
-merge_grid-merge_own-requires t c = (own_room (Laid (c.args.level - 1) c.args.table.now (length c.args.reals.now) (length c.args.counts.now)) c.args.table.now (length c.args.reals.now) (length c.args.counts.now) c.args.w (laid-bins c.args.level c.args.table.now (length c.args.reals.now) (length c.args.counts.now) c.args.w c.requires.0 c.if-table-w-eq1.false).bins, own_room (Laid (c.args.level - 1) c.args.other.now (length c.args.theirs.now) (length c.args.tallies.now)) c.args.other.now (length c.args.theirs.now) (length c.args.tallies.now) c.args.v (laid-bins c.args.level c.args.other.now (length c.args.theirs.now) (length c.args.tallies.now) c.args.v c.requires.1 c.if-other-v-eq1.false).bins, c.if-table-w.false)
+merge_grid-merge_own-requires t c = (own_room (Laid (c.args.level - 1) c.args.table.now (length c.args.reals.now) (length c.args.counts.now)) c.args.table.now (length c.args.reals.now) (length c.args.counts.now) c.args.w (laid-bins _ _ _ _ _ c.requires.0 c.if-table-w-eq1.false).bins, own_room (Laid (c.args.level - 1) c.args.other.now (length c.args.theirs.now) (length c.args.tallies.now)) c.args.other.now (length c.args.theirs.now) (length c.args.tallies.now) c.args.v (laid-bins _ _ _ _ _ c.requires.1 c.if-other-v-eq1.false).bins, c.if-table-w.false)
 
 pub merge_grid-merge_children-requires : goal.merge_grid-merge_children-requires
-merge_grid-merge_children-requires t c = (omega (arith, c.decreases, (laid-bins c.args.level c.args.table.now (length c.args.reals.now) (length c.args.counts.now) c.args.w c.requires.0 c.if-table-w-eq1.false).level), (bins-kept (c.args.level - 1) c.args.table.now (length c.args.reals.now) (length c.args.counts.now) (length c.merge_own.new.reals) (length c.merge_own.new.counts) c.args.w c.merge_own.auto.reals c.merge_own.auto.counts (laid-bins c.args.level c.args.table.now (length c.args.reals.now) (length c.args.counts.now) c.args.w c.requires.0 c.if-table-w-eq1.false).bins, (laid-bins c.args.level c.args.other.now (length c.args.theirs.now) (length c.args.tallies.now) c.args.v c.requires.1 c.if-other-v-eq1.false).bins, c.if-table-w.false))
+merge_grid-merge_children-requires t c = (omega (arith, c.decreases, (laid-bins _ _ _ _ _ c.requires.0 c.if-table-w-eq1.false).level), (bins-kept _ _ _ _ _ _ _ c.merge_own.auto.reals c.merge_own.auto.counts (laid-bins _ _ _ _ _ c.requires.0 c.if-table-w-eq1.false).bins, (laid-bins _ _ _ _ _ c.requires.1 c.if-other-v-eq1.false).bins, c.if-table-w.false))
 
 pub merge_grid-shape_of-reals : goal.merge_grid-shape_of-reals
 merge_grid-shape_of-reals t c = c.merge_children.auto.reals ∙ c.merge_own.auto.reals
@@ -162,4 +84,43 @@ pub merge_grid-shape_of-counts : goal.merge_grid-shape_of-counts
 merge_grid-shape_of-counts t c = c.merge_children.auto.counts ∙ c.merge_own.auto.counts
 
 pub merge_grid-returns : goal.merge_grid-returns
-merge_grid-returns t c = c.merge_children.ensures ∙ ap (united_children c.args.table.now c.args.other.now (memory c.args.theirs.now c.args.tallies.now) (united_grid c.args.table.now c.args.other.now (memory c.args.theirs.now c.args.tallies.now) (c.args.level - 1)) c.args.w c.args.v 0 (get_or c.args.table.now (c.args.w + 2) 0)) c.merge_own.ensures ∙ both-bins c.args.table.now c.args.other.now (memory c.args.theirs.now c.args.tallies.now) c.args.level c.args.w c.args.v (memory c.args.reals.now c.args.counts.now) c.if-table-w-eq1.false c.if-other-v-eq1.false c.if-table-w.false (laid-bins c.args.level c.args.table.now (length c.args.reals.now) (length c.args.counts.now) c.args.w c.requires.0 c.if-table-w-eq1.false).level
+merge_grid-returns t c = c.merge_children.ensures ∙ ap (united_children c.args.table.now c.args.other.now (memory c.args.theirs.now c.args.tallies.now) (united_grid c.args.table.now c.args.other.now (memory c.args.theirs.now c.args.tallies.now) (c.args.level - 1)) c.args.w c.args.v 0 (get_or c.args.table.now (c.args.w + 2) 0)) c.merge_own.ensures ∙ both-bins _ _ _ _ _ _ _ c.if-table-w-eq1.false c.if-other-v-eq1.false c.if-table-w.false (laid-bins _ _ _ _ _ c.requires.0 c.if-table-w-eq1.false).level
+
+pub merge_grid-overflow_sub-below : goal.merge_grid-overflow_sub-below
+merge_grid-overflow_sub-below t c = omega (arith, (laid-bins _ _ _ _ _ c.requires.0 c.if-table-w-eq1.false).level)
+
+pub merge_grid-offset_bounds-other-v : goal.merge_grid-offset_bounds-other-v
+merge_grid-offset_bounds-other-v t c = omega (arith, laid-head _ _ _ _ _ c.requires.1)
+
+pub merge_grid-bounds-other-v : goal.merge_grid-bounds-other-v
+merge_grid-bounds-other-v t c = omega (arith, laid-head _ _ _ _ _ c.requires.1)
+
+pub merge_grid-bounds-table-w : goal.merge_grid-bounds-table-w
+merge_grid-bounds-table-w t c = omega (arith, laid-head _ _ _ _ _ c.requires.0)
+
+pub merge_grid-bounds-table-w-2 : goal.merge_grid-bounds-table-w-2
+merge_grid-bounds-table-w-2 t c = omega (arith, laid-head _ _ _ _ _ c.requires.0)
+
+pub merge_grid-bounds-other-v-3 : goal.merge_grid-bounds-other-v-3
+merge_grid-bounds-other-v-3 t c = omega (arith, laid-head _ _ _ _ _ c.requires.1)
+
+pub merge_grid-offset_bounds-other-v-3 : goal.merge_grid-offset_bounds-other-v-3
+merge_grid-offset_bounds-other-v-3 t c = omega (arith, laid-head _ _ _ _ _ c.requires.1)
+
+pub merge_grid-overflow_add-w : goal.merge_grid-overflow_add-w
+merge_grid-overflow_add-w t c = omega (arith, laid-head _ _ _ _ _ c.requires.0)
+
+pub merge_grid-offset_bounds-table-w-2 : goal.merge_grid-offset_bounds-table-w-2
+merge_grid-offset_bounds-table-w-2 t c = omega (arith, laid-head _ _ _ _ _ c.requires.0)
+
+pub merge_grid-offset_bounds-table-w : goal.merge_grid-offset_bounds-table-w
+merge_grid-offset_bounds-table-w t c = omega (arith, laid-head _ _ _ _ _ c.requires.0)
+
+pub merge_grid-bounds-other-v-2 : goal.merge_grid-bounds-other-v-2
+merge_grid-bounds-other-v-2 t c = omega (arith, laid-head _ _ _ _ _ c.requires.1)
+
+pub merge_grid-overflow_add-v : goal.merge_grid-overflow_add-v
+merge_grid-overflow_add-v t c = omega (arith, laid-head _ _ _ _ _ c.requires.1)
+
+pub merge_grid-offset_bounds-other-v-2 : goal.merge_grid-offset_bounds-other-v-2
+merge_grid-offset_bounds-other-v-2 t c = omega (arith, laid-head _ _ _ _ _ c.requires.1)

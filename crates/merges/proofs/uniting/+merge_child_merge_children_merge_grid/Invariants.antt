@@ -1,6 +1,6 @@
 -- A step keeps the lengths, so what lies there lies there for the next child; what is left to merge is all of it.
 use mathlib.Core.Path.{◌≡◌}
-use Prim.Native.Nat.{◌+◌, ◌-◌, ◌*◌, ◌≤◌}
+use Prim.Native.Nat.{◌+◌, ◌-◌, ◌*◌}
 use lib.ListN.{length}
 use Rattle.lent.specs.Memory.{memory}
 use Rattle.lent.specs.United.{united_children, united_grid}
@@ -16,7 +16,4 @@ abbrev pub decreases-merge_grid : goal.decreases-merge_grid
 decreases-merge_grid l = 3 * l.level
 
 abbrev pub invariant-merge_children-loop-i : goal.invariant-merge_children-loop-i
-invariant-merge_children-loop-i l = (l.i ≤ l.n) × (length l.reals ≡ length l.initial.reals) × (length l.counts ≡ length l.initial.counts) × (united_children l.table l.other (memory l.theirs l.tallies) (united_grid l.table l.other (memory l.theirs l.tallies) l.level) l.w l.v l.i (l.n - l.i) (memory l.reals l.counts) ≡ united_children l.table l.other (memory l.theirs l.tallies) (united_grid l.table l.other (memory l.theirs l.tallies) l.level) l.w l.v 0 l.n (memory l.initial.reals l.initial.counts))
-
-abbrev pub decreases-merge_children-loop-i : goal.decreases-merge_children-loop-i
-decreases-merge_children-loop-i l = l.n - l.i
+invariant-merge_children-loop-i l = (length l.reals ≡ length l.initial.reals) × (length l.counts ≡ length l.initial.counts) × (united_children l.table l.other (memory l.theirs l.tallies) (united_grid l.table l.other (memory l.theirs l.tallies) l.level) l.w l.v l.i (l.n - l.i) (memory l.reals l.counts) ≡ united_children l.table l.other (memory l.theirs l.tallies) (united_grid l.table l.other (memory l.theirs l.tallies) l.level) l.w l.v 0 l.n (memory l.initial.reals l.initial.counts))

@@ -8,56 +8,11 @@ use Rattle.lent.proofs.Unites.{bins-next, bins-done, own-united}
 use Rattle.merges.proofs.Places.{bin-there, bin-united}
 use Rattle.merges.proofs.uniting.merge_own.Goals as goal
 
-pub overflow_add-n : goal.overflow_add-n
-overflow_add-n c = omega (arith, c.requires.0)
-
-pub offset_bounds-table-w : goal.offset_bounds-table-w
-offset_bounds-table-w c = omega (arith, c.requires.0)
-
-pub bounds-table-w : goal.bounds-table-w
-bounds-table-w c = omega (arith, c.requires.0)
-
-pub overflow_add-r : goal.overflow_add-r
-overflow_add-r c = omega (arith, c.requires.0)
-
-pub offset_bounds-table-w-2 : goal.offset_bounds-table-w-2
-offset_bounds-table-w-2 c = omega (arith, c.requires.0)
-
-pub bounds-table-w-2 : goal.bounds-table-w-2
-bounds-table-w-2 c = omega (arith, c.requires.0)
-
-pub overflow_add-c : goal.overflow_add-c
-overflow_add-c c = omega (arith, c.requires.0)
-
-pub offset_bounds-table-w-3 : goal.offset_bounds-table-w-3
-offset_bounds-table-w-3 c = omega (arith, c.requires.0)
-
-pub bounds-table-w-3 : goal.bounds-table-w-3
-bounds-table-w-3 c = omega (arith, c.requires.0)
-
-pub overflow_add-q : goal.overflow_add-q
-overflow_add-q c = omega (arith, c.requires.1)
-
-pub offset_bounds-other-v : goal.offset_bounds-other-v
-offset_bounds-other-v c = omega (arith, c.requires.1)
-
-pub bounds-other-v : goal.bounds-other-v
-bounds-other-v c = omega (arith, c.requires.1)
-
-pub overflow_add-d : goal.overflow_add-d
-overflow_add-d c = omega (arith, c.requires.1)
-
-pub offset_bounds-other-v-2 : goal.offset_bounds-other-v-2
-offset_bounds-other-v-2 c = omega (arith, c.requires.1)
-
-pub bounds-other-v-2 : goal.bounds-other-v-2
-bounds-other-v-2 c = omega (arith, c.requires.1)
-
 pub join_account-requires : goal.join_account-requires
 join_account-requires c = (omega (arith, c.requires.0), omega (arith, c.requires.0), omega (arith, c.requires.1), omega (arith, c.requires.1))
 
 pub loop-i-init : goal.loop-i-init
-loop-i-init c = let e : get_or c.args.table.now (c.args.w + 2) 0 - 0 ≡ get_or c.args.table.now (c.args.w + 2) 0 = omega arith in (omega arith, refl, refl, rw e)
+loop-i-init c = let e : get_or c.args.table.now (c.args.w + 2) 0 - 0 ≡ get_or c.args.table.now (c.args.w + 2) 0 = omega arith in (refl, refl, rw e)
 
 pub bin_place-b-requires : goal.bin_place-b-requires
 bin_place-b-requires c = (c.requires.0.head, c.loop-i-test.true, omega (arith, c.requires.0.room, c.well_formed.1.0), omega (arith, c.requires.0.places, c.well_formed.1.1.0))
@@ -66,24 +21,18 @@ pub bin_place-o-requires : goal.bin_place-o-requires
 bin_place-o-requires c = (c.requires.1.head, omega (arith, c.requires.2, c.loop-i-test.true), omega (arith, c.requires.1.room, c.well_formed.1.1.1.1.1.0), omega (arith, c.requires.1.places, c.well_formed.1.1.1.1.1.1.0))
 
 pub join_account-requires-in-loop-i : goal.join_account-requires-in-loop-i
-join_account-requires-in-loop-i c = let mine = bin-there c.args.table.now (length c.loop-i.reals) (length c.loop-i.counts) c.args.w c.loop-i.i c.bin_place-b.result c.bin_place-b.ensures c.loop-i-test.true (omega (arith, c.requires.0.room, c.loop-i.invariant.1, c.join_account.auto.reals)) (omega (arith, c.requires.0.places, c.loop-i.invariant.2, c.join_account.auto.counts)) in
-    let theirs = bin-there c.args.other.now (length c.args.theirs.now) (length c.args.tallies.now) c.args.v c.loop-i.i c.bin_place-o.result c.bin_place-o.ensures (omega (arith, c.requires.2, c.loop-i-test.true)) c.requires.1.room c.requires.1.places in
+join_account-requires-in-loop-i c = let mine = bin-there c.args.table.now (length c.loop-i.reals) (length c.loop-i.counts) _ _ _ c.bin_place-b.ensures c.loop-i-test.true (omega (arith, c.requires.0.room, c.loop-i.invariant.0, c.join_account.auto.reals)) (omega (arith, c.requires.0.places, c.loop-i.invariant.1, c.join_account.auto.counts)) in
+    let theirs = bin-there _ _ _ _ _ _ c.bin_place-o.ensures (omega (arith, c.requires.2, c.loop-i-test.true)) c.requires.1.room c.requires.1.places in
     (mine.1, mine.2, theirs.1, theirs.2)
 
-pub overflow_add-i : goal.overflow_add-i
-overflow_add-i c = omega (arith, c.requires.0.room, c.well_formed.1.0, c.loop-i-test.true)
-
-pub loop-i-smaller : goal.loop-i-smaller
-loop-i-smaller c = omega (arith, c.loop-i-test.true)
-
 pub loop-i-preserved : goal.loop-i-preserved
-loop-i-preserved c = (omega (arith, c.loop-i-test.true), c.join_account-in-loop-i.auto.reals ∙ c.loop-i.invariant.1, c.join_account-in-loop-i.auto.counts ∙ c.loop-i.invariant.2, bins-next c.args.table.now c.args.other.now (memory c.args.theirs.now c.args.tallies.now) c.args.w c.args.v (get_or c.args.table.now (c.args.w + 2) 0) c.loop-i.i (memory c.loop-i.reals c.loop-i.counts) (memory c.join_account-in-loop-i.new.reals c.join_account-in-loop-i.new.counts) c.loop-i-test.true (bin-united c.args.table.now c.args.w c.args.other.now c.args.v c.loop-i.i c.bin_place-b.result c.bin_place-o.result c.bin_place-b.ensures c.bin_place-o.ensures (memory c.args.theirs.now c.args.tallies.now) (memory c.loop-i.reals c.loop-i.counts) (memory c.join_account-in-loop-i.new.reals c.join_account-in-loop-i.new.counts) c.join_account-in-loop-i.ensures) ∙ c.loop-i.invariant.3)
+loop-i-preserved c = (c.join_account-in-loop-i.auto.reals ∙ c.loop-i.invariant.0, c.join_account-in-loop-i.auto.counts ∙ c.loop-i.invariant.1, bins-next _ _ _ _ _ _ _ _ _ c.loop-i-test.true (bin-united _ _ _ _ _ _ _ c.bin_place-b.ensures c.bin_place-o.ensures (memory c.args.theirs.now c.args.tallies.now) (memory c.loop-i.reals c.loop-i.counts) (memory c.join_account-in-loop-i.new.reals c.join_account-in-loop-i.new.counts) c.join_account-in-loop-i.ensures) ∙ c.loop-i.invariant.2)
 
 pub shape_of-reals : goal.shape_of-reals
-shape_of-reals c = c.loop-i.invariant.1 ∙ c.join_account.auto.reals
+shape_of-reals c = c.loop-i.invariant.0 ∙ c.join_account.auto.reals
 
 pub shape_of-counts : goal.shape_of-counts
-shape_of-counts c = c.loop-i.invariant.2 ∙ c.join_account.auto.counts
+shape_of-counts c = c.loop-i.invariant.1 ∙ c.join_account.auto.counts
 
 pub returns : goal.returns
-returns c = own-united c.args.table.now c.args.other.now (memory c.args.theirs.now c.args.tallies.now) c.args.w c.args.v (memory c.args.reals.now c.args.counts.now) (memory c.join_account.new.reals c.join_account.new.counts) (memory c.loop-i.reals c.loop-i.counts) c.join_account.ensures (sym (bins-done c.args.table.now c.args.other.now (memory c.args.theirs.now c.args.tallies.now) c.args.w c.args.v (get_or c.args.table.now (c.args.w + 2) 0) c.loop-i.i (memory c.loop-i.reals c.loop-i.counts) c.loop-i-test.false) ∙ c.loop-i.invariant.3)
+returns c = own-united _ _ _ _ _ _ _ _ c.join_account.ensures (sym (bins-done _ _ _ _ _ _ _ _ c.loop-i-test.false) ∙ c.loop-i.invariant.2)

@@ -9,13 +9,10 @@ use Rattle.plan.proofs.bits.floor_fits.Goals as goal
 pub returns-then-is_nan : goal.returns-then-is_nan
 returns-then-is_nan c = nan-floor _ (sym (nan_bits_is binary64 c.args.bits) ∙ sym c.is_nan.ensures ∙ c.if-is_nan.true)
 
-pub float_from_bits-x : goal.float_from_bits-x
-float_from_bits-x c = rw (sym c.is_nan.ensures ∙ c.if-is_nan.false) tt
-
 pub returns-then-x : goal.returns-then-x
 unfolding floor_fits
 returns-then-x c = rw c.if-x.true
 
-pub returns : goal.returns
+pub returns-else-x : goal.returns-else-x
 unfolding floor_fits
-returns c = rw c.if-x.false
+returns-else-x c = rw c.if-x.false

@@ -9,9 +9,6 @@ use Rattle.plan.proofs.bits.ratio_fits.Goals as goal
 pub returns-then-is_nan : goal.returns-then-is_nan
 returns-then-is_nan c = nan-ratio _ (sym (nan_bits_is binary64 c.args.bits) ∙ sym c.is_nan.ensures ∙ c.if-is_nan.true)
 
-pub float_from_bits-x : goal.float_from_bits-x
-float_from_bits-x c = rw (sym c.is_nan.ensures ∙ c.if-is_nan.false) tt
-
 pub float_from_bits-infinity : goal.float_from_bits-infinity
 unfolding lib.Ieee.nan_bits
 float_from_bits-infinity c = tt
@@ -20,6 +17,6 @@ pub returns-then-x : goal.returns-then-x
 unfolding ratio_fits
 returns-then-x c = rw c.if-x.true
 
-pub returns : goal.returns
+pub returns-else-x : goal.returns-else-x
 unfolding ratio_fits
-returns c = rw c.if-x.false
+returns-else-x c = rw c.if-x.false

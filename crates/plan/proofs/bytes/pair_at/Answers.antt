@@ -3,14 +3,5 @@ use native.Mathlib.Omega.{arith}
 use Rattle.plan.proofs.Numbers.{two_bytes}
 use Rattle.plan.proofs.bytes.pair_at.Goals as goal
 
-pub overflow_add-at : goal.overflow_add-at
-overflow_add-at c = omega arith
-
-pub overflow_mul-result : goal.overflow_mul-result
-overflow_mul-result c = omega arith
-
-pub overflow_add-result : goal.overflow_add-result
-overflow_add-result c = omega arith
-
 pub returns : goal.returns
 returns c = (rw (c.byte_at-low.ensures.0, c.byte_at-high.ensures.0) (two_bytes _ _), omega (arith, c.byte_at-low.ensures.1, c.byte_at-high.ensures.1))

@@ -12,7 +12,4 @@ abbrev pub decreases-measure_all : goal.decreases-measure_all
 decreases-measure_all l = l.level + l.level + 1
 
 abbrev pub invariant-measure_all-loop-i : goal.invariant-measure_all-loop-i
-invariant-measure_all-loop-i l = Walked (λ s q. tree_of (from_bytes l.bytes) l.level q) (l.initial.here.tally.words - l.n) l.n l.initial.here l.here l.i × Inside l.bytes l.here
-
-abbrev pub decreases-measure_all-loop-i : goal.decreases-measure_all-loop-i
-decreases-measure_all-loop-i l = l.n - l.i
+invariant-measure_all-loop-i l = Walked (λ s q. tree_of (from_bytes l.bytes) l.level q) (l.initial.here.tally.words - l.n) l.n l.initial.here l.here l._i × Inside l.bytes l.here

@@ -1,5 +1,5 @@
 -- The levels left fall; the answer for all children is the answer for those that are left.
-use Prim.Native.Nat.{◌+◌, ◌-◌, ◌*◌, ◌≤◌}
+use Prim.Native.Nat.{◌+◌, ◌*◌, ◌≤◌}
 use Rattle.plan.specs.Reading.{tree_of}
 use Rattle.plan.specs.Walk.{child_of, from_table}
 use Rattle.plan.specs.Bounds.{Roomy}
@@ -17,6 +17,3 @@ decreases-linked l = 3 * l.level + 1
 
 abbrev pub invariant-known_all-loop-i : goal.invariant-known_all-loop-i
 invariant-known_all-loop-i l = Walked (λ s q. child_of l.table (tree_of (from_table l.table) l.level) s q) l.slot l.n l.initial.here l.here l.i × (Roomy l.here.tally × (l.slot + l.n ≤ 16832))
-
-abbrev pub decreases-known_all-loop-i : goal.decreases-known_all-loop-i
-decreases-known_all-loop-i l = l.n - l.i

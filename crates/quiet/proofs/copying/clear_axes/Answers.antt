@@ -14,18 +14,9 @@ use Rattle.quiet.proofs.copying.clear_axes.Goals as goal
 pub loop-left-init : goal.loop-left-init
 loop-left-init c = (c.requires, refl, same_refl 0 c.args.g.counts (length c.args.counts.now) c.args.counts.now, refl)
 
-pub offset_bounds-counts-c : goal.offset_bounds-counts-c
-offset_bounds-counts-c c = let n = first c.args.reals.now c.args.counts.now c.loop-left.left c.loop-left-test.true c.loop-left.invariant.0 in let size = c.loop-left.invariant.2.size in omega arith
-
-pub bounds-counts-c : goal.bounds-counts-c
-bounds-counts-c c = let n = first c.args.reals.now c.args.counts.now c.loop-left.left c.loop-left-test.true c.loop-left.invariant.0 in let size = c.loop-left.invariant.2.size in omega arith
-
 pub after_first-left-requires : goal.after_first-left-requires
 unfolding axis_reals axis_counts
 after_first-left-requires c = let n = first c.args.reals.now c.args.counts.now c.loop-left.left c.loop-left-test.true c.loop-left.invariant.0 in (c.loop-left-test.true, n.few, omega arith, omega arith)
-
-pub loop-left-smaller : goal.loop-left-smaller
-loop-left-smaller c = omega (arith, one_less c.loop-left.left c.after_first-left.result c.after_first-left.ensures, c.loop-left-test.true)
 
 pub loop-left-preserved : goal.loop-left-preserved
 unfolding axis_reals axis_counts
@@ -47,3 +38,12 @@ shape_of-counts c = c.loop-left.invariant.2.size
 
 pub returns : goal.returns
 returns c = sym (cleared-done c.loop-left.left (memory c.loop-left.reals c.loop-left.counts) c.loop-left-test.false) ∙ c.loop-left.invariant.3
+
+pub offset_bounds-counts-c : goal.offset_bounds-counts-c
+offset_bounds-counts-c c = let n = first c.args.reals.now c.args.counts.now c.loop-left.left c.loop-left-test.true c.loop-left.invariant.0 in let size = c.loop-left.invariant.2.size in omega arith
+
+pub loop-left-smaller : goal.loop-left-smaller
+loop-left-smaller c = omega (arith, one_less c.loop-left.left c.after_first-left.result c.after_first-left.ensures, c.loop-left-test.true)
+
+pub bounds-counts-c : goal.bounds-counts-c
+bounds-counts-c c = let n = first c.args.reals.now c.args.counts.now c.loop-left.left c.loop-left-test.true c.loop-left.invariant.0 in let size = c.loop-left.invariant.2.size in omega arith

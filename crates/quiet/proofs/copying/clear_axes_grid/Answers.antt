@@ -6,7 +6,6 @@ use Rattle.lent.specs.declared.AxesAt.{AxesAt}
 use Rattle.lent.specs.Memory.{memory}
 use Rattle.lent.specs.Drawn.{Stands}
 use Rattle.lent.proofs.Clones.{axes-emptied}
-use native.Mathlib.Omega.{arith}
 use borrow.Author.Rules.{rules}
 use Rattle.quiet.proofs.copying.clear_axes_grid.Goals as goal
 use Rattle.quiet.proofs.copying.clear_axes_grid.Goals.{After-axes_place-g}
@@ -15,32 +14,8 @@ use Rattle.quiet.proofs.copying.clear_axes_grid.Goals.{After-axes_place-g}
 there : (c : After-axes_place-g) → c.axes_place-g.result ≡ axes_place c.args.table.now c.args.w
 there c = placed c.args.table.now c.args.w c.axes_place-g.ensures (search rules)
 
-pub overflow_add-r : goal.overflow_add-r
-overflow_add-r c = omega arith
-
-pub offset_bounds-table-w : goal.offset_bounds-table-w
-offset_bounds-table-w c = omega arith
-
-pub bounds-table-w : goal.bounds-table-w
-bounds-table-w c = omega arith
-
-pub overflow_add-c : goal.overflow_add-c
-overflow_add-c c = omega arith
-
-pub offset_bounds-table-w-2 : goal.offset_bounds-table-w-2
-offset_bounds-table-w-2 c = omega arith
-
-pub bounds-table-w-2 : goal.bounds-table-w-2
-bounds-table-w-2 c = omega arith
-
 pub clear_axes-requires : goal.clear_axes-requires
 clear_axes-requires c = subst (λ (g : AxesAt). Stands c.args.reals.now c.args.counts.now g) (sym (there (goal.at.clear_axes-requires c).After-axes_place-g)) c.requires.1
-
-pub shape_of-reals : goal.shape_of-reals
-shape_of-reals c = omega arith
-
-pub shape_of-counts : goal.shape_of-counts
-shape_of-counts c = omega arith
 
 pub returns : goal.returns
 returns c = axes-emptied c.args.table.now c.args.w c.axes_place-g.result (memory c.args.reals.now c.args.counts.now) (memory c.clear_axes.new.reals c.clear_axes.new.counts) (memory c.clear.new.reals c.clear.new.counts) (there (goal.at.returns c).After-axes_place-g) c.clear_axes.ensures c.clear.ensures

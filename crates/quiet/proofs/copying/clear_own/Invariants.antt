@@ -8,6 +8,3 @@ use Rattle.quiet.proofs.copying.clear_own.Given as goal
 
 abbrev pub invariant-loop-i : goal.invariant-loop-i
 invariant-loop-i l = (l.i ≤ l.n) × (length l.reals ≡ length l.initial.reals) × (length l.counts ≡ length l.initial.counts) × (cleared_from l.table l.w l.i (l.n - l.i) (memory l.reals l.counts) ≡ cleared_from l.table l.w 0 l.n (memory l.initial.reals l.initial.counts))
-
-abbrev pub decreases-loop-i : goal.decreases-loop-i
-decreases-loop-i l = l.n - l.i

@@ -10,17 +10,8 @@ use Rattle.lent.proofs.Samples.{sound-stands}
 use Rattle.lent.proofs.Clones.{root-axes, root-bins}
 use Rattle.quiet.proofs.copying.clear_root.Goals as goal
 
-pub bounds-table-0 : goal.bounds-table-0
-bounds-table-0 c = omega (arith, laid-head 4 c.args.table.now (length c.args.reals.now) (length c.args.counts.now) 0 c.requires.0)
-
 pub clear_axes_grid-requires : goal.clear_axes_grid-requires
 clear_axes_grid-requires c = ((laid-axes 4 c.args.table.now (length c.args.reals.now) (length c.args.counts.now) 0 c.requires.0 c.if-table-eq1.true), sound-stands c.args.table.now c.args.reals.now c.args.counts.now 0 (laid-axes 4 c.args.table.now (length c.args.reals.now) (length c.args.counts.now) 0 c.requires.0 c.if-table-eq1.true) (sym (ap sound (node-axes 4 c.args.table.now c.args.reals.now c.args.counts.now 0 c.if-table-eq1.true)) ∙ c.requires.1))
-
-pub shape_of-reals-then-table-eq1 : goal.shape_of-reals-then-table-eq1
-shape_of-reals-then-table-eq1 c = omega arith
-
-pub shape_of-counts-then-table-eq1 : goal.shape_of-counts-then-table-eq1
-shape_of-counts-then-table-eq1 c = omega arith
 
 pub returns-then-table-eq1 : goal.returns-then-table-eq1
 returns-then-table-eq1 c = c.clear_axes_grid.ensures ∙ root-axes c.args.table.now (memory c.args.reals.now c.args.counts.now) c.if-table-eq1.true
@@ -28,11 +19,8 @@ returns-then-table-eq1 c = c.clear_axes_grid.ensures ∙ root-axes c.args.table.
 pub clear_own-requires : goal.clear_own-requires
 clear_own-requires c = (laid-bins 4 c.args.table.now (length c.args.reals.now) (length c.args.counts.now) 0 c.requires.0 c.if-table-eq1.false).bins
 
-pub shape_of-reals : goal.shape_of-reals
-shape_of-reals c = omega arith
-
-pub shape_of-counts : goal.shape_of-counts
-shape_of-counts c = omega arith
-
 pub returns : goal.returns
 returns c = c.clear_own.ensures ∙ root-bins c.args.table.now (memory c.args.reals.now c.args.counts.now) c.if-table-eq1.false
+
+pub bounds-table-0 : goal.bounds-table-0
+bounds-table-0 c = omega (arith, laid-head 4 c.args.table.now (length c.args.reals.now) (length c.args.counts.now) 0 c.requires.0)

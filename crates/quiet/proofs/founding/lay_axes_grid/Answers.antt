@@ -1,7 +1,6 @@
 -- Storing the fresh record keeps the lengths, so there is room for the axes still; the two steps are the definition's.
 use Rattle.lent.specs.Tree.{axes_place}
 use Rattle.lent.proofs.Places.{placed}
-use native.Mathlib.Omega.{arith}
 use lib.ListN.{length}
 use Rattle.lent.specs.Memory.{memory}
 use Rattle.lent.proofs.Founds.{axes-room, axes-founded}
@@ -13,33 +12,6 @@ use Rattle.quiet.proofs.founding.lay_axes_grid.Goals.{After-axes_place-g}
 -- where the axes stand
 there : (c : After-axes_place-g) → c.axes_place-g.result ≡ axes_place c.args.table.now c.args.w
 there c = placed c.args.table.now c.args.w c.axes_place-g.ensures (search rules)
-
-pub overflow_add-r : goal.overflow_add-r
-overflow_add-r c = omega (arith, c.requires)
-
-pub offset_bounds-table-w : goal.offset_bounds-table-w
-offset_bounds-table-w c = omega (arith, c.requires)
-
-pub bounds-table-w : goal.bounds-table-w
-bounds-table-w c = omega (arith, c.requires)
-
-pub overflow_add-c : goal.overflow_add-c
-overflow_add-c c = omega (arith, c.requires)
-
-pub offset_bounds-table-w-2 : goal.offset_bounds-table-w-2
-offset_bounds-table-w-2 c = omega (arith, c.requires)
-
-pub bounds-table-w-2 : goal.bounds-table-w-2
-bounds-table-w-2 c = omega (arith, c.requires)
-
-pub overflow_add-n : goal.overflow_add-n
-overflow_add-n c = omega (arith, c.requires)
-
-pub offset_bounds-table-w-3 : goal.offset_bounds-table-w-3
-offset_bounds-table-w-3 c = omega (arith, c.requires)
-
-pub bounds-table-w-3 : goal.bounds-table-w-3
-bounds-table-w-3 c = omega (arith, c.requires)
 
 pub lay_axes-requires : goal.lay_axes-requires
 lay_axes-requires c = axes-room c.args.table.now (length c.args.reals.now) (length c.args.counts.now) (length c.store.new.reals) (length c.store.new.counts) c.args.w c.axes_place-g.result c.requires c.store.auto.reals c.store.auto.counts (there (goal.at.lay_axes-requires c).After-axes_place-g)

@@ -39,13 +39,6 @@ pub overflow_add-c-in-loop-done : goal.overflow_add-c-in-loop-done
 unfolding axis_reals axis_counts
 overflow_add-c-in-loop-done c = let taken = c.loop-done-test.true in let room = room_next c.args.g.axes c.loop-done.done (axis_reals c.args.g.most) c.loop-done.r (length c.args.reals.now) taken c.loop-done.invariant.1 in let places = room_next c.args.g.axes c.loop-done.done (axis_counts c.args.g.most) c.loop-done.c (length c.args.counts.now) taken c.loop-done.invariant.2 in omega (arith, c.requires, c.loop-done.invariant, room, places)
 
-pub overflow_add-done : goal.overflow_add-done
-unfolding axis_reals axis_counts
-overflow_add-done c = let taken = c.loop-done-test.true in let room = room_next c.args.g.axes c.loop-done.done (axis_reals c.args.g.most) c.loop-done.r (length c.args.reals.now) taken c.loop-done.invariant.1 in let places = room_next c.args.g.axes c.loop-done.done (axis_counts c.args.g.most) c.loop-done.c (length c.args.counts.now) taken c.loop-done.invariant.2 in omega (arith, c.requires, c.loop-done.invariant, room, places)
-
-pub loop-done-smaller : goal.loop-done-smaller
-loop-done-smaller c = omega (arith, c.loop-done-test.true)
-
 pub loop-done-preserved : goal.loop-done-preserved
 unfolding axis_reals axis_counts
 loop-done-preserved c = let taken = c.loop-done-test.true in let room = room_next c.args.g.axes c.loop-done.done (axis_reals c.args.g.most) c.loop-done.r (length c.args.reals.now) taken c.loop-done.invariant.1 in let places = room_next c.args.g.axes c.loop-done.done (axis_counts c.args.g.most) c.loop-done.c (length c.args.counts.now) taken c.loop-done.invariant.2 in (omega arith, room.1, places.1, c.lay_axis.auto.reals ∙ c.loop-done.invariant.3, c.lay_axis.auto.counts ∙ c.loop-done.invariant.4, over-next (lay_at c.args.g.most) c.args.g.most c.args.g.axes c.loop-done.done c.loop-done.r c.loop-done.c c.args.n (memory c.loop-done.reals c.loop-done.counts) _ taken c.lay_axis.ensures ∙ c.loop-done.invariant.5)

@@ -8,30 +8,9 @@ use Rattle.lent.proofs.Rooms.{empty-known}
 use borrow.Author.Rules.{rules}
 use Rattle.quiet.proofs.laying.lay_axis.Goals as goal
 
-pub overflow_add-places : goal.overflow_add-places
-overflow_add-places c = omega arith
-
-pub overflow_add-end : goal.overflow_add-end
-overflow_add-end c = omega arith
-
-pub offset_bounds-reals-r : goal.offset_bounds-reals-r
-offset_bounds-reals-r c = omega arith
-
-pub slice_bounds-lay_even-count : goal.slice_bounds-lay_even-count
-slice_bounds-lay_even-count c = omega arith
-
-pub slice_bounds-lay_even-start : goal.slice_bounds-lay_even-start
-slice_bounds-lay_even-start c = omega arith
-
 pub slice_bounds-lay_even-end : goal.slice_bounds-lay_even-end
 unfolding axis_reals axis_counts
 slice_bounds-lay_even-end c = omega arith
-
-pub shape_of-reals : goal.shape_of-reals
-shape_of-reals c = omega arith
-
-pub shape_of-counts : goal.shape_of-counts
-shape_of-counts c = omega arith
 
 pub returns : goal.returns
 unfolding lay_at edged_at axis_reals axis_counts

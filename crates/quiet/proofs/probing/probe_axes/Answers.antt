@@ -5,14 +5,13 @@ use lib.Ieee.{Float}
 use Rattle.model.specs.Draw.{floored_of}
 use Rattle.model.specs.Probe.{through}
 use borrow.Author.Tests.{ne_eqb, eq-eqb}
-use Rattle.axis.specs.Calls.{paper_probed}
 use Rattle.lent.specs.Probed.{coordinates_of, probed_of}
 use Rattle.lent.proofs.Probes.{coordinates-length}
 use Rattle.lent.proofs.Reading.{length-axes}
 use Rattle.quiet.proofs.probing.probe_axes.Goals as goal
 
 pub returns-then-p-g : goal.returns-then-p-g
-unfolding paper_probed probed_of coordinates_of
+unfolding probed_of coordinates_of
 returns-then-p-g c = rw (coordinates-length, length-axes, ne_eqb _ _ c.if-p-g.true)
 
 pub returns : goal.returns

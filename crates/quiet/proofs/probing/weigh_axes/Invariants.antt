@@ -2,15 +2,12 @@
 use Rattle.lent.specs.Drawn.{axes_at}
 use Rattle.model.specs.Probe.{probe_all}
 use mathlib.Core.Path.{◌≡◌}
-use Prim.Native.Nat.{◌+◌, ◌≤◌}
+use Prim.Native.Nat.{◌+◌}
 use Rattle.doubles.specs.Numbers.{one64}
 use Rattle.lent.specs.Drawn.{Stands}
 use Rattle.lent.specs.Probed.{coordinates_of}
 use Rattle.lent.proofs.Probes.{left_of}
 use Rattle.quiet.proofs.probing.weigh_axes.Given as goal
 
-abbrev pub invariant-loop-left : goal.invariant-loop-left
-invariant-loop-left l = Stands l.reals l.counts l.left × (l.done + l.left.axes ≡ l.p.many) × (l.p.many ≤ 8) × (left_of l.reals l.counts l.p l.left l.done l.weight ≡ probe_all (axes_at l.reals l.counts l.initial.left) (coordinates_of l.p) one64)
-
-abbrev pub decreases-loop-left : goal.decreases-loop-left
-decreases-loop-left l = l.left.axes
+abbrev pub invariant-loop-done : goal.invariant-loop-done
+invariant-loop-done l = Stands l.reals l.counts l.left × (l.done + l.left.axes ≡ l.initial.left.axes) × (left_of l.reals l.counts l.p l.left l.done l.weight ≡ probe_all (axes_at l.reals l.counts l.initial.left) (coordinates_of l.p) one64)

@@ -3,7 +3,6 @@ use mathlib.Core.Path.{◌≡◌, refl, sym, ap, ◌∙◌}
 use Prim.Native.Nat.{ℕ, ◌+◌, ◌-◌}
 use native.Mathlib.Omega.{arith}
 use native.Mathlib.Numerals.{add-one}
-use lib.Dec.{lit≤}
 use lib.Ieee.{Float, binary64, add, mul, div}
 use Rattle.doubles.specs.Numbers.{one64}
 use Rattle.doubles.specs.Count.{count_of}
@@ -16,20 +15,11 @@ step r p n e = ap (λ (y : Float). add binary64 one64 (div binary64 (mul binary6
 
 pub loop-n-init : goal.loop-n-init
 unfolding exp_of
-loop-n-init c = (lit≤ tt, refl)
-
-pub overflow_sub-p : goal.overflow_sub-p
-overflow_sub-p c = omega arith
-
-pub overflow_add-n : goal.overflow_add-n
-overflow_add-n c = omega arith
-
-pub loop-n-smaller : goal.loop-n-smaller
-loop-n-smaller c = omega arith
+loop-n-init c = refl
 
 pub loop-n-preserved : goal.loop-n-preserved
 unfolding count_of
-loop-n-preserved c = (omega arith, step _ _ _ c.loop-n.invariant.1)
+loop-n-preserved c = step _ _ _ c.loop-n.invariant
 
 pub returns : goal.returns
-returns c = let e : c.loop-n.n ≡ 14 = omega arith in c.loop-n.invariant.1 ∙ ap (λ (k : ℕ). exp_of c.args.r k) e
+returns c = let e : c.loop-n.n ≡ 14 = omega arith in c.loop-n.invariant ∙ ap (λ (k : ℕ). exp_of c.args.r k) e

@@ -1,5 +1,4 @@
 -- `mantissa`: no such bits are a NaN's. Assumes nothing.
-use mathlib.Core.Path.{refl}
 use Prim.Native.Nat.{ℕ, ◌+◌, ◌*◌, ◌^◌, ◌≤◌, ◌<◌}
 use native.Mathlib.Omega.{arith}
 use Rattle.doubles.proofs.Bits.{no-nan-bits}
@@ -10,6 +9,3 @@ room m h = omega arith
 
 pub float_from_bits-result : goal.float_from_bits-result
 float_from_bits-result c = no-nan-bits _ (room c.args.digits c.requires)
-
-pub returns : goal.returns
-returns c = refl

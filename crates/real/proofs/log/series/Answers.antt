@@ -3,7 +3,6 @@ use mathlib.Core.Path.{◌≡◌, refl, sym, ap, ◌∙◌}
 use Prim.Native.Nat.{ℕ, ◌+◌, ◌-◌, ◌*◌}
 use native.Mathlib.Omega.{arith}
 use native.Mathlib.Numerals.{add-one}
-use lib.Dec.{lit≤}
 use lib.Ieee.{Float, binary64, add, sub, mul, div, of_int, of_bits}
 use Rattle.doubles.specs.Numbers.{one64, two64}
 use Rattle.doubles.specs.Count.{count_of}
@@ -27,24 +26,12 @@ last m e c n h i = ap (λ (y : Float). add binary64 (mul binary64 e ln2) (mul bi
 
 pub loop-n-init : goal.loop-n-init
 unfolding tail_of
-loop-n-init c = (lit≤ tt, ap (λ (y : Float). div binary64 one64 y) twenty-one)
-
-pub overflow_mul-c : goal.overflow_mul-c
-overflow_mul-c c = omega arith
-
-pub overflow_sub-c : goal.overflow_sub-c
-overflow_sub-c c = omega arith
-
-pub overflow_add-n : goal.overflow_add-n
-overflow_add-n c = omega arith
-
-pub loop-n-smaller : goal.loop-n-smaller
-loop-n-smaller c = omega arith
+loop-n-init c = ap (λ (y : Float). div binary64 one64 y) twenty-one
 
 pub loop-n-preserved : goal.loop-n-preserved
 unfolding count_of
-loop-n-preserved c = (omega arith, step _ _ _ c.loop-n.invariant.1)
+loop-n-preserved c = step _ _ _ c.loop-n.invariant
 
 pub returns : goal.returns
 returns c = let e : c.loop-n.n ≡ 10 = omega arith in
-    last c.args.m c.args.e _ _ e c.loop-n.invariant.1
+    last c.args.m c.args.e _ _ e c.loop-n.invariant

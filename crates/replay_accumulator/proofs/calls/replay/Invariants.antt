@@ -2,8 +2,5 @@
 use Rattle.std.proofs.Common.{◌-◌}
 use Rattle.replay_accumulator.proofs.calls.replay.Given as goal
 
-abbrev pub invariant-loop-at : goal.invariant-loop-at
-invariant-loop-at l = Unit {0}
-
 abbrev pub decreases-loop-at : goal.decreases-loop-at
 decreases-loop-at l = l.end - l.at

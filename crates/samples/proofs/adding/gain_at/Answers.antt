@@ -61,9 +61,9 @@ overflow_add-zeros c = omega (arith, (within _ (counts_of_lem _ c.requires.2)).w
 pub returns : goal.returns
 unfolding gain_at gain_of record_at added_of with_extremes with_waiting
 returns c = rw (
-  c.either_number-2.ensures,
+  c.either-4.ensures,
+  c.either-3.ensures,
   c.either-2.ensures,
-  c.either_number.ensures,
   c.either.ensures,
   c.zero_count.ensures,
   c.count_at.ensures,

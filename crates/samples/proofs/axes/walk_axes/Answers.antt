@@ -41,12 +41,6 @@ pub place_on-spot-requires : goal.place_on-spot-requires
 place_on-spot-requires c = let n = next c.args.g.most c.args.reals.now c.args.counts.now c.args.g.axes c.loop-done.done c.loop-done.at c.loop-done.place c.loop-done-test.true c.loop-done.invariant.2 in
     (asked-part c.loop-done.at (get_or c.args.counts.now c.loop-done.place 0) c.args.reals.now n.edges, asked-unit c.loop-done.stream c.next_u64-word.result c.unit_of-unit.result c.next_u64-word.ensures c.unit_of-unit.ensures)
 
-pub offset_bounds-coordinates-done : goal.offset_bounds-coordinates-done
-offset_bounds-coordinates-done c = omega (arith, c.requires.0.0, c.loop-done-test.true)
-
-pub bounds-coordinates-done : goal.bounds-coordinates-done
-bounds-coordinates-done c = omega (arith, c.requires.0.0, c.loop-done-test.true)
-
 pub overflow_mul-at : goal.overflow_mul-at
 overflow_mul-at c = let n = next c.args.g.most c.args.reals.now c.args.counts.now c.args.g.axes c.loop-done.done c.loop-done.at c.loop-done.place c.loop-done-test.true c.loop-done.invariant.2 in omega (arith, c.requires.0.1)
 
@@ -64,18 +58,6 @@ overflow_add-place c = let n = next c.args.g.most c.args.reals.now c.args.counts
 
 pub overflow_add-place-in-loop-done : goal.overflow_add-place-in-loop-done
 overflow_add-place-in-loop-done c = let n = next c.args.g.most c.args.reals.now c.args.counts.now c.args.g.axes c.loop-done.done c.loop-done.at c.loop-done.place c.loop-done-test.true c.loop-done.invariant.2 in omega (arith, c.well_formed.1.0, c.requires.0.1)
-
-pub offset_bounds-spots-done : goal.offset_bounds-spots-done
-offset_bounds-spots-done c = omega (arith, c.requires.0.0, c.loop-done-test.true)
-
-pub bounds-spots-done : goal.bounds-spots-done
-bounds-spots-done c = omega (arith, c.requires.0.0, c.loop-done-test.true)
-
-pub overflow_add-done : goal.overflow_add-done
-overflow_add-done c = omega (arith, c.requires.0.0, c.loop-done-test.true)
-
-pub loop-done-smaller : goal.loop-done-smaller
-loop-done-smaller c = omega (arith, c.loop-done-test.true)
 
 pub loop-done-preserved : goal.loop-done-preserved
 loop-done-preserved c = let n = next c.args.g.most c.args.reals.now c.args.counts.now c.args.g.axes c.loop-done.done c.loop-done.at c.loop-done.place c.loop-done-test.true c.loop-done.invariant.2 in (

@@ -13,6 +13,3 @@ abbrev pub invariant-loop-done : goal.invariant-loop-done
 invariant-loop-done l = (l.done ≤ l.g.axes) × (length l.coordinates ≡ 8) × Standing l.g.most l.reals l.counts (l.g.axes - l.done) l.at l.place
     × (behind (take l.done l.coordinates) (walked l.evenly (axes_from l.g.most l.reals l.counts (l.g.axes - l.done) l.at l.place) l.weight l.stream) ≡ walked l.evenly (axes_from l.g.most l.reals l.counts l.g.axes l.g.reals l.g.counts) one64 l.initial.stream)
     × (drop l.done l.coordinates ≡ drop l.done l.initial.coordinates) × (length l.spots ≡ length l.initial.spots)
-
-abbrev pub decreases-loop-done : goal.decreases-loop-done
-decreases-loop-done l = l.g.axes - l.done

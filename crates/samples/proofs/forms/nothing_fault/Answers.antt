@@ -5,18 +5,18 @@ use Rattle.lent.specs.Trained.{nothing_fault}
 use Rattle.lent.proofs.Fitting.{none_left, one_left, some_first, none_first}
 use Rattle.samples.proofs.forms.nothing_fault.Goals as goal
 
-pub returns-then-depth-levels : goal.returns-then-depth-levels
+pub returns-then-depth-s : goal.returns-then-depth-s
 unfolding nothing_fault
-returns-then-depth-levels c = rw (one_left 0 c.args.path.now c.args.depth c.args.levels c.if-depth-levels.true)
+returns-then-depth-s c = rw (one_left 0 c.args.s.now.path c.args.depth c.args.s.now.levels c.if-depth-s.true)
 
-pub returns-then-depth-weighed : goal.returns-then-depth-weighed
+pub returns-then-depth-s-2 : goal.returns-then-depth-s-2
 unfolding nothing_fault
-returns-then-depth-weighed c = rw ((none_left 0 c.args.path.now c.args.depth c.args.levels c.if-depth-levels.false), one_left nan c.args.weights.now c.args.depth c.args.weighed c.if-depth-weighed.true)
+returns-then-depth-s-2 c = rw ((none_left 0 c.args.s.now.path c.args.depth c.args.s.now.levels c.if-depth-s.false), one_left nan c.args.s.now.weights c.args.depth c.args.s.now.given c.if-depth-s-2.true)
 
-pub returns-then-many-gt0 : goal.returns-then-many-gt0
+pub returns-then-s-gt0 : goal.returns-then-s-gt0
 unfolding nothing_fault
-returns-then-many-gt0 c = rw ((none_left 0 c.args.path.now c.args.depth c.args.levels c.if-depth-levels.false), (none_left nan c.args.weights.now c.args.depth c.args.weighed c.if-depth-weighed.false), some_first nan c.args.coordinates.now c.args.many c.if-many-gt0.true)
+returns-then-s-gt0 c = rw ((none_left 0 c.args.s.now.path c.args.depth c.args.s.now.levels c.if-depth-s.false), (none_left nan c.args.s.now.weights c.args.depth c.args.s.now.given c.if-depth-s-2.false), some_first nan c.args.s.now.coordinates c.args.s.now.axes c.if-s-gt0.true)
 
 pub returns : goal.returns
 unfolding nothing_fault
-returns c = rw ((none_left 0 c.args.path.now c.args.depth c.args.levels c.if-depth-levels.false), (none_left nan c.args.weights.now c.args.depth c.args.weighed c.if-depth-weighed.false), none_first nan c.args.coordinates.now c.args.many (omega (arith, c.if-many-gt0.false)))
+returns c = rw ((none_left 0 c.args.s.now.path c.args.depth c.args.s.now.levels c.if-depth-s.false), (none_left nan c.args.s.now.weights c.args.depth c.args.s.now.given c.if-depth-s-2.false), none_first nan c.args.s.now.coordinates c.args.s.now.axes (omega (arith, c.if-s-gt0.false)))

@@ -47,27 +47,9 @@ pub slice_bounds-bin_near-end : goal.slice_bounds-bin_near-end
 slice_bounds-bin_near-end c = let n = next c.args.g.most c.args.reals.now c.args.counts.now c.args.g.axes c.loop-done.done c.loop-done.at c.loop-done.place c.loop-done-test.true c.loop-done.invariant.1.standing in
     omega arith
 
-pub offset_bounds-xs-done : goal.offset_bounds-xs-done
-offset_bounds-xs-done c = omega (arith, c.loop-done-test.true, c.requires.0.0.0)
-
-pub bounds-xs-done : goal.bounds-xs-done
-bounds-xs-done c = omega (arith, c.loop-done-test.true, c.requires.0.0.0)
-
-pub offset_bounds-spots-done : goal.offset_bounds-spots-done
-offset_bounds-spots-done c = omega (arith, c.loop-done-test.true, c.requires.0.0.0)
-
-pub bounds-spots-done : goal.bounds-spots-done
-bounds-spots-done c = omega (arith, c.loop-done-test.true, c.requires.0.0.0)
-
 pub bin_near-bin-requires : goal.bin_near-bin-requires
 bin_near-bin-requires c = let n = next c.args.g.most c.args.reals.now c.args.counts.now c.args.g.axes c.loop-done.done c.loop-done.at c.loop-done.place c.loop-done-test.true c.loop-done.invariant.1.standing in
     (asked-part c.loop-done.at (get_or c.args.counts.now c.loop-done.place 0) c.args.reals.now n.edges, unit-here c.args.g.most c.args.g.axes c.args.xs.now c.loop-done.done c.loop-done.at c.loop-done.place (memory c.args.reals.now c.args.counts.now) c.loop-done-test.true c.loop-done.invariant.1)
-
-pub offset_bounds-spots-done-in-loop-done : goal.offset_bounds-spots-done-in-loop-done
-offset_bounds-spots-done-in-loop-done c = omega (arith, c.loop-done-test.true, c.requires.0.0.0)
-
-pub bounds-spots-done-in-loop-done : goal.bounds-spots-done-in-loop-done
-bounds-spots-done-in-loop-done c = omega (arith, c.loop-done-test.true, c.requires.0.0.0)
 
 pub cell_fits-ok-requires : goal.cell_fits-ok-requires
 cell_fits-ok-requires c = (c.requires.0.0.1, cell-here c.args.g.most c.args.g.axes c.args.xs.now c.loop-done.done c.loop-done.at c.loop-done.place (memory c.args.reals.now c.args.counts.now) c.loop-done-test.true c.loop-done.invariant.1 c.bin_near-bin.result c.bin_near-bin.ensures)
@@ -95,12 +77,6 @@ overflow_add-place c = let n = next c.args.g.most c.args.reals.now c.args.counts
 pub overflow_add-place-in-loop-done : goal.overflow_add-place-in-loop-done
 overflow_add-place-in-loop-done c = let n = next c.args.g.most c.args.reals.now c.args.counts.now c.args.g.axes c.loop-done.done c.loop-done.at c.loop-done.place c.loop-done-test.true c.loop-done.invariant.1.standing in
     omega arith
-
-pub overflow_add-done : goal.overflow_add-done
-overflow_add-done c = omega (arith, c.loop-done-test.true, c.requires.0.0.0)
-
-pub loop-done-smaller : goal.loop-done-smaller
-loop-done-smaller c = omega (arith, c.loop-done-test.true)
 
 pub loop-done-preserved : goal.loop-done-preserved
 loop-done-preserved c = let at = c.loop-done.at + (6 * c.args.g.most + 1) in

@@ -2,7 +2,7 @@
 use mathlib.Core.Path.{◌≡◌}
 use mathlib.Core.Bool.{◌&&◌}
 use mathlib.Core.List.{◌++◌}
-use Prim.Native.Nat.{◌-◌, ◌≤◌}
+use Prim.Native.Nat.{◌≤◌}
 use lib.ListN.{length, take}
 use Rattle.lent.specs.Memory.{memory}
 use Rattle.lent.specs.Trained.{cells_fit}
@@ -15,6 +15,3 @@ invariant-loop-done l = (l.done ≤ l.g.axes) × Left l.g.most l.g.axes l.xs l.d
     ≡ cells_fit l.g.most l.v (spots_left l.g.most l.g.axes l.xs 0 l.g.reals l.g.counts (memory l.reals l.counts)) l.g.reals l.g.counts (memory l.reals l.counts))
     × (length l.spots ≡ 8)
     × (take l.done l.spots ++ spots_left l.g.most l.g.axes l.xs l.done l.at l.place (memory l.reals l.counts) ≡ spots_left l.g.most l.g.axes l.xs 0 l.g.reals l.g.counts (memory l.reals l.counts))
-
-abbrev pub decreases-loop-done : goal.decreases-loop-done
-decreases-loop-done l = l.g.axes - l.done

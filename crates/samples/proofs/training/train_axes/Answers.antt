@@ -22,41 +22,11 @@ cell c = given-cell c.args.g.most c.args.g.axes c.args.v c.args.spots.now c.loop
 room : (c : In-loop-done) → (c.loop-done.at + (6 * c.args.g.most + 1) ≤ length c.args.reals.now) × (c.loop-done.place + (3 * c.args.g.most + 2) ≤ length c.args.counts.now)
 room c = let n = cell c in (omega (arith, n.room, c.loop-done.invariant.1), omega (arith, n.places, c.loop-done.invariant.2))
 
-pub offset_bounds-spots-done : goal.offset_bounds-spots-done
-offset_bounds-spots-done c = omega (arith, c.loop-done-test.true, c.requires.0)
-
-pub bounds-spots-done : goal.bounds-spots-done
-bounds-spots-done c = omega (arith, c.loop-done-test.true, c.requires.0)
-
 pub train_reals-requires : goal.train_reals-requires
 train_reals-requires c = let n = cell (goal.at.train_reals-requires c).In-loop-done in (c.requires.1, omega (arith, n.bin, n.held), n.room)
 
 pub train_counts-requires : goal.train_counts-requires
 train_counts-requires c = let n = cell (goal.at.train_counts-requires c).In-loop-done in (c.requires.1, omega (arith, n.bin, n.held), n.places, n.waiting, n.zeros)
-
-pub overflow_mul-at : goal.overflow_mul-at
-overflow_mul-at c = omega (arith, room (goal.at.overflow_mul-at c).In-loop-done)
-
-pub overflow_add-at : goal.overflow_add-at
-overflow_add-at c = omega (arith, room (goal.at.overflow_add-at c).In-loop-done)
-
-pub overflow_add-at-in-loop-done : goal.overflow_add-at-in-loop-done
-overflow_add-at-in-loop-done c = omega (arith, room (goal.at.overflow_add-at-in-loop-done c).In-loop-done)
-
-pub overflow_mul-place : goal.overflow_mul-place
-overflow_mul-place c = omega (arith, room (goal.at.overflow_mul-place c).In-loop-done)
-
-pub overflow_add-place : goal.overflow_add-place
-overflow_add-place c = omega (arith, room (goal.at.overflow_add-place c).In-loop-done)
-
-pub overflow_add-place-in-loop-done : goal.overflow_add-place-in-loop-done
-overflow_add-place-in-loop-done c = omega (arith, room (goal.at.overflow_add-place-in-loop-done c).In-loop-done)
-
-pub overflow_add-done : goal.overflow_add-done
-overflow_add-done c = omega (arith, c.loop-done-test.true, c.requires.0)
-
-pub loop-done-smaller : goal.loop-done-smaller
-loop-done-smaller c = omega (arith, c.loop-done-test.true)
 
 pub loop-done-preserved : goal.loop-done-preserved
 unfolding trained_at
@@ -79,3 +49,9 @@ shape_of-counts c = c.loop-done.invariant.2
 
 pub returns : goal.returns
 returns c = sym (trained-out c.args.g.most c.args.g.axes c.args.v c.args.spots.now c.loop-done.done c.loop-done.at c.loop-done.place (memory c.loop-done.reals c.loop-done.counts) (omega (arith, c.loop-done-test.false))) ∙ c.loop-done.invariant.4
+
+pub overflow_add-at-in-loop-done : goal.overflow_add-at-in-loop-done
+overflow_add-at-in-loop-done c = omega (arith, room (goal.at.overflow_add-at-in-loop-done c).In-loop-done)
+
+pub overflow_add-place-in-loop-done : goal.overflow_add-place-in-loop-done
+overflow_add-place-in-loop-done c = omega (arith, room (goal.at.overflow_add-place-in-loop-done c).In-loop-done)

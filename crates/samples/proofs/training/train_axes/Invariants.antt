@@ -12,6 +12,3 @@ invariant-loop-done l = (l.done ≤ l.g.axes) × (length l.reals ≡ length l.in
     × Asked (Cell l.g.most) l.g.most (entries 0 l.spots l.done (l.g.axes - l.done)) l.at l.place (memory l.reals l.counts)
     × (over_axes (trained_at l.g.most l.v) l.g.most (entries 0 l.spots l.done (l.g.axes - l.done)) l.at l.place (memory l.reals l.counts)
     ≡ over_axes (trained_at l.g.most l.v) l.g.most (entries 0 l.spots 0 l.g.axes) l.g.reals l.g.counts (memory l.initial.reals l.initial.counts))
-
-abbrev pub decreases-loop-done : goal.decreases-loop-done
-decreases-loop-done l = l.g.axes - l.done

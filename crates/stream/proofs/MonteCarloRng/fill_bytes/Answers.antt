@@ -9,26 +9,16 @@ within : (c : In-loop-k) → c.loop-k.k * 8 < length c.loop-k.dest
 within c = begins _ _ _ c.loop-k.invariant.0 c.loop-k-test.true
 
 pub loop-k-init : goal.loop-k-init
-loop-k-init c = (c.words_for-words.ensures, refl, refl)
+loop-k-init c = (c.words_for-words.ensures, refl)
 
 pub overflow_mul-k : goal.overflow_mul-k
 overflow_mul-k c = let w = within (goal.at.overflow_mul-k c).In-loop-k in omega arith
 
-pub overflow_add-k : goal.overflow_add-k
-overflow_add-k c = let w = within (goal.at.overflow_add-k c).In-loop-k in omega arith
-
-pub loop-k-smaller : goal.loop-k-smaller
-loop-k-smaller c = let t = c.loop-k-test.true in omega arith
-
 pub loop-k-preserved : goal.loop-k-preserved
 loop-k-preserved c = (
   c.loop-k.invariant.0 ∙ ap words_for (sym c.put_word.auto.dest),
-  c.put_word.auto.dest ∙ c.loop-k.invariant.1,
-  fills-word _ _ _ _ _ c.next_u64-word.ensures c.put_word.ensures (within (goal.at.loop-k-preserved c).In-loop-k) ∙ c.loop-k.invariant.2,
+  fills-word _ _ _ _ _ c.next_u64-word.ensures c.put_word.ensures (within (goal.at.loop-k-preserved c).In-loop-k) ∙ c.loop-k.invariant.1,
 )
 
-pub shape_of-dest : goal.shape_of-dest
-shape_of-dest c = c.loop-k.invariant.1
-
 pub returns : goal.returns
-returns c = sym (onward-done _ _ _ (spent _ _ _ c.loop-k.invariant.0 c.loop-k-test.false)) ∙ c.loop-k.invariant.2 ∙ onward-starts _ _
+returns c = sym (onward-done _ _ _ (spent _ _ _ c.loop-k.invariant.0 c.loop-k-test.false)) ∙ c.loop-k.invariant.1 ∙ onward-starts _ _

@@ -1,17 +1,11 @@
 -- `from_seed`: the zero test chooses, as in the definition.
-use Rattle.std.proofs.Common.{sym, arith}
+use Rattle.std.proofs.Common.{sym}
 use Rattle.stream.specs.Calls.{import_of}
 use Rattle.stream.proofs.MonteCarloRng.from_seed.Goals as goal
-
-pub slice_bounds-is_all_zero-end : goal.slice_bounds-is_all_zero-end
-slice_bounds-is_all_zero-end c = omega arith
 
 pub returns-then-is_all_zero : goal.returns-then-is_all_zero
 unfolding import_of
 returns-then-is_all_zero c = rw (c.seed_from_u64.ensures, sym c.is_all_zero.ensures, c.if-is_all_zero.true)
-
-pub slice_bounds-state_in-end : goal.slice_bounds-state_in-end
-slice_bounds-state_in-end c = omega arith
 
 pub returns : goal.returns
 unfolding import_of

@@ -1,10 +1,6 @@
 -- A word shifted down by 32 is its quotient by 2^32, and the stream is the one behind that word.
 use Rattle.stream.specs.Calls.{drawn_of, upper_of}
-use Rattle.std.proofs.Common.{arith}
 use Rattle.stream.proofs.MonteCarloRng.next_u32.Goals as goal
-
-pub overflow_cast-result : goal.overflow_cast-result
-overflow_cast-result c = omega arith
 
 pub returns : goal.returns
 unfolding upper_of drawn_of

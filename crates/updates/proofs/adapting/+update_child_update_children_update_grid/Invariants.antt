@@ -1,6 +1,6 @@
 -- The cycle meets its contracts: a child by its link, children as the loop's finding with what is left, a grid by its kind; levels fall.
 use mathlib.Core.Path.{◌≡◌}
-use Prim.Native.Nat.{◌+◌, ◌-◌, ◌*◌, ◌≤◌}
+use Prim.Native.Nat.{◌+◌, ◌-◌, ◌*◌}
 use lib.ListN.{length}
 use Rattle.lent.specs.Memory.{memory}
 use Rattle.lent.specs.Renewed.{finding}
@@ -18,7 +18,4 @@ abbrev pub decreases-update_grid : goal.decreases-update_grid
 decreases-update_grid l = 3 * l.level
 
 abbrev pub invariant-update_children-loop-i : goal.invariant-update_children-loop-i
-invariant-update_children-loop-i l = (l.i ≤ l.n) × (length l.reals ≡ length l.initial.reals) × (length l.counts ≡ length l.initial.counts) × (followed (finding l.eight l.nine (memory l.reals l.counts)) (children_turned (updated_in l.level l.table l.bins_rate l.axes_rate) l.table l.w l.i (l.n - l.i)) ≡ children_turned (updated_in l.level l.table l.bins_rate l.axes_rate) l.table l.w 0 l.n (memory l.initial.reals l.initial.counts))
-
-abbrev pub decreases-update_children-loop-i : goal.decreases-update_children-loop-i
-decreases-update_children-loop-i l = l.n - l.i
+invariant-update_children-loop-i l = (length l.reals ≡ length l.initial.reals) × (length l.counts ≡ length l.initial.counts) × (followed (finding l.found.eight l.found.nine (memory l.reals l.counts)) (children_turned (updated_in l.level l.table l.bins_rate l.axes_rate) l.table l.w l.i (l.n - l.i)) ≡ children_turned (updated_in l.level l.table l.bins_rate l.axes_rate) l.table l.w 0 l.n (memory l.initial.reals l.initial.counts))

@@ -10,4 +10,4 @@ pub update_axes-axes-requires : goal.update_axes-axes-requires
 update_axes-axes-requires c = axes-ready c.args.g c.args.rule c.args.values.now c.args.rate (memory c.args.reals.now c.args.counts.now) c.requires c.axes_fit.result c.axes_fit.ensures c.if-not-axes_fit.false
 
 pub returns : goal.returns
-returns c = axes-done c.args.g c.args.rule c.args.values.now c.args.rate (memory c.args.reals.now c.args.counts.now) c.requires c.axes_fit.result c.axes_fit.ensures c.update_axes-axes.result c.update_account-own.result c.either.result (memory c.update_axes-axes.new.reals c.update_axes-axes.new.counts) (memory c.update_account-own.new.reals c.update_account-own.new.counts) c.if-not-axes_fit.false c.update_axes-axes.ensures c.update_account-own.ensures c.either.ensures
+returns c = axes-done c.args.g c.args.rule c.args.values.now c.args.rate (memory c.args.reals.now c.args.counts.now) c.requires c.axes_fit.result c.axes_fit.ensures c.update_axes-axes.result c.update_account-own.result c.bitor.result (memory c.update_axes-axes.new.reals c.update_axes-axes.new.counts) (memory c.update_account-own.new.reals c.update_account-own.new.counts) c.if-not-axes_fit.false c.update_axes-axes.ensures c.update_account-own.ensures c.bitor.ensures

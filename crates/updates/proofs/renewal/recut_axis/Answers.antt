@@ -11,10 +11,6 @@ use Rattle.lent.proofs.Lays.{front_length}
 use Rattle.lent.proofs.Renewals.{recut-8, recut-on}
 use Rattle.updates.proofs.renewal.recut_axis.Goals as goal
 
-pub bounds-counts-c : goal.bounds-counts-c
-unfolding axis_reals axis_counts
-bounds-counts-c c = omega arith
-
 pub returns-then-recuts-ge9007199254740992 : goal.returns-then-recuts-ge9007199254740992
 returns-then-recuts-ge9007199254740992 c = recut-8 c.args.rule [] c.args.rate c.args.most c.args.r c.args.c c.args.importances.now c.args.counters.now (memory c.args.reals.now c.args.counts.now) c.if-recuts-ge9007199254740992.true
 
@@ -24,3 +20,7 @@ recut_into-requires c = ((c.requires.1, c.requires.0.1, c.requires.0.2, c.requir
 pub returns : goal.returns
 unfolding bins_to last_or
 returns c = recut-on c.args.rule [] c.args.rate c.args.most c.args.r c.args.c c.args.importances.now c.args.counters.now (memory c.args.reals.now c.args.counts.now) c.args.rule.bins _ c.if-recuts-ge9007199254740992.false refl c.recut_into.ensures
+
+pub bounds-counts-c : goal.bounds-counts-c
+unfolding axis_reals axis_counts
+bounds-counts-c c = omega arith

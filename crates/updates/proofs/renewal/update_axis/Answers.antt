@@ -10,14 +10,6 @@ use Rattle.lent.proofs.Renewals.{within}
 use Rattle.updates.proofs.Next.{next-bins}
 use Rattle.updates.proofs.renewal.update_axis.Goals as goal
 
-pub bounds-counts-c : goal.bounds-counts-c
-unfolding axis_reals axis_counts
-bounds-counts-c c = omega arith
-
-pub bounds-counts-c-2 : goal.bounds-counts-c-2
-unfolding axis_reals axis_counts
-bounds-counts-c-2 c = omega arith
-
 pub renew_axis-requires : goal.renew_axis-requires
 renew_axis-requires c = let n = get_or c.args.counts.now c.args.c 0 in
     let imp = front_length n c.args.importances.now (omega (arith, c.requires)) in
@@ -26,3 +18,11 @@ renew_axis-requires c = let n = get_or c.args.counts.now c.args.c 0 in
 
 pub returns : goal.returns
 returns c = c.renew_axis.ensures ∙ next-bins c.args.rule c.args.values.now c.args.rate c.args.most c.args.r c.args.c (memory c.args.reals.now c.args.counts.now) c.bins_after.result c.bins_after.ensures
+
+pub bounds-counts-c : goal.bounds-counts-c
+unfolding axis_reals axis_counts
+bounds-counts-c c = omega arith
+
+pub bounds-counts-c-2 : goal.bounds-counts-c-2
+unfolding axis_reals axis_counts
+bounds-counts-c-2 c = omega arith

@@ -1,9 +1,0 @@
--- The roots that are left fall, and the index never passes `count`.
-use Prim.Native.Nat.{◌-◌, ◌≤◌}
-use Rattle.bench.proofs.kernels.rooted.Given as goal
-
-abbrev pub invariant-loop-i : goal.invariant-loop-i
-invariant-loop-i l = l.i ≤ l.count
-
-abbrev pub decreases-loop-i : goal.decreases-loop-i
-decreases-loop-i l = l.count - l.i

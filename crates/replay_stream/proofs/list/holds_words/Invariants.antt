@@ -1,8 +1,0 @@
--- The words that are left fall.
-use Rattle.replay_stream.proofs.list.holds_words.Given as goal
-
-abbrev pub invariant-loop-left : goal.invariant-loop-left
-invariant-loop-left l = Unit {0}
-
-abbrev pub decreases-loop-left : goal.decreases-loop-left
-decreases-loop-left l = l.left

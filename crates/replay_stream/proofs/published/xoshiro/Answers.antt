@@ -1,1 +1,0 @@
--- At most one more word agrees at each of the ten turns, so the count stays within the index and the index within the list.
