@@ -18,7 +18,7 @@ use doubles::Refusal;
 use judge::{has_bounded_counts, is_well_formed};
 pub use steps::{either, is_replaced, zero_count};
 
-// The record. A sample of an extreme is its number, 0 for none. Doubles and counts take turns: of two doubles side by side
+// The record. A sample of an extreme is its number, 0 for none, as the document and lent memory have it. Doubles and counts take turns: of two doubles side by side
 // the compiler would move both at once, and the processor would wait until each of them, stored alone, is written.
 #[derive(Clone, Copy)]
 pub struct StatisticsAccumulator {

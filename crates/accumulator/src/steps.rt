@@ -1,4 +1,5 @@
-// The Rust's steps on a record whose counts are within their bound. Only the end of an iteration is judged here; else the calls judge.
+// The Rust's steps on a record whose counts are within their bound. Only the end of an iteration is judged here; else the calls judge. A caller's
+// record may hold any counts (12 says so), so that the bound is a clause here and no invariant of the record.
 ghost use Rattle.std.specs.Prelude.{◌≡◌, true, false, cond, Float};
 ghost use Rattle.doubles.specs.Refusal.{fault_of, paper};
 ghost use Rattle.accumulator.specs.Record.{bounded_counts, well_formed};
@@ -22,7 +23,7 @@ pub fn either<T: Copy>(first: bool, a: T, b: T) -> T
 pub fn zero_count(eval: f64) -> u64
     ensures { result ≡ zero_count eval }
 {
-    if eval == 0.0 { 1 } else { 0 }
+    u64::from(eval == 0.0)
 }
 
 // Whether an extreme gives way: no sample holds it, or it is beaten.

@@ -14,7 +14,8 @@ fn keep(test: bool, half: usize) -> usize
     if test { half } else { 0 }
 }
 
-// The bin of x, by halves: a `while`, since what is left is no range and no slice that an iterator walks.
+// The bin of x, by halves: a `while`, since what is left is no range and no slice that an iterator walks, and `partition_point` promises
+// nothing of edges that do not rise.
 pub fn bin_of(edges: &[f64], x: f64) -> usize
     ensures { result ≡ search_of edges.now x }
 {

@@ -1,4 +1,5 @@
-// Tests that run over whole stretches.
+// Tests that run over whole stretches. Each looks at all of its stretch with no jump, by several at once; a chain with `all` stops, and so tests
+// and jumps at each.
 ghost use Rattle.std.specs.Prelude.{◌≡◌};
 ghost use Rattle.doubles.specs.Total.{all_finite};
 ghost use Rattle.axis.specs.Edges.{rising, well_formed, in_unit};

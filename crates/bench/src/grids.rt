@@ -1,4 +1,5 @@
 // Draws and trainings on a grid in lent memory, from new(0, 0).
+use crate::plans::Plan;
 use crate::{plans, records};
 use accumulator::Estimate;
 use answers::bits;
@@ -43,7 +44,7 @@ fn batches(
 }
 
 // So many samples, in whole batches of 100,000.
-fn trained(
+fn train_all(
     table: &Table,
     reals: &mut Reals,
     counts: &mut Counts,
@@ -55,7 +56,7 @@ fn trained(
 }
 
 // Draws one by one, each of which judges the grid: the exclusive or of their weights and first coordinates.
-fn drawn(table: &Table, reals: &Reals, counts: &Counts, count: u64) -> Result<u64, Refusal> {
+fn draw_all(table: &Table, reals: &Reals, counts: &Counts, count: u64) -> Result<u64, Refusal> {
     let mut stream = MonteCarloRng::seed_from_u64(0);
     let mut xor: u64 = 0;
     for _ in 0..count {
@@ -66,16 +67,20 @@ fn drawn(table: &Table, reals: &Reals, counts: &Counts, count: u64) -> Result<u6
     Ok(xor)
 }
 
-// Draws on the bins grid, or on the axes grid: with training in batches, or alone; 0 where the grid is not laid.
-pub fn run(is_tree: bool, trains: bool, count: u64) -> Result<u64, Refusal> {
+// Draws on a grid with training, in batches.
+pub fn trained(plan: Plan, count: u64) -> Result<u64, Refusal> {
     let mut table = [0u64; 8192];
     let mut reals = [0.0f64; 16384];
     let mut counts = [0u64; 8192];
-    if plans::lay(is_tree, &mut table, &mut reals, &mut counts).is_err() {
-        return Ok(0);
-    }
-    if trains {
-        return trained(&table, &mut reals, &mut counts, count);
-    }
-    drawn(&table, &reals, &counts, count)
+    plans::lay(plan, &mut table, &mut reals, &mut counts).map_err(|misread| misread.why)?;
+    train_all(&table, &mut reals, &mut counts, count)
+}
+
+// Public draws alone, each on a grid that it judges.
+pub fn drawn(plan: Plan, count: u64) -> Result<u64, Refusal> {
+    let mut table = [0u64; 8192];
+    let mut reals = [0.0f64; 16384];
+    let mut counts = [0u64; 8192];
+    plans::lay(plan, &mut table, &mut reals, &mut counts).map_err(|misread| misread.why)?;
+    draw_all(&table, &reals, &counts, count)
 }

@@ -12,6 +12,7 @@ mod request;
 
 use doubles::Refusal;
 use input::read_full;
+use plans::Plan;
 use request::Kind;
 use std::io;
 use stream::MonteCarloRng;
@@ -34,14 +35,14 @@ fn run(kind: Kind, count: u64) -> Result<u64, Refusal> {
         Kind::Add => records::added(count),
         Kind::Draw => Ok(edges::drawn(count)),
         Kind::Exponent => Ok(kernels::raised(count)),
-        Kind::Grid => grids::run(false, true, count),
-        Kind::Judged => grids::run(false, false, count),
+        Kind::Grid => grids::trained(Plan::Axes, count),
+        Kind::Judged => grids::drawn(Plan::Axes, count),
         Kind::Log => Ok(kernels::logged(count)),
-        Kind::Nested => grids::run(true, false, count),
+        Kind::Nested => grids::drawn(Plan::Tree, count),
         Kind::Probe => Ok(edges::probed(count)),
         Kind::Root => Ok(kernels::rooted(count)),
         Kind::Stream => Ok(stream_words(count)),
-        Kind::Tree => grids::run(true, true, count),
+        Kind::Tree => grids::trained(Plan::Tree, count),
         Kind::Update => records::updated(false, count),
         Kind::Weighted => records::updated(true, count),
     }

@@ -19,18 +19,29 @@ fn write_tree(bytes: &mut [u8]) {
     }
 }
 
-// That bins grid laid, or an axes grid of 5 axes of 64 bins.
+// The grids that are timed: 5 axes of 64 bins, or that bins grid.
+#[derive(Clone, Copy, Debug, PartialEq, Eq)]
+pub enum Plan {
+    Axes,
+    Tree,
+}
+
+// A grid laid.
 pub fn lay(
-    is_tree: bool,
+    plan: Plan,
     table: &mut Table,
     reals: &mut Reals,
     counts: &mut Counts,
 ) -> Result<Read, Misread> {
-    if is_tree {
-        let mut bytes = [0u8; 318];
-        write_tree(&mut bytes);
-        return quiet::fresh(&bytes, table, reals, counts);
+    match plan {
+        Plan::Axes => {
+            let bytes = [1u8, 16, 0, 5, 64, 0, 0, 0, 0, 0, 0, 0, 0, 0, 0, 0, 0, 0, 0];
+            quiet::fresh(&bytes, table, reals, counts)
+        }
+        Plan::Tree => {
+            let mut bytes = [0u8; 318];
+            write_tree(&mut bytes);
+            quiet::fresh(&bytes, table, reals, counts)
+        }
     }
-    let bytes = [1u8, 16, 0, 5, 64, 0, 0, 0, 0, 0, 0, 0, 0, 0, 0, 0, 0, 0, 0];
-    quiet::fresh(&bytes, table, reals, counts)
 }

@@ -18,5 +18,6 @@ pub mod Sterbenz
 pub mod Error
 pub mod Draws
 pub mod Between
+pub mod Ranges
 pub mod Refusals
 pub mod Unique

@@ -38,20 +38,7 @@ impl Refusal {
     pub fn number(self) -> u64
         ensures { result ≡ number_of self }
     {
-        match self {
-            Refusal::Malformed => 1,
-            Refusal::Size => 2,
-            Refusal::Range => 3,
-            Refusal::Form => 4,
-            Refusal::Coordinate => 5,
-            Refusal::Bin => 6,
-            Refusal::Infinite => 7,
-            Refusal::Overflow => 8,
-            Refusal::Edges => 9,
-            Refusal::Room => 10,
-            Refusal::Unequal => 11,
-            Refusal::State => 12,
-        }
+        self as u64
     }
 }
 

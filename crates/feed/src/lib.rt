@@ -39,7 +39,8 @@ pub struct Run {
     pub at: u64,
 }
 
-// Why the input is refused, and the offset of the field where that shows.
+// Why the input is refused, and the offset of the field where that shows: in all of the input, which may be longer than any slice, so that
+// it is no `plan::Misread`.
 #[derive(Clone, Copy, Debug, PartialEq, Eq)]
 pub struct Refused {
     pub why: Refusal,

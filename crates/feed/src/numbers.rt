@@ -3,7 +3,8 @@ ghost use Rattle.std.specs.Prelude.{◌≡◌, ◌+◌, ◌≤◌, length};
 ghost use Rattle.plan.specs.Numbers.{number_at};
 ghost use Rattle.feed.specs.Fields.{double_at};
 
-// The number that so many bytes spell from a place on.
+// The number that so many bytes spell from a place on: a field's length is known only when it is read, so that no array is there for
+// `from_le_bytes`.
 pub fn number_at(bytes: &[u8], at: usize, many: usize) -> u64
     requires { (many ≤ 8) × (at + many ≤ length bytes.now) }
     ensures { result ≡ number_at bytes.now at many }

@@ -6,7 +6,6 @@ ghost use Rattle.feed.specs.Said.{said, over_of, waiting, ending, going, telling
 use crate::{Phase, Refused, Run, Turned};
 use accumulator::Summary;
 use doubles::Refusal;
-use std::num::wrapping_add_u64;
 use stream::MonteCarloRng;
 
 // Nothing is due any more.
@@ -52,8 +51,8 @@ pub fn goes_on(
 ) -> Turned
     ensures { said result ≡ going run phase stream samples taken }
 {
-    let number = wrapping_add_u64(run.number, samples as u64);
-    let at = wrapping_add_u64(run.at, taken as u64);
+    let number = run.number.wrapping_add(samples as u64);
+    let at = run.at.wrapping_add(taken as u64);
     Turned {
         run: Run {
             phase,

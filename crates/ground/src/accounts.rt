@@ -1,4 +1,7 @@
 // The accumulators of grids and of their bins: each is 14 reals and 7 counts of lent memory, worked on as a record.
+//
+// Its place is two numbers, r and c, here and in the crates above: they are cells of the table or sums from them, each with other sums of
+// its own, and the definitions name them. A struct of the two would be made at each call and taken apart in each promise.
 ghost use Rattle.std.specs.Prelude.{◌≡◌};
 ghost use Rattle.std.specs.Float.{nan};
 ghost use Rattle.lent.specs.Memory.{memory, from_on, record_at, stored};

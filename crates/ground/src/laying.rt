@@ -1,4 +1,6 @@
 // Axes emptied in lent memory: nothing waits in them, or nothing is trained in them. Where there is no room for the axis, nothing is written.
+//
+// An axis is its room and two numbers, most, r and c, as in `accounts`.
 ghost use Rattle.std.specs.Prelude.{◌≡◌};
 ghost use Rattle.lent.specs.Memory.{memory};
 ghost use Rattle.lent.specs.Laid.{Roomy, waitless_at, waitless_of, forgotten_at, empty_at, empty_of};

@@ -1,4 +1,5 @@
-// The lines that the program prints, each at the front of `out`.
+// The lines that the program prints, each at the front of `out`: their bytes are promised (specs/Lines), so that they are put here and not
+// formatted.
 ghost use Rattle.std.specs.Prelude.{◌≡◌, ◌++◌, ◌+◌, ◌≤◌, length, take};
 ghost use Rattle.integrate.specs.Lines.{decimal_of, double_of, line_of, refusal_of, text_of};
 

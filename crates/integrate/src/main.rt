@@ -15,7 +15,8 @@ use feed::{Refused, Run, Turned, beginning, is_over, turn};
 use std::io::Read;
 
 // A table of 16,832 words holds any plan; 128 bins in 64 grids need at most 2,816 reals and 1,344 counts (`rooms-hold` in feed's
-// proofs/Rooms.antt). The rooms are lent as references to arrays, so that no proof has to follow their lengths.
+// proofs/Rooms.antt). The rooms are lent as references to arrays, so that no proof has to follow their lengths, and one by one, as `turn` is
+// lent them.
 type Table = [u64; 16832];
 
 type Reals = [f64; 2816];

@@ -1,4 +1,5 @@
-// Whether the axes of a grid are well formed: scans over their columns.
+// Whether the axes of a grid are well formed: scans over their columns. From axis to axis two places go on beside the count, here and in the
+// crates above, as `over_axes` and its like define it.
 ghost use Rattle.std.specs.Prelude.{◌≡◌, ◌∷◌, ◌+◌, ◌*◌, ◌^◌, ◌≤◌, ◌<◌, leb, length, get_or};
 ghost use Rattle.doubles.specs.Total.{all_finite};
 ghost use Rattle.axis.specs.Scans.{all_bounded};
@@ -9,7 +10,7 @@ ghost use Rattle.lent.specs.Judged.{reals_fit, counts_fit, axis_fits, axes_fit, 
 use axis::scans::{are_bounded, are_finite, is_well_formed};
 use lent::{AxesAt, room};
 
-// Whether n is the plan's bin number or a value of its bin evolution.
+// Whether n is the plan's bin number or a value of its bin evolution; with no jump, as axis's scans.
 fn is_listed(n: u64, bins: u64, values: &[u64]) -> bool
     ensures { result ≡ listed n (bins ∷ values.now) }
 {

@@ -1,4 +1,4 @@
-// The judge of a whole state in lent memory: the table, the room, every grid's accumulators and axes; and of the axes that an update would leave.
+// The judge of a whole state in lent memory: the table, the room, every grid's accumulators and axes; and of axes that an update is to adapt.
 #![tactic(auto)]
 
 mod judge;

@@ -9,7 +9,7 @@ use lib.ListN.{length, take, drop, set, get_or, take-append-drop}
 use lib.Seq.{take-suc-set, drop-set-lt, drop-drop, length-take-le, sets, sets-eq}
 use lib.Ieee.{Float, binary64, mul}
 use Rattle.stream.specs.declared.MonteCarloRng.{MonteCarloRng}
-use Rattle.stream.specs.declared.Word.{Word}
+use Rattle.stream.specs.declared.Next.{Next}
 use Rattle.stream.specs.Xoshiro.{word_of, step_of}
 use Rattle.stream.specs.Calls.{drawn_of, unit_of}
 use Rattle.axis.specs.declared.Point.{Point}
@@ -33,7 +33,7 @@ module _ (m : ℕ) (reals : List Float) (counts : List ℕ) (evenly : Bool) wher
   walked_on k d r c cs w s p h i e = rw (left-on m reals counts k d r c h, e, add-one, take-suc-set cs d, append_assoc)
 
   -- the same from what the code draws: the word, its unit draw, and the point on the part of the edges that is lent
-  pub drawn-on : (k d r c : ℕ) (cs : List Float) (w : Float) (s : MonteCarloRng) (word : Word) (unit : Float) (p : Point) → d < k → d < length cs
+  pub drawn-on : (k d r c : ℕ) (cs : List Float) (w : Float) (s : MonteCarloRng) (word : Next ℕ) (unit : Float) (p : Point) → d < k → d < length cs
       → word ≡ drawn_of s → unit ≡ unit_of word.value → p ≡ place_on evenly (take (r + get_or counts c 0 + 1 - r) (drop r reals)) unit
       → behind (take (d + 1) (set cs d p.at)) (walked evenly (axes_from m reals counts (k - (d + 1)) (r + (6 * m + 1)) (c + (3 * m + 2))) (mul binary64 w p.weight) word.stream)
       ≡ behind (take d cs) (walked evenly (axes_from m reals counts (k - d) r c) w s)
@@ -57,7 +57,7 @@ pub asked-part : (r n : ℕ) (reals : List Float) → well_formed (stretch r (n 
 unfolding stretch
 asked-part r n reals f = let e : r + n + 1 - r ≡ n + 1 = omega arith in rw e f
 
-pub asked-unit : (s : MonteCarloRng) (word : Word) (unit : Float) → word ≡ drawn_of s → unit ≡ unit_of word.value → in_unit unit ≡ true
+pub asked-unit : (s : MonteCarloRng) (word : Next ℕ) (unit : Float) → word ≡ drawn_of s → unit ≡ unit_of word.value → in_unit unit ≡ true
 unfolding drawn_of
 asked-unit s word unit drawn read = rw (read, drawn) (unit-in (word_of s) (word_below s))
 

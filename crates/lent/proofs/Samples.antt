@@ -20,7 +20,7 @@ use Rattle.doubles.proofs.Truth.{both}
 use Rattle.doubles.proofs.Order.{le-trans-float}
 use Rattle.doubles.proofs.Monotone.{unsigned, upward, add-upward}
 use Rattle.stream.specs.declared.MonteCarloRng.{MonteCarloRng}
-use Rattle.stream.specs.declared.Unit.{Unit}
+use Rattle.stream.specs.declared.Next.{Next}
 use Rattle.stream.specs.Xoshiro.{word_of, step_of}
 use Rattle.stream.specs.Calls.{unit_of, unit_drawn_of}
 use Rattle.accumulator.specs.Record as account
@@ -328,7 +328,7 @@ module _ (f : ℕ → Grid) (table : List ℕ) (reals : List Float) (counts : Li
   chances-sound room e =
       ap all_chances (sym (chances-part room)) ∙ formed-chances (bins_in f table reals counts w 0 many) (both (formed_bins (bins_in f table reals counts w 0 many)) _ e).0
 
-  pub bins-drawn : (start : MonteCarloRng) (u : Unit) (i : ℕ) (below after : Drawing) (weight : Float)
+  pub bins-drawn : (start : MonteCarloRng) (u : Next Float) (i : ℕ) (below after : Drawing) (weight : Float)
       → first + many ≤ length reals → u ≡ unit_drawn_of start
       → i ≡ reached u.value zero64 (take (first + many - first) (drop first reals)) → i < many
       → below ≡ draw_child (child_in f (get_or table (w + 7 + i) 0)) u.stream
@@ -339,8 +339,8 @@ module _ (f : ℕ → Grid) (table : List ℕ) (reals : List Float) (counts : Li
   bins-drawn start u i below after weight room drawn at inside hung weighs made =
       let c = chances-part room in
       let j : i ≡ reached (unit_of (word_of start)) zero64 (probabilities (bins_in f table reals counts w 0 many)) =
-      at ∙ ap (λ (v : Unit). reached v.value zero64 (take (first + many - first) (drop first reals))) drawn ∙ ap (reached (unit_of (word_of start)) zero64) (sym c) in
-      let d : below ≡ draw_child (child_in f (get_or table (w + 7 + i) 0)) (step_of start) = hung ∙ ap (λ (v : Unit). draw_child (child_in f (get_or table (w + 7 + i) 0)) v.stream) drawn in
+      at ∙ ap (λ (v : Next Float). reached v.value zero64 (take (first + many - first) (drop first reals))) drawn ∙ ap (reached (unit_of (word_of start)) zero64) (sym c) in
+      let d : below ≡ draw_child (child_in f (get_or table (w + 7 + i) 0)) (step_of start) = hung ∙ ap (λ (v : Next Float). draw_child (child_in f (get_or table (w + 7 + i) 0)) v.stream) drawn in
       made
       ∙ ap (λ (x : Float). record { sample = record { path = i ∷ below.sample.path; weights = x ∷ below.sample.weights; coordinates = below.sample.coordinates }; stream = below.stream }) weighs
       ∙ ap (λ (b : Drawing). over i (bin_in table reals counts w i) b) d
@@ -362,7 +362,7 @@ module _ (f : ℕ → Grid) (table : List ℕ) (reals : List Float) (counts : Li
   begins = get_or table (w + 5) 0 + 14
 
   -- what was drawn below, with this bin and the weight before it
-  pub bins-made : (l d : ℕ) (start : MonteCarloRng) (u : Unit) (i : ℕ) (m : Drawing) (t : Traced) (inverse : Float) (ps ps' : List ℕ) (ws ws' xs xs' : List Float)
+  pub bins-made : (l d : ℕ) (start : MonteCarloRng) (u : Next Float) (i : ℕ) (m : Drawing) (t : Traced) (inverse : Float) (ps ps' : List ℕ) (ws ws' xs xs' : List Float)
       → begins + holds ≤ length reals → u ≡ unit_drawn_of start
       → i ≡ reached u.value zero64 (take (begins + holds - begins) (drop begins reals)) → i < holds
       → m ≡ draw_child (child_in f (get_or table (w + 7 + i) 0)) u.stream → Traces l (d + 1) m t (set ps d i) ps' ws ws' xs xs'

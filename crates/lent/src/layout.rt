@@ -25,7 +25,8 @@ fn holds_place(table: &[u64], w: usize) -> bool
     (word(table, w + 9) <= 9223372036854775808) & (word(table, w + 10) <= 9223372036854775808)
 }
 
-// The place of no axes.
+// The place of no axes. What crosses crates asks nothing and is read on by callers who know that a run is there: an Option would have each of
+// them show that again.
 fn no_place() -> AxesAt
     ensures { result ≡ nowhere }
 {

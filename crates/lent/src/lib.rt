@@ -15,7 +15,8 @@ use stream::MonteCarloRng;
 // A grid in lent memory, to be read: its plan's table, its reals and its counts. A call that writes is lent the three one by one: of a struct
 // of `&mut` slices each promise would have to say that they stay where they are and as long as they are, which parameters give for nothing.
 // Public calls take them one by one too, as a caller has them. The table's numbers, a run's kind and its links among them, are its format
-// (docs/DESIGN.md, "Lent memory"), which a plan's reader writes and no heap can stand for.
+// (docs/DESIGN.md, "Lent memory"), which a plan's reader writes and no heap can stand for. What lies at a word, and how deep, is a fact of
+// word and table together, and so a clause of each call and not an invariant of a place.
 #[derive(Clone, Copy)]
 pub struct Lent<'a> {
     pub table: &'a [u64],
@@ -52,7 +53,8 @@ pub struct Drawing {
     pub stream: MonteCarloRng,
 }
 
-// The coordinates of a probe: `many` of them (no heap), each given or, where it is free, left open.
+// The coordinates of a probe: `many` of them (no heap), each given or, where it is free, left open. The two lists go as the public calls
+// promise of them (specs/Probed `coordinates_of`), and callers set them so.
 #[derive(Clone, Copy)]
 pub struct Coordinates {
     pub at: [f64; 8],
@@ -60,7 +62,8 @@ pub struct Coordinates {
     pub many: usize,
 }
 
-// What a probe asks for: a bin for each bins grid on its path, and the coordinates in the axes grid at its end.
+// What a probe asks for: a bin for each bins grid on its path, and the coordinates in the axes grid at its end. Lists and numbers as in a
+// sample, whose path it is given.
 #[derive(Clone, Copy)]
 pub struct Region {
     pub path: [usize; 4],
@@ -95,7 +98,7 @@ pub struct Traced {
     pub stream: MonteCarloRng,
 }
 
-// The values of an accumulator that a sample changes, by the accumulator's names.
+// The values of an accumulator that a sample changes, by the accumulator's names. Its sample numbers are counts of lent memory, 0 for none.
 #[derive(Clone, Copy)]
 pub struct Gain {
     pub sum: f64,
@@ -116,7 +119,7 @@ pub struct Rule {
     pub averages: bool,
 }
 
-// Whether some 8 or some 9 was found.
+// Whether some 8 and whether some 9 was found. An 8 anywhere goes before a 9 anywhere, so that a tree's update keeps both to its end.
 #[derive(Clone, Copy, Debug, PartialEq, Eq)]
 pub struct Found {
     pub eight: bool,

@@ -2,7 +2,8 @@
 ghost use Rattle.std.specs.Prelude.{◌≡◌};
 ghost use Rattle.merges.specs.Bins.{bin_place, Placed};
 
-// Where a bin's probability stands, and where its accumulator's reals and counts begin.
+// Where a bin's probability stands, and where its accumulator's reals and counts begin. It asks that there is such a bin, and so is no call of
+// `lent`.
 #[derive(Clone, Copy)]
 pub struct BinAt {
     pub chance: usize,

@@ -2,23 +2,13 @@
 ghost use Rattle.std.specs.Prelude.{◌≡◌, ◌+◌, ◌≤◌, length};
 ghost use Rattle.std.specs.Float.{binary64};
 ghost use Rattle.std.specs.Float.Ieee.{add};
-ghost use Rattle.lent.specs.Merged.{higher_of, lower_of, join_at};
+ghost use Rattle.lent.specs.Merged.{lower_of, join_at};
 
 // Both together.
 pub fn sum(a: f64, b: f64) -> f64
     ensures { result ≡ add binary64 a b }
 {
     a + b
-}
-
-// The second where it is above the first, else the first.
-pub fn higher(a: f64, b: f64) -> f64
-    ensures { result ≡ higher_of a b }
-{
-    if a < b {
-        return b;
-    }
-    a
 }
 
 // The second where it is below the first, else the first.
@@ -31,7 +21,8 @@ pub fn lower(a: f64, b: f64) -> f64
     a
 }
 
-// The n entries from a place on, each made what f answers of it and the other's.
+// The n entries from a place on, each made what f answers of it and the other's. `recut::each::pair` on the two parts would do the same; it
+// stays `recut`'s own: it asks that f always answers, and the calls of `recut` ask nothing.
 pub fn join<T: Copy, F: Fn(T, T) -> T>(
     entries: &mut [T],
     start: usize,

@@ -15,6 +15,7 @@ ghost use Rattle.lent.specs.Memory.{memory};
 
 use doubles::Refusal;
 use judges::state;
+use lent::Lent;
 
 // Whether another grid may be merged, or what stands against it. Refused: 12, 10, 12, each of both grids before the
 // next number; 4, 11.
@@ -29,7 +30,17 @@ pub fn is_mergeable(
     ensures { fault_of result ≡ mergeable_of table.now reals.now counts.now other.now theirs.now tallies.now }
 {
     state::pair_fault(table, reals, counts, other, theirs, tallies)?;
-    let found = matching::grid_obstacle(table, reals, counts, 4, 0, other, theirs, tallies, 0);
+    let m = Lent {
+        table,
+        reals,
+        counts,
+    };
+    let o = Lent {
+        table: other,
+        reals: theirs,
+        counts: tallies,
+    };
+    let found = matching::grid_obstacle(m, 4, 0, o, 0);
     if found == Err(Refusal::Overflow) {
         return Ok(());
     }
@@ -49,7 +60,17 @@ pub fn merge(
         merge_into_of table.now (memory reals.old counts.old) other.now (memory theirs.now tallies.now) }
 {
     state::pair_fault(table, reals, counts, other, theirs, tallies)?;
-    matching::grid_obstacle(table, reals, counts, 4, 0, other, theirs, tallies, 0)?;
-    uniting::merge_grid(table, reals, counts, 4, 0, other, theirs, tallies, 0);
+    let m = Lent {
+        table,
+        reals,
+        counts,
+    };
+    let o = Lent {
+        table: other,
+        reals: theirs,
+        counts: tallies,
+    };
+    matching::grid_obstacle(m, 4, 0, o, 0)?;
+    uniting::merge_grid(table, reals, counts, 4, 0, o, 0);
     Ok(())
 }

@@ -1,6 +1,6 @@
 // Merging the axes of a grid with those of another in another memory: whether the two fit together, and the merge itself.
 //
-// The loops over axes stay `while`: the axes left are counted in `left`, and a range beside it would count them twice.
+// The loops over axes stay `while`: what holds in them is said of the axes left, and a range's index would want a clause that ties it to them.
 ghost use Rattle.std.specs.Prelude.{◌≡◌, true, ◌+◌, ◌≤◌, length, get_or};
 ghost use Rattle.doubles.specs.Total.{all_finite};
 ghost use Rattle.axis.specs.Scans.{all_bounded};
@@ -13,10 +13,10 @@ ghost use Rattle.lent.specs.Laid.{Roomy};
 ghost use Rattle.lent.specs.Merged.{merged_reals, merged_counts, merge_at, merged_memory, Spaced};
 ghost use Rattle.lent.specs.Drawn.{axes_at, Stands};
 
-use crate::joining::{higher, join, lower, sum};
+use crate::joining::{join, lower, sum};
 use crate::onward;
 use lent::AxesAt;
-use recut::joined_count;
+use recut::{higher_of, joined_count};
 
 // Whether both have as many axes, and each axis as many bins now held as the other's.
 pub fn same_lengths(
@@ -46,7 +46,7 @@ pub fn same_lengths(
     same
 }
 
-// Whether n numbers from a place on equal the other's.
+// Whether n numbers from a place on equal the other's; all are looked at, with no jump, as in axis's scans.
 fn are_equal(reals: &[f64], start: usize, theirs: &[f64], from: usize, n: usize) -> bool
     requires { (start + n ≤ length reals.now) × (from + n ≤ length theirs.now) }
     ensures { result ≡ equal_all (stretch start n reals.now) (stretch from n theirs.now) }
@@ -178,7 +178,14 @@ fn merge_reals(reals: &mut [f64], g: AxesAt, theirs: &[f64], o: AxesAt, n: usize
     let q = o.reals;
     join(reals, r + (2 * m + 1), theirs, q + (2 * k + 1), n, sum);
     join(reals, r + (3 * m + 1), theirs, q + (3 * k + 1), n, sum);
-    join(reals, r + (4 * m + 1), theirs, q + (4 * k + 1), n, higher);
+    join(
+        reals,
+        r + (4 * m + 1),
+        theirs,
+        q + (4 * k + 1),
+        n,
+        higher_of,
+    );
     join(reals, r + (5 * m + 1), theirs, q + (5 * k + 1), n, lower);
 }
 

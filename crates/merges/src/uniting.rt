@@ -1,13 +1,14 @@
 // Merging a tree into another in lent memory, once nothing stands against it: what a grid keeps of its own, then what hangs below it.
-ghost use Rattle.std.specs.Prelude.{◌≡◌, ◌+◌, ◌-◌, ◌≤◌, ◌<◌, length, get_or};
+ghost use Rattle.std.specs.Prelude.{◌≡◌, ◌+◌, ◌≤◌, ◌<◌, length, get_or};
 ghost use Rattle.lent.specs.Memory.{memory};
+ghost use Rattle.lent.specs.Lent.{LaidAt, BinsLaidAt, AxesLaidAt, ChildLaidAt, word_at};
 ghost use Rattle.lent.specs.Tree.{AxesLaid, BinsLaid, Laid};
 ghost use Rattle.lent.specs.Sampled.{ChildLaid};
 ghost use Rattle.lent.specs.United.{joined_record, united_axes, united_own, united_child, united_children, united_grid, OwnRoom};
 
 use crate::{bins, merging};
 use ground::accounts;
-use lent::layout;
+use lent::{Lent, layout};
 
 // The record at r and c takes the waiting samples of the other's at q and d.
 fn join_account(
@@ -15,17 +16,16 @@ fn join_account(
     counts: &mut [u64],
     r: usize,
     c: usize,
-    theirs: &[f64],
-    tallies: &[u64],
+    o: Lent<'_>,
     q: usize,
     d: usize,
 )
-    requires { (r + 14 ≤ length reals.old) × (c + 7 ≤ length counts.old) × (q + 14 ≤ length theirs.now) × (d + 7 ≤ length tallies.now) }
+    requires { (r + 14 ≤ length reals.old) × (c + 7 ≤ length counts.old) × (q + 14 ≤ length o.reals.now) × (d + 7 ≤ length o.counts.now) }
     ensures { memory reals.new counts.new ≡
-        joined_record r c q d (memory theirs.now tallies.now) (memory reals.old counts.old) }
+        joined_record r c q d (memory o.entry.reals.now o.entry.counts.now) (memory reals.old counts.old) }
 {
     let mine = accounts::load(reals, counts, r, c);
-    let joining = accounts::load(theirs, tallies, q, d);
+    let joining = accounts::load(o.reals, o.counts, q, d);
     if let Ok(after) = mine.merge_samples_no_reset(joining) {
         accounts::store(reals, counts, r, c, after);
     }
@@ -37,56 +37,43 @@ fn merge_axes_grid(
     reals: &mut [f64],
     counts: &mut [u64],
     w: usize,
-    other: &[u64],
-    theirs: &[f64],
-    tallies: &[u64],
+    o: Lent<'_>,
     v: usize,
 )
-    requires { AxesLaid table.now (length reals.old) (length counts.old) w × AxesLaid other.now (length theirs.now) (length tallies.now) v }
+    requires { AxesLaid table.now (length reals.old) (length counts.old) w × AxesLaidAt o v }
     ensures { memory reals.new counts.new ≡
-        united_axes table.now other.now (memory theirs.now tallies.now) w v (memory reals.old counts.old) }
+        united_axes table.now o.entry.table.now (memory o.entry.reals.now o.entry.counts.now) w v (memory reals.old counts.old) }
 {
     let r = table[w + 9] as usize;
     let c = table[w + 10] as usize;
-    let q = other[v + 9] as usize;
-    let d = other[v + 10] as usize;
+    let q = o.table[v + 9] as usize;
+    let d = o.table[v + 10] as usize;
     let g = layout::axes_place(table, w);
-    let o = layout::axes_place(other, v);
-    if g.axes != o.axes {
+    let far = layout::axes_place(o.table, v);
+    if g.axes != far.axes {
         return;
     }
-    join_account(reals, counts, r, c, theirs, tallies, q, d);
-    merging::merge_axes(reals, counts, g, theirs, tallies, o);
+    join_account(reals, counts, r, c, o, q, d);
+    merging::merge_axes(reals, counts, g, o.reals, o.counts, far);
 }
 
 // Two bins grids' own, of as many bins: their accumulators, then bin by bin.
-fn merge_own(
-    table: &[u64],
-    reals: &mut [f64],
-    counts: &mut [u64],
-    w: usize,
-    other: &[u64],
-    theirs: &[f64],
-    tallies: &[u64],
-    v: usize,
-)
-    requires { OwnRoom table.now (length reals.old) (length counts.old) w × OwnRoom other.now (length theirs.now) (length tallies.now) v
-        × (get_or table.now (w + 2) 0 ≡ get_or other.now (v + 2) 0) }
+fn merge_own(table: &[u64], reals: &mut [f64], counts: &mut [u64], w: usize, o: Lent<'_>, v: usize)
+    requires { OwnRoom table.now (length reals.old) (length counts.old) w × OwnRoom o.table.now (length o.reals.now) (length o.counts.now) v
+        × (get_or table.now (w + 2) 0 ≡ word_at o (v + 2)) }
     ensures { memory reals.new counts.new ≡
-        united_own table.now other.now (memory theirs.now tallies.now) w v (memory reals.old counts.old) }
+        united_own table.now o.entry.table.now (memory o.entry.reals.now o.entry.counts.now) w v (memory reals.old counts.old) }
 {
     let n = table[w + 2] as usize;
     let r = table[w + 5] as usize;
     let c = table[w + 6] as usize;
-    let q = other[v + 5] as usize;
-    let d = other[v + 6] as usize;
-    join_account(reals, counts, r, c, theirs, tallies, q, d);
+    let q = o.table[v + 5] as usize;
+    let d = o.table[v + 6] as usize;
+    join_account(reals, counts, r, c, o, q, d);
     for i in 0..n {
         let b = bins::bin_place(table, w, i);
-        let o = bins::bin_place(other, v, i);
-        join_account(
-            reals, counts, b.reals, b.counts, theirs, tallies, o.reals, o.counts,
-        );
+        let far = bins::bin_place(o.table, v, i);
+        join_account(reals, counts, b.reals, b.counts, o, far.reals, far.counts);
     }
 }
 
@@ -98,15 +85,13 @@ fn merge_child(
     counts: &mut [u64],
     level: usize,
     link: usize,
-    other: &[u64],
-    theirs: &[f64],
-    tallies: &[u64],
+    o: Lent<'_>,
     far: usize,
 )
-    requires { ChildLaid level table.now (length reals.old) (length counts.old) link × ChildLaid level other.now (length theirs.now) (length tallies.now) far }
+    requires { ChildLaid level table.now (length reals.old) (length counts.old) link × ChildLaidAt o level far }
     ensures { memory reals.new counts.new ≡
-        united_child table.now other.now (memory theirs.now tallies.now)
-        (united_grid table.now other.now (memory theirs.now tallies.now) level) link far (memory reals.old counts.old) }
+        united_child table.now o.entry.table.now (memory o.entry.reals.now o.entry.counts.now)
+        (united_grid table.now o.entry.table.now (memory o.entry.reals.now o.entry.counts.now) level) link far (memory reals.old counts.old) }
 {
     if link == 0 {
         return;
@@ -114,9 +99,7 @@ fn merge_child(
     if far == 0 {
         return;
     }
-    merge_grid(
-        table, reals, counts, level, link, other, theirs, tallies, far,
-    );
+    merge_grid(table, reals, counts, level, link, o, far);
 }
 
 // What hangs at the links of two bins grids, one after the other.
@@ -127,25 +110,21 @@ fn merge_children(
     counts: &mut [u64],
     level: usize,
     w: usize,
-    other: &[u64],
-    theirs: &[f64],
-    tallies: &[u64],
+    o: Lent<'_>,
     v: usize,
 )
     requires { BinsLaid (Laid level table.now (length reals.old) (length counts.old)) table.now (length reals.old) (length counts.old) w
-        × BinsLaid (Laid level other.now (length theirs.now) (length tallies.now)) other.now (length theirs.now) (length tallies.now) v
-        × (get_or table.now (w + 2) 0 ≡ get_or other.now (v + 2) 0) }
+        × BinsLaidAt o level v
+        × (get_or table.now (w + 2) 0 ≡ word_at o (v + 2)) }
     ensures { memory reals.new counts.new ≡
-        united_children table.now other.now (memory theirs.now tallies.now)
-        (united_grid table.now other.now (memory theirs.now tallies.now) level) w v 0 (get_or table.now (w + 2) 0) (memory reals.old counts.old) }
+        united_children table.now o.entry.table.now (memory o.entry.reals.now o.entry.counts.now)
+        (united_grid table.now o.entry.table.now (memory o.entry.reals.now o.entry.counts.now) level) w v 0 (get_or table.now (w + 2) 0) (memory reals.old counts.old) }
 {
     let n = table[w + 2] as usize;
     for i in 0..n {
         let link = table[w + 7 + i] as usize;
-        let far = other[v + 7 + i] as usize;
-        merge_child(
-            table, reals, counts, level, link, other, theirs, tallies, far,
-        );
+        let far = o.table[v + 7 + i] as usize;
+        merge_child(table, reals, counts, level, link, o, far);
     }
 }
 
@@ -157,29 +136,27 @@ pub fn merge_grid(
     counts: &mut [u64],
     level: usize,
     w: usize,
-    other: &[u64],
-    theirs: &[f64],
-    tallies: &[u64],
+    o: Lent<'_>,
     v: usize,
 )
-    requires { Laid level table.now (length reals.old) (length counts.old) w × Laid level other.now (length theirs.now) (length tallies.now) v }
+    requires { Laid level table.now (length reals.old) (length counts.old) w × LaidAt o level v }
     ensures { memory reals.new counts.new ≡
-        united_grid table.now other.now (memory theirs.now tallies.now) level w v (memory reals.old counts.old) }
+        united_grid table.now o.entry.table.now (memory o.entry.reals.now o.entry.counts.now) level w v (memory reals.old counts.old) }
 {
     if table[w] == 1 {
-        if other[v] != 1 {
+        if o.table[v] != 1 {
             return;
         }
-        merge_axes_grid(table, reals, counts, w, other, theirs, tallies, v);
+        merge_axes_grid(table, reals, counts, w, o, v);
         return;
     }
-    if other[v] == 1 {
+    if o.table[v] == 1 {
         return;
     }
-    if table[w + 2] != other[v + 2] {
+    if table[w + 2] != o.table[v + 2] {
         return;
     }
     let below = level - 1;
-    merge_own(table, reals, counts, w, other, theirs, tallies, v);
-    merge_children(table, reals, counts, below, w, other, theirs, tallies, v);
+    merge_own(table, reals, counts, w, o, v);
+    merge_children(table, reals, counts, below, w, o, v);
 }

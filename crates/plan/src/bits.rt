@@ -4,7 +4,8 @@ ghost use Rattle.std.specs.Float.{binary64};
 ghost use Rattle.std.specs.Float.Ieee.{nan_bits};
 ghost use Rattle.plan.specs.Ranges.{floor_fits, ratio_fits};
 
-// Whether these are a NaN's bits.
+// Whether these are a NaN's bits. `answers` has the same text: neither crate stands on the other, and `f64::from_bits`, so `f64::is_nan` after
+// it, asks that they are no NaN's.
 fn is_nan(bits: u64) -> bool
     ensures { result ≡ nan_bits binary64 bits }
 {
@@ -19,7 +20,7 @@ pub fn floor_fits(bits: u64) -> bool
         return false;
     }
     let x = f64::from_bits(bits);
-    0.0 <= x && x <= 1.0
+    (0.0..=1.0).contains(&x)
 }
 
 // Whether a ratio is finite and at least 1.

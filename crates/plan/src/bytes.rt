@@ -9,7 +9,8 @@ pub fn byte_at(bytes: &[u8], at: usize) -> usize
     bytes.get(at).map_or(0, |byte| usize::from(*byte))
 }
 
-// The number of two bytes. Each width by its halves, whose bounds give its own: over a const width these would be a law more.
+// The number of two bytes. Each width by its halves, whose bounds give its own and are asked of it; what lies past the end is 0, so that no
+// array of bytes is there to be read.
 pub fn pair_at(bytes: &[u8], at: usize) -> usize
     requires { at ≤ length bytes.now + 131072 }
     ensures { (result ≡ number_at bytes.now at 2) × (result < 65536) }

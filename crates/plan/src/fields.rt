@@ -18,7 +18,7 @@ use doubles::Refusal;
 pub fn is_within(lo: usize, hi: usize, n: usize) -> bool
     ensures { result ≡ within lo hi n }
 {
-    lo <= n && n <= hi
+    (lo..=hi).contains(&n)
 }
 
 // Whether the field has this length and all its bytes are there.

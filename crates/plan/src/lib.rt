@@ -63,7 +63,8 @@ pub struct Tally {
     pub bins: usize,
 }
 
-// Where reading stands: the byte, and what is taken by then.
+// Where reading stands: the byte, and what is taken by then. That it lies inside the bytes, or has room in a table, is a fact of it and what is
+// read together, and so a clause and no invariant.
 #[derive(Clone, Copy)]
 pub struct Place {
     pub at: usize,

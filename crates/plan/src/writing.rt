@@ -1,4 +1,4 @@
-// Writing the table of a plan that was judged.
+// Writing the table of a plan that was judged. A grid's kind is a word, 1 or 2: the table is what calls are lent, and has a format.
 ghost use Rattle.std.specs.Prelude.{◌≡◌, ◌+◌, ◌*◌, ◌≤◌, ◌<◌, length};
 ghost use Rattle.std.proofs.lemmas.List.Edits.{sets};
 ghost use Rattle.plan.specs.Numbers.{values_at};
@@ -11,7 +11,7 @@ use crate::bytes::{byte_at, pair_at};
 use crate::fields::field_at;
 use crate::{AxesPlan, BinsPlan, Child, Place, Tally};
 
-// Writes words over those from a place on, as many as there is room for.
+// Writes words over those from a place on, as many as there is room for. `ground::parts::set` promises the same: `plan` stands below `ground`.
 fn set_words(table: &mut [u64], at: usize, part: &[u64])
     ensures { table.new ≡ sets table.old at part.now }
 {

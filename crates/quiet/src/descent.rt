@@ -25,7 +25,7 @@ fn ends_at(p: Region, depth: usize) -> bool
     coordinates.many == 0
 }
 
-// A probe's weight times a bin's own; a refusal stays.
+// A probe's weight times a bin's own; a refusal stays. Its promise is the definitions' `through`, shown once for each end of the walk.
 fn through_bin(inverse: f64, probed: Result<f64, Refusal>) -> Result<f64, Refusal>
     ensures { paper result ≡ through (mul binary64 inverse) (paper probed) }
 {

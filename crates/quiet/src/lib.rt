@@ -87,8 +87,8 @@ pub fn clone_without_samples(
 }
 
 // The weight at a point, or over the region that open coordinates leave; where the path ends at a bin and no coordinates are given,
-// from the probabilities alone. Refused: 12, 10, 12; 6, then 4, at each level of
-// the path; 4 for the number of coordinates; 5.
+// from the probabilities alone. Refused: 12, 10, 12; 4, 6, 4 at each level of the
+// path; 4 for the number of coordinates; 5.
 pub fn probe(table: &[u64], reals: &[f64], counts: &[u64], p: Region) -> Result<f64, Refusal>
     ensures { paper result ≡ probe_of table.now reals.now counts.now p }
 {
@@ -127,7 +127,7 @@ pub fn live_estimate(table: &[u64], reals: &[f64], counts: &[u64]) -> Result<Est
     along::own(m).get_live_estimate()
 }
 
-// The same of the bin at the end of a path. Refused: 12, 10, 12; 6, then 4, at each level of the path; 8.
+// The same of the bin at the end of a path. Refused: 12, 10, 12; 4, 6, 4 at each level of the path; 8.
 pub fn live_estimate_of_bin(
     table: &[u64],
     reals: &[f64],

@@ -57,7 +57,7 @@ fn weigh_axes(reals: &[f64], counts: &[u64], g: AxesAt, p: Coordinates) -> Resul
     Ok(weight)
 }
 
-// A probe's weight under a floor; a refusal stays.
+// A probe's weight under a floor; a refusal stays. Its promise is the definitions' `through`, as in `descent`.
 fn under_floor(floor: f64, probed: Result<f64, Refusal>) -> Result<f64, Refusal>
     ensures { paper result ≡ through (floored_of floor) (paper probed) }
 {

@@ -14,6 +14,8 @@ use Rattle.doubles.proofs.Refusals.{number-one}
 use Rattle.recut.specs.Renew.{paper_renewed}
 use Rattle.recut.proofs.adapt.Kinds as adapt
 use Rattle.recut.proofs.adapt.Reads as adapt-reads
+use Rattle.recut.proofs.higher_of.Kinds as higher-of
+use Rattle.recut.proofs.higher_of.Reads as higher-of-reads
 use Rattle.recut.proofs.chances.is_chance.Kinds as is-chance
 use Rattle.recut.proofs.chances.is_chance.Reads as is-chance-reads
 use Rattle.recut.proofs.gather.Kinds as gather
@@ -92,3 +94,10 @@ is-chance-total κs a = tt
 pub is-chance-unique : (κs : Lfts 0) (a : Dens κs is-chance.ps) (r r' : Bool) (s s' : AtExit (ended_of 0 is-chance.ps is-chance.r) κs)
     → is-chance-reads.Post κs a r s → is-chance-reads.Post κs a r' s' → r ≡ r'
 is-chance-unique κs a r r' s s' p q = p ∙ sym q
+
+pub higher-of-total : (κs : Lfts 0) (a : Dens κs higher-of.ps) → higher-of-reads.Pre κs a
+higher-of-total κs a = tt
+
+pub higher-of-unique : (κs : Lfts 0) (a : Dens κs higher-of.ps) (r r' : Float) (s s' : AtExit (ended_of 0 higher-of.ps higher-of.r) κs)
+    → higher-of-reads.Post κs a r s → higher-of-reads.Post κs a r' s' → r ≡ r'
+higher-of-unique κs a r r' s s' p q = p ∙ sym q

@@ -1,19 +1,9 @@
 // A bins grid's probabilities after an update: raw ones held up by the ratio, then divided by their sum.
 ghost use Rattle.std.specs.Prelude.{◌≡◌, map};
 ghost use Rattle.doubles.specs.Numbers.{zero64};
-ghost use Rattle.recut.specs.Chances.{chance, all_chances, higher, highest, raised_to, share_of};
+ghost use Rattle.recut.specs.Chances.{chance, all_chances, highest, raised_to, share_of};
 
-use crate::each;
-
-// The second where it is above the first, else the first.
-fn higher_of(top: f64, p: f64) -> f64
-    ensures { result ≡ higher top p }
-{
-    if top < p {
-        return p;
-    }
-    top
-}
+use crate::{each, higher_of};
 
 // The highest of the raw probabilities, 0 where none is above it.
 pub fn highest_of(ps: &[f64]) -> f64
@@ -64,7 +54,7 @@ pub fn is_chance(p: f64) -> bool
     plain::finite(p) & (0.0 < p)
 }
 
-// Whether every one is.
+// Whether every one is; with no jump, as axis's scans.
 pub fn are_chances(ps: &[f64]) -> bool
     ensures { result ≡ all_chances ps.now }
 {

@@ -12,7 +12,7 @@ mod weights;
 
 ghost use Rattle.std.specs.Prelude.{◌≡◌, ◌<◌, ◌≤◌, length};
 ghost use Rattle.recut.specs.Gather.{gathered_of, joined_count, joined_counts, reaches_of};
-ghost use Rattle.recut.specs.Chances.{all_chances, adapted_to};
+ghost use Rattle.recut.specs.Chances.{all_chances, adapted_to, higher};
 ghost use Rattle.recut.specs.Renew.{paper_renewed, lengths_fit, from_damped, from_divided, renew_of};
 
 pub use chances::is_chance;
@@ -42,6 +42,16 @@ pub fn gather_counts(counters: &mut [u64], waiting: &[u64])
     ensures { counters.new ≡ joined_counts counters.old waiting.now }
 {
     each::pair(counters, waiting, joined_count);
+}
+
+// The second where it is above the first, else the first.
+pub fn higher_of(top: f64, p: f64) -> f64
+    ensures { result ≡ higher top p }
+{
+    if top < p {
+        return p;
+    }
+    top
 }
 
 // Whether the counters' sum is at least `least`: it is taken from `least`, so nothing overflows.

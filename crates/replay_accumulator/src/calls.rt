@@ -42,7 +42,7 @@ fn holds_updated(list: &[u8], at: usize, answer: Result<Updated, Refusal>) -> bo
     })
 }
 
-// Whether a summary's words are those from a place on.
+// Whether a summary's words are those from a place on; replay_grid's list has the same, and `answers` knows no summary.
 fn holds_summary(list: &[u8], at: usize, s: Summary) -> bool {
     answers::holds(list, at, &[s.iterations, s.samples])
         & holds_three(list, at.wrapping_add(2), s.average, s.error, s.chi_squared)

@@ -63,7 +63,7 @@ pub fn holds_sample(list: &[u8], s: Sample) -> bool {
         & holds_doubles(list, 15, &coordinates)
 }
 
-// Whether the stream behind a drawing is that of the list.
+// Whether the stream behind a drawing is that of the list: replay_stream's lists have it at other words.
 pub fn holds_stream(list: &[u8], stream: MonteCarloRng) -> bool {
     holds(list, 23, &[stream.s0, stream.s1, stream.s2, stream.s3])
 }

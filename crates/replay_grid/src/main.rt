@@ -16,7 +16,7 @@ ghost use Rattle.std.specs.Prelude.{◌*◌, ◌≤◌, length, IfOk};
 use input::read_full;
 use std::io;
 
-// The list read into `text`; how many words it has.
+// The list read into `text`; how many words it has: two lines of `input`'s, which replay_program has too.
 fn read(rt: &HostRuntime, text: &mut [u8]) -> io::Result<usize>
     ensures { IfOk result (λ words. words * 17 ≤ length text.new) }
 {

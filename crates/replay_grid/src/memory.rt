@@ -19,6 +19,13 @@ pub struct Lent {
     pub stream: MonteCarloRng,
 }
 
+// An entry set; none where there is no such place.
+pub fn set<T: Copy>(entries: &mut [T], place: usize, x: T) {
+    if place < entries.len() {
+        entries[place] = x;
+    }
+}
+
 impl Lent {
     // A sample drawn from the stream.
     pub fn draw(&mut self) -> Result<Sample, Refusal> {
@@ -107,20 +114,6 @@ impl Memory {
         Memory {
             reals: [0.0; 16384],
             counts: [0; 8192],
-        }
-    }
-
-    // A cell of the reals set; none where there is no such place.
-    pub fn set_real(&mut self, place: usize, x: f64) {
-        if place < self.reals.len() {
-            self.reals[place] = x;
-        }
-    }
-
-    // The same for counts.
-    pub fn set_count(&mut self, place: usize, x: u64) {
-        if place < self.counts.len() {
-            self.counts[place] = x;
         }
     }
 

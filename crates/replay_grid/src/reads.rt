@@ -31,7 +31,7 @@ pub fn probe(list: &[u8], lent: &Lent) -> bool {
     )
 }
 
-// Whether a summary's words are those from a place on.
+// Whether a summary's words are those from a place on; replay_accumulator's list has the same, and `answers` knows no summary.
 fn holds_summary(list: &[u8], at: usize, s: Summary) -> bool {
     holds(list, at, &[s.iterations, s.samples])
         & holds_doubles(

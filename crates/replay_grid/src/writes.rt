@@ -1,9 +1,9 @@
-// The calls that write, their arguments from the list's third word on. Behind the number that each must answer stands the mark of the
-// memory after it, refused or not.
+// The calls that write, and `is_mergeable`, their arguments from the list's third word on. Behind the number that each must answer stands the
+// mark of the memory after it, refused or not.
 ghost use Rattle.std.specs.Prelude.{◌<◌};
 
 use crate::list::{number_of, sample_at};
-use crate::memory::{Lent, Memory};
+use crate::memory::{Lent, Memory, set};
 use answers::{double, word};
 use grid::Refusal;
 
@@ -49,9 +49,9 @@ pub fn set_cell(list: &[u8], lent: &mut Lent) -> bool {
     let place = word(list, 3) as usize;
     let x = word(list, 4);
     if word(list, 2) == 0 {
-        lent.own.set_real(place, double(x));
+        set(&mut lent.own.reals, place, double(x));
     } else {
-        lent.own.set_count(place, x);
+        set(&mut lent.own.counts, place, x);
     }
     holds_end(list, 5, Ok(()), &lent.table, &lent.own)
 }

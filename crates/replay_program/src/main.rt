@@ -35,7 +35,7 @@ fn replay(list: &[u8], words: usize) -> Tally
     tally
 }
 
-// The list read into `text`; how many words it has.
+// The list read into `text`; how many words it has: two lines of `input`'s, which replay_grid has too.
 fn read(rt: &HostRuntime, text: &mut [u8]) -> io::Result<usize>
     ensures { IfOk result (λ words. words * 17 ≤ length text.new) }
 {

@@ -63,10 +63,10 @@ fn is_sure(q: u64, d: u64) -> bool
 {
     let a = q / 0x400_0000;
     let b = q % 0x400_0000;
-    let v = std::num::wrapping_sub_u64(d, a * a);
-    let w = std::num::wrapping_sub_u64(2 * a * b, v << 26);
-    let rest = std::num::wrapping_add_u64(w << 26, b * b + q);
-    (v < 0x2000_0000) & (std::num::wrapping_add_u64(w, 0x2000_0000) < 0x4000_0000) & (rest < 2 * q)
+    let v = d.wrapping_sub(a * a);
+    let w = (2 * a * b).wrapping_sub(v << 26);
+    let rest = (w << 26).wrapping_add(b * b + q);
+    (v < 0x2000_0000) & (w.wrapping_add(0x2000_0000) < 0x4000_0000) & (rest < 2 * q)
 }
 
 // Whether e are surely the bits of the root of the double whose bits are `bits`, a normal one; a no says nothing.
@@ -74,7 +74,7 @@ pub fn is_root(e: u64, bits: u64) -> bool
     ensures { result ≡ true → Right bits e }
 {
     let top = bits / 0x10_0000_0000_0000;
-    let rest = std::num::wrapping_sub_u64(e, power(bits));
+    let rest = e.wrapping_sub(power(bits));
     if (0 < top) & (top < 2047) & (rest < 0x10_0000_0000_0000) {
         let m = bits % 0x10_0000_0000_0000 + 0x10_0000_0000_0000;
         return is_sure(rest + 0x10_0000_0000_0000, m * (2 - top % 2));

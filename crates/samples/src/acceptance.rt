@@ -1,4 +1,5 @@
 // Whether what a sample would leave may be kept (8), judged on what it touches, before anything is written; the bins on the axes are found on the way.
+// Sample, evaluation and number come one by one, here and in `absorbing`, as `train` has them and the definitions name them.
 ghost use Rattle.std.specs.Prelude.{◌≡◌, true, ◌+◌, ◌≤◌, length};
 ghost use Rattle.doubles.specs.Refusal.{fault_of};
 ghost use Rattle.model.specs.Grid.{axes, bins};

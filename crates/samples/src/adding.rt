@@ -1,4 +1,5 @@
-// A value joins an accumulator in lent memory.
+// A value joins an accumulator in lent memory, whose place is two numbers, as in ground's `accounts`. It is accumulator's `added` on the eight
+// cells that a sample changes: to load and store whole records at each sample would be slower.
 ghost use Rattle.std.specs.Prelude.{◌≡◌, true, ◌+◌, ◌≤◌, length};
 ghost use Rattle.accumulator.specs.Record.{well_formed};
 ghost use Rattle.accumulator.specs.Steps.{added_of};

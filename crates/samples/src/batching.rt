@@ -44,7 +44,7 @@ fn step(
     Ok(stream)
 }
 
-// The evaluations in order, up to the first refusal.
+// The evaluations in order, up to the first refusal. The number goes on beside the place: a range from the first on would have no end to show.
 pub fn steps(
     table: &[u64],
     reals: &mut [f64],

@@ -56,8 +56,8 @@ pub fn draw(
     Ok(Drawing { sample, stream })
 }
 
-// A sample joins the grid with its evaluation and its number. Refused: 12, 10, 12 as in `draw`; 3; 6, then 4, at each level of the path; then
-// 4, 5; 7; 8. Nothing is written then.
+// A sample joins the grid with its evaluation and its number. Refused: 12, 10, 12 as in `draw`; 3; 4, 6, 4 at each level of the path; then 4,
+// 5; 7; 8. Nothing is written then.
 pub fn train(
     table: &[u64],
     reals: &mut [f64],

@@ -1,4 +1,4 @@
-// Reads of lent memory, with no test. A call that reads costs the proofs above less than an index among other things.
+// Reads of lent memory, with no test: one for each list, since each promise names what stands past its end. A call that reads costs the proofs above less than an index among other things.
 ghost use Rattle.std.specs.Prelude.{◌≡◌, ◌+◌, ◌^◌, ◌≤◌, ◌<◌, length, get_or};
 ghost use Rattle.std.specs.Float.{nan};
 ghost use Rattle.lent.specs.Tree.{axes_place};

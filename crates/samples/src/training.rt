@@ -1,4 +1,5 @@
-// Training axes: whether a sample may join its bins is judged first, on all of them; only then is anything written.
+// Training axes: whether a sample may join its bins is judged first, on all of them; only then is anything written. An axis's place is most,
+// r and c, as in ground's `accounts`.
 ghost use Rattle.std.specs.Prelude.{◌≡◌, Bool, true, ◌&&◌, List, [], ◌∷◌, Float, ◌+◌, ◌*◌, ◌^◌, ◌≤◌, ◌<◌, length, get_or};
 ghost use Rattle.std.specs.Float.{nan};
 ghost use Rattle.axis.specs.Edges.{well_formed, in_unit, bin_of};
@@ -40,7 +41,7 @@ fn bin_near(edges: &[f64], x: f64, guess: usize) -> usize
     axis::edges::bin_of(edges, x)
 }
 
-// Whether two numbers are finite: each less itself is 0 where it is, else NaN.
+// Whether two numbers are finite: each less itself is 0 where it is, else NaN. Accumulator's test of four sums is another, within its own.
 pub fn are_sums_finite(sum: f64, squares: f64) -> bool
     ensures { result ≡ (finite_of sum && finite_of squares) }
 {

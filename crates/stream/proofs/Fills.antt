@@ -1,10 +1,11 @@
 -- Bytes of words: what a word's bytes are by number, and how `fill_bytes` goes on word by word.
-use Rattle.std.proofs.Common.{◌≡◌, ℕ, zero, suc, ◌+◌, ◌-◌, ◌*◌, ◌/◌, ◌%◌, ◌<◌, ◌≤◌, Bool, true, false, ◌&&◌, ◌==◌, w64, ltb, List, [], ◌∷◌, ◌++◌, length, take, drop, set, get_or-take, lit<, sym, refl, ap, ◌∙◌, append_assoc, append-nil, zero-lt-suc, add-one, arith, length-append, length-set, length-take-le, take_all, take_at, ltb-false, ltb-true}
+use Rattle.std.proofs.Common.{◌≡◌, ℕ, zero, suc, ◌+◌, ◌-◌, ◌*◌, ◌/◌, ◌%◌, ◌<◌, ◌≤◌, Bool, true, false, ◌&&◌, ◌==◌, w64, ltb, List, [], ◌∷◌, ◌++◌, length, take, drop, set, get_or-take, lit<, sym, refl, ap, ◌∙◌, append_assoc, append-nil, arith, length-append, length-set, length-take-le, take_all, take_at, ltb-false, ltb-true}
 use Rattle.std.specs.List.{list_all}
-use Rattle.std.specs.Int.{from_le_bytes}
-use lib.Seq.{set_out, sets, sets-eq, length-sets, take-nil, take-append-add}
+use Rattle.std.specs.Int.{from_le_bytes, to_le_bytes}
+use borrow.Rule.Slice.PartMut.{put_mid}
+use lib.Seq.{drop-drop, set_out, sets, sets-eq, length-sets, take-nil, take-append-add}
 use Rattle.stream.specs.declared.MonteCarloRng.{MonteCarloRng}
-use Rattle.stream.specs.declared.Word.{Word}
+use Rattle.stream.specs.declared.Next.{Next}
 use Rattle.stream.specs.Xoshiro.{word_of, step_of, steps_of}
 use Rattle.stream.specs.Bytes.{bytes_of, word_in, all_zero, stream_bytes}
 use Rattle.stream.specs.Calls.{drawn_of, Filled, filled, filled_of, words_for}
@@ -34,22 +35,22 @@ word-of-eight eight l e =
     let at = λ (k : ℕ) (h : k < 8). get_or-take 8 l k 0 h in
     rw e (omega (arith, at 0 (lit< tt), at 1 (lit< tt), at 2 (lit< tt), at 3 (lit< tt), at 4 (lit< tt), at 5 (lit< tt), at 6 (lit< tt), at 7 (lit< tt)))
 
+-- std's bytes of a word are the definition's: to divide by 256 again and again is to divide by its powers
+pub le-bytes : (w : ℕ) → to_le_bytes w64 w ≡ bytes_of 8 w
+unfolding bytes_of
+le-bytes w =
+    let two : w / 256 / 256 ≡ w / 65536 = omega arith in
+    let three : w / 65536 / 256 ≡ w / 16777216 = omega arith in
+    let four : w / 16777216 / 256 ≡ w / 4294967296 = omega arith in
+    let five : w / 4294967296 / 256 ≡ w / 1099511627776 = omega arith in
+    let six : w / 1099511627776 / 256 ≡ w / 281474976710656 = omega arith in
+    let seven : w / 281474976710656 / 256 ≡ w / 72057594037927936 = omega arith in
+    rw (two, three, four, five, six, seven)
+
 -- stores past the end change nothing
-sets-out : (vs l : List ℕ) (i : ℕ) → length l ≤ i → sets l i vs ≡ l
+pub sets-out : (vs l : List ℕ) (i : ℕ) → length l ≤ i → sets l i vs ≡ l
 sets-out [] l i h = refl
 sets-out (v ∷ vs) l i h = let e = set_out l i v h in rw e (sets-out vs l (suc i) (omega arith))
-
--- one byte more of a word
-pub put_on : (d : List ℕ) (i n w : ℕ) → 0 < n → sets d i (bytes_of n w) ≡ sets (set d i (w % 256)) (i + 1) (bytes_of (n - 1) (w / 256))
-unfolding bytes_of
-put_on d i zero w h = absurd (omega arith)
-put_on d i (suc n) w h = let e : suc n - 1 ≡ n = omega arith in rw (e, add-one)
-
--- no byte left, or no room
-pub put-done : (d : List ℕ) (i n w : ℕ) → (0 < n → length d ≤ i) → sets d i (bytes_of n w) ≡ d
-unfolding bytes_of
-put-done d i zero w h = refl
-put-done d i (suc n) w h = sets-out (bytes_of (suc n) w) d i (h (zero-lt-suc n))
 
 -- what `fill_bytes` leaves, with `at` bytes of d done and the stream at s
 unfoldable pub onward : List ℕ → ℕ → MonteCarloRng → Filled
@@ -106,6 +107,29 @@ stored_short : (vs l : List ℕ) (i : ℕ) → sets l i vs ≡ sets l i (take (l
 stored_short [] l i = simp take-nil
 stored_short (v ∷ vs) l i = short_on v vs l i (length l - i) refl (rw length-set at (stored_short vs (set l i v) (suc i)))
 
+-- the first k of the values, where the rest of them has no room
+within-room : (d vs : List ℕ) (at k : ℕ) → at + k ≤ length d → (k < length d - at → length vs ≤ k) → take (length d - at) vs ≡ take k vs
+within-room d vs at k h rest = go (ltb k (length d - at)) refl
+  where
+    go : (b : Bool) → ltb k (length d - at) ≡ b → take (length d - at) vs ≡ take k vs
+    go true e =
+        let few = rest (ltb-true k (length d - at) e) in
+        take_all (length d - at) vs (omega (arith, ltb-true k (length d - at) e)) ∙ sym (take_all k vs few)
+    go false e = let all : length d - at ≡ k = omega (arith, ltb-false k (length d - at) e) in rw all
+
+-- k of the values copied to the part at `at`, where the rest of them has no room
+pub copied : (d vs ys : List ℕ) (at k : ℕ) → at + k ≤ length d → k ≤ length vs → (k < length d - at → length vs ≤ k) → ys ≡ take k vs
+    → put_mid at k d ys ≡ sets d at vs
+copied d vs ys at k h some rest e =
+    let n : length (take k vs) ≡ k = length-take-le k vs some in
+    let fits : at + length (take k vs) ≤ length d = omega arith in
+    rw (e, drop-drop)
+    (sym (append_assoc (take at d) (take k vs) (drop (at + k) d))
+    ∙ ap (λ (j : ℕ). take at d ++ take k vs ++ drop (at + j) d) (sym n)
+    ∙ sym (sets-eq (take k vs) d at fits)
+    ∙ ap (sets d at) (sym (within-room d vs at k h rest))
+    ∙ sym (stored_short vs d at))
+
 -- a short rest
 onward-rest : (d : List ℕ) (at : ℕ) (s : MonteCarloRng) → at < length d → length d < at + 8
     → onward d at s ≡ filled (step_of s) (sets d at (bytes_of 8 (word_of s)))
@@ -144,7 +168,7 @@ unfolding words_for
 spent k m n e h = omega arith
 
 -- from what the code draws and writes at the k-th word
-pub fills-word : (d e : List ℕ) (k : ℕ) (s : MonteCarloRng) (w : Word) → w ≡ drawn_of s → e ≡ sets d (k * 8) (bytes_of 8 w.value) → k * 8 < length d
+pub fills-word : (d e : List ℕ) (k : ℕ) (s : MonteCarloRng) (w : Next ℕ) → w ≡ drawn_of s → e ≡ sets d (k * 8) (bytes_of 8 w.value) → k * 8 < length d
     → onward e ((k + 1) * 8) w.stream ≡ onward d (k * 8) s
 unfolding drawn_of
 fills-word d e k s w drawn put h =

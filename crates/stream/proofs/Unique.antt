@@ -5,9 +5,7 @@ use borrow.Fn.Kinds.{Dens, ended_of}
 use denote.Triple.Clauses.{AtExit}
 use lib.Ieee.{Float}
 use Rattle.stream.specs.declared.MonteCarloRng.{MonteCarloRng}
-use Rattle.stream.specs.declared.Word.{Word}
-use Rattle.stream.specs.declared.Half.{Half}
-use Rattle.stream.specs.declared.Unit.{Unit}
+use Rattle.stream.specs.declared.Next.{Next}
 use Rattle.stream.specs.Calls.{Filled}
 use Rattle.std.specs.Prelude.{Result}
 use Rattle.doubles.specs.declared.refusal.Refusal.{Refusal}
@@ -47,21 +45,21 @@ unit-of-unique κs a r r' s s' p q = p ∙ sym q
 pub next-u64-total : (κs : Lfts 0) (a : Dens κs next-u64.ps) → next-u64-reads.Pre κs a
 next-u64-total κs a = tt
 
-pub next-u64-unique : (κs : Lfts 0) (a : Dens κs next-u64.ps) (r r' : Word) (s s' : AtExit (ended_of 0 next-u64.ps next-u64.r) κs)
+pub next-u64-unique : (κs : Lfts 0) (a : Dens κs next-u64.ps) (r r' : Next ℕ) (s s' : AtExit (ended_of 0 next-u64.ps next-u64.r) κs)
     → next-u64-reads.Post κs a r s → next-u64-reads.Post κs a r' s' → r ≡ r'
 next-u64-unique κs a r r' s s' p q = p ∙ sym q
 
 pub next-u32-total : (κs : Lfts 0) (a : Dens κs next-u32.ps) → next-u32-reads.Pre κs a
 next-u32-total κs a = tt
 
-pub next-u32-unique : (κs : Lfts 0) (a : Dens κs next-u32.ps) (r r' : Half) (s s' : AtExit (ended_of 0 next-u32.ps next-u32.r) κs)
+pub next-u32-unique : (κs : Lfts 0) (a : Dens κs next-u32.ps) (r r' : Next ℕ) (s s' : AtExit (ended_of 0 next-u32.ps next-u32.r) κs)
     → next-u32-reads.Post κs a r s → next-u32-reads.Post κs a r' s' → r ≡ r'
 next-u32-unique κs a r r' s s' p q = p ∙ sym q
 
 pub unit-total : (κs : Lfts 0) (a : Dens κs unit.ps) → unit-reads.Pre κs a
 unit-total κs a = tt
 
-pub unit-unique : (κs : Lfts 0) (a : Dens κs unit.ps) (r r' : Unit) (s s' : AtExit (ended_of 0 unit.ps unit.r) κs)
+pub unit-unique : (κs : Lfts 0) (a : Dens κs unit.ps) (r r' : Next Float) (s s' : AtExit (ended_of 0 unit.ps unit.r) κs)
     → unit-reads.Post κs a r s → unit-reads.Post κs a r' s' → r ≡ r'
 unit-unique κs a r r' s s' p q = p ∙ sym q
 

@@ -3,9 +3,7 @@ use Rattle.std.specs.Prelude.{ℕ, ◌+◌, ◌/◌, ◌^◌, false, cond, List,
 use Rattle.std.specs.Float.{binary64}
 use Rattle.std.specs.Float.Ieee.{round}
 use Rattle.stream.specs.declared.MonteCarloRng.{MonteCarloRng}
-use Rattle.stream.specs.declared.Word.{Word}
-use Rattle.stream.specs.declared.Half.{Half}
-use Rattle.stream.specs.declared.Unit.{Unit}
+use Rattle.stream.specs.declared.Next.{Next}
 use Rattle.stream.specs.SplitMix.{seeded_of}
 use Rattle.stream.specs.Xoshiro.{word_of, step_of, steps_of}
 use Rattle.stream.specs.Jumps.{jumps_of}
@@ -13,11 +11,11 @@ use Rattle.stream.specs.Bytes.{bytes_of, word_in, all_zero, stream_bytes}
 use Rattle.doubles.specs.Paper.{Paper, gives, refuses}
 
 -- next_u64: the word, and the stream one step on
-unfoldable pub drawn_of : MonteCarloRng → Word
+unfoldable pub drawn_of : MonteCarloRng → Next ℕ
 drawn_of s = record { value = word_of s; stream = step_of s }
 
 -- next_u32: the upper 32 bits of one word
-unfoldable pub upper_of : MonteCarloRng → Half
+unfoldable pub upper_of : MonteCarloRng → Next ℕ
 upper_of s = record { value = word_of s / 2 ^ 32; stream = step_of s }
 
 -- the top 53 bits of a word times 2^-53
@@ -25,7 +23,7 @@ unfoldable pub unit_of : ℕ → Float
 unit_of w = round binary64 false (w / 2 ^ 11) (2 ^ 53)
 
 -- the unit draw, one word spent
-unfoldable pub unit_drawn_of : MonteCarloRng → Unit
+unfoldable pub unit_drawn_of : MonteCarloRng → Next Float
 unit_drawn_of s = record { value = unit_of (word_of s); stream = step_of s }
 
 -- fill_bytes of n bytes spends a whole word on each eight and on a short tail

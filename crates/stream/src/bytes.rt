@@ -24,10 +24,9 @@ pub fn word_at(bytes: &[u8], at: usize) -> u64
 pub fn put_word(dest: &mut [u8], at: usize, word: u64)
     ensures { dest.new ≡ sets dest.old at (bytes_of 8 word) }
 {
-    let mut rest = word;
-    for i in at..at.saturating_add(8).min(dest.len()) {
-        dest[i] = (rest % 256) as u8;
-        rest = rest / 256;
+    let end = at.saturating_add(8).min(dest.len());
+    if at < end {
+        dest[at..end].copy_from_slice(&word.to_le_bytes()[..end - at]);
     }
 }
 

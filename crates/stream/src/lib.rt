@@ -24,24 +24,10 @@ pub struct MonteCarloRng {
     pub s3: u64,
 }
 
-// A word, and the stream after it.
+// A value, and the stream after it.
 #[derive(Clone, Copy)]
-pub struct Word {
-    pub value: u64,
-    pub stream: MonteCarloRng,
-}
-
-// The upper half of a word, and the stream after it.
-#[derive(Clone, Copy)]
-pub struct Half {
-    pub value: u32,
-    pub stream: MonteCarloRng,
-}
-
-// A number of [0, 1 - 2^-53], and the stream after it.
-#[derive(Clone, Copy)]
-pub struct Unit {
-    pub value: f64,
+pub struct Next<T> {
+    pub value: T,
     pub stream: MonteCarloRng,
 }
 
@@ -207,14 +193,14 @@ impl MonteCarloRng {
     }
 
     // The next word, and the stream after it.
-    pub fn next_u64(self) -> Word
+    pub fn next_u64(self) -> Next<u64>
         ensures { result ≡ drawn_of self }
     {
         let value = self.s1.wrapping_mul(5).rotate_left(7).wrapping_mul(9);
         let t = self.s1 << 17;
         let s2 = self.s2 ^ self.s0;
         let s3 = self.s3 ^ self.s1;
-        Word {
+        Next {
             value,
             stream: MonteCarloRng {
                 s0: self.s0 ^ s3,
@@ -226,24 +212,24 @@ impl MonteCarloRng {
     }
 
     // The upper half of the next word, and the stream after it.
-    pub fn next_u32(self) -> Half
+    pub fn next_u32(self) -> Next<u32>
         ensures { result ≡ upper_of self }
     {
         let word = self.next_u64();
         let stream = word.stream;
-        Half {
+        Next {
             value: (word.value >> 32) as u32,
             stream,
         }
     }
 
     // The unit draw of the next word, and the stream after it.
-    pub fn unit(self) -> Unit
+    pub fn unit(self) -> Next<f64>
         ensures { result ≡ unit_drawn_of self }
     {
         let word = self.next_u64();
         let stream = word.stream;
-        Unit {
+        Next {
             value: unit_of(word.value),
             stream,
         }

@@ -1,4 +1,5 @@
-// The update of a tree in lent memory: children first, then the bins' accumulators, then the bins grid's own and its probabilities.
+// The update of a tree in lent memory: children first, then the bins' accumulators, then the bins grid's own and its probabilities. A rule's
+// values stay a slice of the table beside it: a rule that borrows would be no value of the definitions.
 ghost use Rattle.std.specs.Prelude.{◌≡◌, ◌||◌, ◌+◌, ◌-◌, ◌*◌, ◌≤◌, ◌<◌, length, get_or};
 ghost use Rattle.model.specs.Update.{idle, raw_of};
 ghost use Rattle.lent.specs.Memory.{memory};
@@ -28,7 +29,7 @@ fn update_account(reals: &mut [f64], counts: &mut [u64], r: usize, c: usize) -> 
     }
 }
 
-// A bins grid's plan in numbers, and where its reals and counts begin.
+// A bins grid's plan in numbers, and where its reals and counts begin. Other crates ask less of a run, each at its own place.
 #[derive(Clone, Copy)]
 pub struct BinsAt {
     pub bins: usize,

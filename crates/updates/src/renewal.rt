@@ -1,4 +1,5 @@
-// The update of axes in lent memory: each axis is judged on work slices, and written only once it is known to be accepted.
+// The update of axes in lent memory: each axis is judged on work slices, and written only once it is known to be accepted. An axis's place
+// is most, r and c, as in ground's `accounts`.
 ghost use Rattle.std.specs.Prelude.{List, ◌≡◌, ◌&&◌, [], ◌+◌, ◌*◌, ◌≤◌, length, get_or};
 ghost use Rattle.doubles.specs.Total.{all_finite};
 ghost use Rattle.axis.specs.Scans.{all_bounded};

@@ -1,4 +1,5 @@
-// The update as a call: worked out on the spare, judged whole, and only then copied back.
+// The update as a call: worked out on the spare, judged whole, and only then copied back. The two rates stay two, as the call has them: below
+// an axes grid one goes on, at a bins grid both.
 ghost use Rattle.std.specs.Prelude.{◌≡◌, length};
 ghost use Rattle.doubles.specs.Refusal.{fault_of};
 ghost use Rattle.plan.specs.Paper.{gives};

@@ -3,6 +3,7 @@ use mathlib.Core.Path.{sym, ap, ap₂, ◌∙◌}
 use native.Mathlib.Omega.{arith}
 use Rattle.model.specs.Sound.{sound}
 use Rattle.lent.specs.Tree.{head_at}
+use Rattle.lent.specs.Lent.{head_in}
 use Rattle.lent.specs.Sampled.{ChildLaid}
 use mathlib.Core.Bool.{true}
 use Rattle.lent.specs.Matched.{obstacle, grid_obstacle}
@@ -23,7 +24,7 @@ pub bin_obstacle-returns : goal.bin_obstacle-returns
 bin_obstacle-returns t c = bin-joined _ _ _ _ _ _ _ c.bin_own_obstacle-own.ensures c.child_obstacle-below.ensures c.worse.ensures
 
 pub bins_obstacle-returns-then-n-many : goal.bins_obstacle-returns-then-n-many
-bins_obstacle-returns-then-n-many t c = many-differ _ _ _ _ _ _ _ _ _ _ _ _ _ (head_at c.args.other.now c.args.theirs.now c.args.tallies.now c.args.v) c.if-n-many.true
+bins_obstacle-returns-then-n-many t c = many-differ _ _ _ _ _ _ _ _ _ _ _ _ _ (head_in c.args.o c.args.v) c.if-n-many.true
 
 pub bins_obstacle-account_fits-fits-requires : goal.bins_obstacle-account_fits-fits-requires
 unfolding head_at
@@ -59,40 +60,40 @@ pub child_obstacle-returns : goal.child_obstacle-returns
 child_obstacle-returns t c = c.grid_obstacle.ensures ∙ both-there _ _ _ _ c.if-link-eq0.false c.if-far-eq0-2.false
 
 pub grid_obstacle-axes_obstacle-requires : goal.grid_obstacle-axes_obstacle-requires
-grid_obstacle-axes_obstacle-requires t c = (laid-axes _ _ _ _ _ c.requires.0 c.if-table-w-eq1.true, laid-axes _ _ _ _ _ c.requires.1 c.if-other-v-eq1.true, sym (ap sound (node-axes c.args.level c.args.table.now _ _ c.args.w c.if-table-w-eq1.true)) ∙ c.requires.2, sym (ap sound (node-axes c.args.level c.args.other.now _ _ c.args.v c.if-other-v-eq1.true)) ∙ c.requires.3)
+grid_obstacle-axes_obstacle-requires t c = (laid-axes _ _ _ _ _ c.requires.0 c.if-m-w-eq1.true, laid-axes _ _ _ _ _ c.requires.1 c.if-o-v-eq1.true, sym (ap sound (node-axes c.args.level c.args.m.table.now _ _ c.args.w c.if-m-w-eq1.true)) ∙ c.requires.2, sym (ap sound (node-axes c.args.level c.args.o.table.now _ _ c.args.v c.if-o-v-eq1.true)) ∙ c.requires.3)
 
-pub grid_obstacle-returns-then-other-v-eq1 : goal.grid_obstacle-returns-then-other-v-eq1
-grid_obstacle-returns-then-other-v-eq1 t c = c.axes_obstacle.ensures ∙ sym (ap₂ grid_obstacle (node-axes c.args.level c.args.table.now _ _ c.args.w c.if-table-w-eq1.true) (node-axes c.args.level c.args.other.now _ _ c.args.v c.if-other-v-eq1.true))
+pub grid_obstacle-returns-then-o-v-eq1 : goal.grid_obstacle-returns-then-o-v-eq1
+grid_obstacle-returns-then-o-v-eq1 t c = c.axes_obstacle.ensures ∙ sym (ap₂ grid_obstacle (node-axes c.args.level c.args.m.table.now _ _ c.args.w c.if-m-w-eq1.true) (node-axes c.args.level c.args.o.table.now _ _ c.args.v c.if-o-v-eq1.true))
 
-pub grid_obstacle-returns-then-table-w-eq1 : goal.grid_obstacle-returns-then-table-w-eq1
-grid_obstacle-returns-then-table-w-eq1 t c = first-axes _ _ _ _ _ _ _ _ _ c.if-table-w-eq1.true c.if-other-v-eq1.false (laid-bins _ _ _ _ _ c.requires.1 c.if-other-v-eq1.false).level
+pub grid_obstacle-returns-then-m-w-eq1 : goal.grid_obstacle-returns-then-m-w-eq1
+grid_obstacle-returns-then-m-w-eq1 t c = first-axes _ _ _ _ _ _ _ _ _ c.if-m-w-eq1.true c.if-o-v-eq1.false (laid-bins _ _ _ _ _ c.requires.1 c.if-o-v-eq1.false).level
 
-pub grid_obstacle-returns-then-other-v-eq1-2 : goal.grid_obstacle-returns-then-other-v-eq1-2
-grid_obstacle-returns-then-other-v-eq1-2 t c = second-axes _ _ _ _ _ _ _ _ _ c.if-table-w-eq1.false c.if-other-v-eq1-2.true (laid-bins _ _ _ _ _ c.requires.0 c.if-table-w-eq1.false).level
+pub grid_obstacle-returns-then-o-v-eq1-2 : goal.grid_obstacle-returns-then-o-v-eq1-2
+grid_obstacle-returns-then-o-v-eq1-2 t c = second-axes _ _ _ _ _ _ _ _ _ c.if-m-w-eq1.false c.if-o-v-eq1-2.true (laid-bins _ _ _ _ _ c.requires.0 c.if-m-w-eq1.false).level
 
 pub grid_obstacle-bins_obstacle-requires : goal.grid_obstacle-bins_obstacle-requires
-grid_obstacle-bins_obstacle-requires t c = let d = (laid-bins _ _ _ _ _ c.requires.0 c.if-table-w-eq1.false) in let e = laid-bins _ _ _ _ _ c.requires.1 c.if-other-v-eq1-2.false in (omega (arith, c.decreases, d.level), (d.bins, e.bins, sym (ap sound (node-bins c.args.level c.args.table.now _ _ c.args.w c.if-table-w-eq1.false (laid-bins _ _ _ _ _ c.requires.0 c.if-table-w-eq1.false).level)) ∙ c.requires.2, sym (ap sound (node-bins c.args.level c.args.other.now _ _ c.args.v c.if-other-v-eq1-2.false e.level)) ∙ c.requires.3))
+grid_obstacle-bins_obstacle-requires t c = let d = (laid-bins _ _ _ _ _ c.requires.0 c.if-m-w-eq1.false) in let e = laid-bins _ _ _ _ _ c.requires.1 c.if-o-v-eq1-2.false in (omega (arith, c.decreases, d.level), (d.bins, e.bins, sym (ap sound (node-bins c.args.level c.args.m.table.now _ _ c.args.w c.if-m-w-eq1.false (laid-bins _ _ _ _ _ c.requires.0 c.if-m-w-eq1.false).level)) ∙ c.requires.2, sym (ap sound (node-bins c.args.level c.args.o.table.now _ _ c.args.v c.if-o-v-eq1-2.false e.level)) ∙ c.requires.3))
 
 pub grid_obstacle-returns : goal.grid_obstacle-returns
-grid_obstacle-returns t c = c.bins_obstacle.ensures ∙ sym (ap₂ grid_obstacle (node-bins c.args.level c.args.table.now _ _ c.args.w c.if-table-w-eq1.false (laid-bins _ _ _ _ _ c.requires.0 c.if-table-w-eq1.false).level) (node-bins c.args.level c.args.other.now _ _ c.args.v c.if-other-v-eq1-2.false (laid-bins _ _ _ _ _ c.requires.0 c.if-table-w-eq1.false).level))
+grid_obstacle-returns t c = c.bins_obstacle.ensures ∙ sym (ap₂ grid_obstacle (node-bins c.args.level c.args.m.table.now _ _ c.args.w c.if-m-w-eq1.false (laid-bins _ _ _ _ _ c.requires.0 c.if-m-w-eq1.false).level) (node-bins c.args.level c.args.o.table.now _ _ c.args.v c.if-o-v-eq1-2.false (laid-bins _ _ _ _ _ c.requires.0 c.if-m-w-eq1.false).level))
 
-pub grid_obstacle-bounds-table-w : goal.grid_obstacle-bounds-table-w
-grid_obstacle-bounds-table-w t c = omega (arith, laid-head _ _ _ _ _ c.requires.0)
+pub grid_obstacle-bounds-m-w : goal.grid_obstacle-bounds-m-w
+grid_obstacle-bounds-m-w t c = omega (arith, laid-head _ _ _ _ _ c.requires.0)
 
-pub grid_obstacle-bounds-other-v : goal.grid_obstacle-bounds-other-v
-grid_obstacle-bounds-other-v t c = omega (arith, laid-head _ _ _ _ _ c.requires.1)
+pub grid_obstacle-bounds-o-v : goal.grid_obstacle-bounds-o-v
+grid_obstacle-bounds-o-v t c = omega (arith, laid-head _ _ _ _ _ c.requires.1)
 
-pub grid_obstacle-offset_bounds-other-v : goal.grid_obstacle-offset_bounds-other-v
-grid_obstacle-offset_bounds-other-v t c = omega (arith, laid-head _ _ _ _ _ c.requires.1)
+pub grid_obstacle-offset_bounds-o-v : goal.grid_obstacle-offset_bounds-o-v
+grid_obstacle-offset_bounds-o-v t c = omega (arith, laid-head _ _ _ _ _ c.requires.1)
 
-pub grid_obstacle-offset_bounds-other-v-2 : goal.grid_obstacle-offset_bounds-other-v-2
-grid_obstacle-offset_bounds-other-v-2 t c = omega (arith, laid-head _ _ _ _ _ c.requires.1)
+pub grid_obstacle-offset_bounds-o-v-2 : goal.grid_obstacle-offset_bounds-o-v-2
+grid_obstacle-offset_bounds-o-v-2 t c = omega (arith, laid-head _ _ _ _ _ c.requires.1)
 
-pub grid_obstacle-offset_bounds-table-w : goal.grid_obstacle-offset_bounds-table-w
-grid_obstacle-offset_bounds-table-w t c = omega (arith, laid-head _ _ _ _ _ c.requires.0)
+pub grid_obstacle-offset_bounds-m-w : goal.grid_obstacle-offset_bounds-m-w
+grid_obstacle-offset_bounds-m-w t c = omega (arith, laid-head _ _ _ _ _ c.requires.0)
 
-pub grid_obstacle-bounds-other-v-2 : goal.grid_obstacle-bounds-other-v-2
-grid_obstacle-bounds-other-v-2 t c = omega (arith, laid-head _ _ _ _ _ c.requires.1)
+pub grid_obstacle-bounds-o-v-2 : goal.grid_obstacle-bounds-o-v-2
+grid_obstacle-bounds-o-v-2 t c = omega (arith, laid-head _ _ _ _ _ c.requires.1)
 
 pub grid_obstacle-overflow_sub-level : goal.grid_obstacle-overflow_sub-level
-grid_obstacle-overflow_sub-level t c = omega (arith, (laid-bins _ _ _ _ _ c.requires.0 c.if-table-w-eq1.false).level)
+grid_obstacle-overflow_sub-level t c = omega (arith, (laid-bins _ _ _ _ _ c.requires.0 c.if-m-w-eq1.false).level)

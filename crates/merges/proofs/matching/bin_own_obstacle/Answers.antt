@@ -6,24 +6,24 @@ use Rattle.merges.proofs.matching.bin_own_obstacle.Goals as goal
 
 pub account_fits-fits-requires : goal.account_fits-fits-requires
 account_fits-fits-requires c = let mine = bin-there _ _ _ _ _ _ c.bin_place-b.ensures c.requires.0.bin c.requires.0.room c.requires.0.places in
-    let theirs = bin-there _ _ _ _ _ _ c.bin_place-o.ensures c.requires.1.bin c.requires.1.room c.requires.1.places in
-    (mine.1, mine.2, theirs.1, theirs.2, bin-own _ _ _ _ _ _ c.bin_place-b.ensures c.requires.2, bin-own _ _ _ _ _ _ c.bin_place-o.ensures c.requires.3)
+    let theirs = bin-there _ _ _ _ _ _ c.bin_place-far.ensures c.requires.1.bin c.requires.1.room c.requires.1.places in
+    (mine.1, mine.2, theirs.1, theirs.2, bin-own _ _ _ _ _ _ c.bin_place-b.ensures c.requires.2, bin-own _ _ _ _ _ _ c.bin_place-far.ensures c.requires.3)
 
-pub offset_bounds-reals-at : goal.offset_bounds-reals-at
-offset_bounds-reals-at c = let mine = bin-there _ _ _ _ _ _ c.bin_place-b.ensures c.requires.0.bin c.requires.0.room c.requires.0.places in
+pub offset_bounds-m-at : goal.offset_bounds-m-at
+offset_bounds-m-at c = let mine = bin-there _ _ _ _ _ _ c.bin_place-b.ensures c.requires.0.bin c.requires.0.room c.requires.0.places in
     omega (arith, mine.0)
 
-pub bounds-reals-at : goal.bounds-reals-at
-bounds-reals-at c = let mine = bin-there _ _ _ _ _ _ c.bin_place-b.ensures c.requires.0.bin c.requires.0.room c.requires.0.places in
+pub bounds-m-at : goal.bounds-m-at
+bounds-m-at c = let mine = bin-there _ _ _ _ _ _ c.bin_place-b.ensures c.requires.0.bin c.requires.0.room c.requires.0.places in
     omega (arith, mine.0)
 
-pub offset_bounds-theirs-from : goal.offset_bounds-theirs-from
-offset_bounds-theirs-from c = let theirs = bin-there _ _ _ _ _ _ c.bin_place-o.ensures c.requires.1.bin c.requires.1.room c.requires.1.places in
+pub offset_bounds-o-from : goal.offset_bounds-o-from
+offset_bounds-o-from c = let theirs = bin-there _ _ _ _ _ _ c.bin_place-far.ensures c.requires.1.bin c.requires.1.room c.requires.1.places in
     omega (arith, theirs.0)
 
-pub bounds-theirs-from : goal.bounds-theirs-from
-bounds-theirs-from c = let theirs = bin-there _ _ _ _ _ _ c.bin_place-o.ensures c.requires.1.bin c.requires.1.room c.requires.1.places in
+pub bounds-o-from : goal.bounds-o-from
+bounds-o-from c = let theirs = bin-there _ _ _ _ _ _ c.bin_place-far.ensures c.requires.1.bin c.requires.1.room c.requires.1.places in
     omega (arith, theirs.0)
 
 pub returns : goal.returns
-returns c = c.found_of.ensures ∙ bins-told _ _ _ _ _ _ _ c.bin_place-b.ensures c.bin_place-o.ensures c.args.reals.now c.args.counts.now c.args.theirs.now c.args.tallies.now c.account_fits-fits.result c.account_fits-fits.ensures
+returns c = c.found_of.ensures ∙ bins-told _ _ _ _ _ _ _ c.bin_place-b.ensures c.bin_place-far.ensures c.args.m.reals.now c.args.m.counts.now c.args.o.reals.now c.args.o.counts.now c.account_fits-fits.result c.account_fits-fits.ensures

@@ -2,7 +2,8 @@
 use borrow.Author.Rules.{rules}
 use native.Mathlib.Omega.{arith}
 use Rattle.lent.specs.Layout.{axis_reals}
-use Rattle.lent.specs.Merged.{merged_reals}
+use Rattle.recut.specs.Chances.{higher}
+use Rattle.lent.specs.Merged.{merged_reals, higher_of}
 use Rattle.merges.proofs.merging.merge_reals.Goals as goal
 
 pub join-requires : goal.join-requires
@@ -22,5 +23,5 @@ unfolding axis_reals
 join-requires-4 c = (omega arith, omega arith, search rules)
 
 pub returns : goal.returns
-unfolding merged_reals
+unfolding merged_reals higher higher_of
 returns c = search rules

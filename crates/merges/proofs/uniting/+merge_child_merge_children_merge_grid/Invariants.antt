@@ -16,4 +16,4 @@ abbrev pub decreases-merge_grid : goal.decreases-merge_grid
 decreases-merge_grid l = 3 * l.level
 
 abbrev pub invariant-merge_children-loop-i : goal.invariant-merge_children-loop-i
-invariant-merge_children-loop-i l = (length l.reals ≡ length l.initial.reals) × (length l.counts ≡ length l.initial.counts) × (united_children l.table l.other (memory l.theirs l.tallies) (united_grid l.table l.other (memory l.theirs l.tallies) l.level) l.w l.v l.i (l.n - l.i) (memory l.reals l.counts) ≡ united_children l.table l.other (memory l.theirs l.tallies) (united_grid l.table l.other (memory l.theirs l.tallies) l.level) l.w l.v 0 l.n (memory l.initial.reals l.initial.counts))
+invariant-merge_children-loop-i l = (length l.reals ≡ length l.initial.reals) × (length l.counts ≡ length l.initial.counts) × (united_children l.table l.o.table.now (memory l.o.reals.now l.o.counts.now) (united_grid l.table l.o.table.now (memory l.o.reals.now l.o.counts.now) l.level) l.w l.v l.i (l.n - l.i) (memory l.reals l.counts) ≡ united_children l.table l.o.table.now (memory l.o.reals.now l.o.counts.now) (united_grid l.table l.o.table.now (memory l.o.reals.now l.o.counts.now) l.level) l.w l.v 0 l.n (memory l.initial.reals l.initial.counts))

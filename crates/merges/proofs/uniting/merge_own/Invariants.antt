@@ -7,4 +7,4 @@ use Rattle.lent.specs.United.{united_bins}
 use Rattle.merges.proofs.uniting.merge_own.Given as goal
 
 abbrev pub invariant-loop-i : goal.invariant-loop-i
-invariant-loop-i l = (length l.reals ≡ length l.initial.reals) × (length l.counts ≡ length l.initial.counts) × (united_bins l.table l.other (memory l.theirs l.tallies) l.w l.v l.i (l.n - l.i) (memory l.reals l.counts) ≡ united_bins l.table l.other (memory l.theirs l.tallies) l.w l.v 0 l.n (memory l.initial.reals l.initial.counts))
+invariant-loop-i l = (length l.reals ≡ length l.initial.reals) × (length l.counts ≡ length l.initial.counts) × (united_bins l.table l.o.table.now (memory l.o.reals.now l.o.counts.now) l.w l.v l.i (l.n - l.i) (memory l.reals l.counts) ≡ united_bins l.table l.o.table.now (memory l.o.reals.now l.o.counts.now) l.w l.v 0 l.n (memory l.initial.reals l.initial.counts))

@@ -41,8 +41,12 @@ right b e p r lb le is-p is-r t n =
       near = subst (λ (z : ℕ). NearRoot ((b % 2 ^ 52 + 2 ^ 52) * (2 - b / 2 ^ 52 % 2) * 2 ^ 52) (z + 2 ^ 52)) j n;
     }
 
-at-if : (c : Then-top-rest) → Tested c.args.bits c.wrapping_sub_u64-rest.result
-at-if c = tested c.args.bits c.wrapping_sub_u64-rest.result c.if-top-rest.true
+-- what is left of e above the power of two, wrapped
+abbrev left : ℕ → ℕ → ℕ
+left e p = (e + (2 ^ 64 - p)) % 2 ^ 64
+
+at-if : (c : Then-top-rest) → Tested c.args.bits (left c.args.e c.power.result)
+at-if c = tested c.args.bits (left c.args.e c.power.result) c.if-top-rest.true
 
 pub overflow_add-rest : goal.overflow_add-rest
 overflow_add-rest c = let h = (at-if (goal.at.overflow_add-rest c).Then-top-rest).short in omega arith
@@ -54,7 +58,7 @@ pub is_sure-requires : goal.is_sure-requires
 is_sure-requires c = let h = (at-if (goal.at.is_sure-requires c).Then-top-rest).short in (omega arith, digits c.args.bits)
 
 pub returns-then-top-rest : goal.returns-then-top-rest
-returns-then-top-rest c h = right c.args.bits c.args.e c.power.result c.wrapping_sub_u64-rest.result (omega arith) (omega arith) c.power.ensures c.wrapping_sub_u64-rest.ensures.value (at-if (goal.at.returns-then-top-rest c).Then-top-rest) (c.is_sure.ensures h)
+returns-then-top-rest c h = right c.args.bits c.args.e c.power.result (left c.args.e c.power.result) (omega arith) (omega arith) c.power.ensures (omega (arith, c.power.ensures)) (at-if (goal.at.returns-then-top-rest c).Then-top-rest) (c.is_sure.ensures h)
 
 pub returns : goal.returns
 returns c h = absurd (false≢true h)

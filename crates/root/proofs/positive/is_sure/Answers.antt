@@ -1,5 +1,5 @@
 -- `is_sure`: three words, each small beside 2 ^ 64, so that what was wrapped is known, are the digits of the difference. Assumes nothing.
-use Rattle.std.proofs.Common.{◌≡◌, ℕ, ◌+◌, ◌-◌, ◌*◌, ◌/◌, ◌%◌, ◌^◌, ◌<◌, ◌≤◌, true, ◌&&◌, ltb, ap, ◌∙◌, subst, inl, inr, arith, ltb-false, ltb-true}
+use Rattle.std.proofs.Common.{◌≡◌, ℕ, ◌+◌, ◌-◌, ◌*◌, ◌/◌, ◌%◌, ◌^◌, ◌<◌, ◌≤◌, true, ◌&&◌, ltb, refl, ap, ◌∙◌, subst, inl, inr, arith, ltb-false, ltb-true}
 use Rattle.careful.specs.Digits.{NearRoot}
 use Rattle.doubles.proofs.Truth.{either, both}
 use Rattle.careful.proofs.Halves.{halves}
@@ -69,17 +69,11 @@ tells q d v w t z lq ld word is-v is-w is-t is-z y =
     let s = square-is q in
     record { high = subst (λ (k : ℕ). d * 2 ^ 52 ≤ k + q) s n.0; low = subst (λ (k : ℕ). k < d * 2 ^ 52 + q) s n.1 }
 
-pub overflow_mul-a : goal.overflow_mul-a
-overflow_mul-a c = let p = halves c.args.q c.requires.0 in omega arith
-
-pub overflow_mul-a-3 : goal.overflow_mul-a-3
-overflow_mul-a-3 c = let p = halves c.args.q c.requires.0 in omega arith
-
-pub overflow_mul-b : goal.overflow_mul-b
-overflow_mul-b c = let p = halves c.args.q c.requires.0 in omega arith
-
-pub overflow_add-b : goal.overflow_add-b
-overflow_add-b c = let p = halves c.args.q c.requires.0 in omega arith
+-- what is taken away, wrapping, gives the number back
+wrapped : (x y : ℕ) → x < 2 ^ 64 → y ≤ 2 ^ 64 → ((x + (2 ^ 64 - y)) % 2 ^ 64 + y) % 2 ^ 64 ≡ x
+wrapped x y h l = omega arith
 
 pub returns : goal.returns
-returns c = tells c.args.q c.args.d c.wrapping_sub_u64-v.result c.wrapping_sub_u64-w.result c.wrapping_add_u64.result c.wrapping_add_u64-rest.result c.requires.0 c.requires.1 (omega arith) c.wrapping_sub_u64-v.ensures.value c.wrapping_sub_u64-w.ensures.value c.wrapping_add_u64.ensures.value c.wrapping_add_u64-rest.ensures.value
+returns c =
+    let p = halves c.args.q c.requires.0 in
+    tells c.args.q c.args.d _ _ _ _ c.requires.0 c.requires.1 (omega arith) (wrapped _ _ (omega arith) (omega arith)) (wrapped _ _ (omega arith) (omega arith)) refl refl

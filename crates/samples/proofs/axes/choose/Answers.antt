@@ -1,8 +1,8 @@
 -- The model's three cases, each by the test that was passed.
 use mathlib.Core.Path.{sym, ap}
-use lib.Ieee.{lt}
+use lib.Ieee.{Float, lt}
 use Rattle.doubles.specs.Numbers.{one64}
-use Rattle.stream.specs.declared.Unit.{Unit}
+use Rattle.stream.specs.declared.Next.{Next}
 use Rattle.stream.specs.Calls.{unit_drawn_of}
 use Rattle.model.specs.Draw.{unit_at, walked, placed_from}
 use Rattle.samples.proofs.axes.choose.Goals as goal
@@ -17,4 +17,4 @@ returns-then-floor-2 c axs = rw (c.if-floor.false, c.if-floor-2.true)
 
 pub returns : goal.returns
 unfolding placed_from unit_drawn_of unit_at
-returns c axs = rw (c.if-floor.false, c.if-floor-2.false) (ap (λ (u : Unit). walked (lt u.value c.args.floor) axs one64 u.stream) (sym c.unit-unit.ensures))
+returns c axs = rw (c.if-floor.false, c.if-floor-2.false) (ap (λ (u : Next Float). walked (lt u.value c.args.floor) axs one64 u.stream) (sym c.unit-unit.ensures))

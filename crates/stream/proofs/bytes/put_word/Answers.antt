@@ -1,16 +1,15 @@
--- `put_word` stores the word's bytes one by one, until none is left or the room ends.
-use Rattle.std.proofs.Common.{◌≡◌, ◌+◌, ◌-◌, ◌<◌, sym, ◌∙◌, arith}
-use Rattle.stream.proofs.Fills.{put_on, put-done}
+-- `put_word` copies std's bytes of the word, as many as there is room for: these are the stores that change anything.
+use Rattle.std.proofs.Common.{◌-◌, ap, take, sym, ◌∙◌, arith}
+use Rattle.stream.specs.Bytes.{bytes_of}
+use Rattle.stream.proofs.Fills.{le-bytes, length-bytes, copied, sets-out}
 use Rattle.stream.proofs.bytes.put_word.Goals as goal
 
-pub loop-i-init : goal.loop-i-init
-loop-i-init c = let e : 8 - (c.args.at - c.args.at) ≡ 8 = omega arith in rw e
+pub returns-then-at-end : goal.returns-then-at-end
+returns-then-at-end c =
+    let k = c.min-end.result - c.args.at in
+    let eight = length-bytes 8 c.args.word in
+    copied c.args.dest.now (bytes_of 8 c.args.word) _ c.args.at k (omega arith) (omega arith) (λ h. omega arith)
+    (c.copy_from_slice.ensures.after ∙ ap (take k) (c.to_le_bytes.ensures ∙ le-bytes c.args.word))
 
-pub loop-i-preserved : goal.loop-i-preserved
-loop-i-preserved c =
-    let some : 0 < 8 - (c.loop-i.i - c.args.at) = omega arith in
-    let less : 8 - (c.loop-i.i + 1 - c.args.at) ≡ 8 - (c.loop-i.i - c.args.at) - 1 = omega arith in
-    rw less (sym (put_on _ _ _ _ some) ∙ c.loop-i.invariant)
-
-pub returns : goal.returns
-returns c = sym (put-done _ _ _ _ (λ h. omega arith)) ∙ c.loop-i.invariant
+pub returns-else-at-end : goal.returns-else-at-end
+returns-else-at-end c = sym (sets-out (bytes_of 8 c.args.word) c.args.dest.now c.args.at (omega arith))

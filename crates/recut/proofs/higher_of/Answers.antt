@@ -1,6 +1,6 @@
 -- One comparison, the definition's: the second where it is above the first, else the first.
 use Rattle.recut.specs.Chances.{higher}
-use Rattle.recut.proofs.chances.higher_of.Goals as goal
+use Rattle.recut.proofs.higher_of.Goals as goal
 
 pub returns-then-top-p : goal.returns-then-top-p
 unfolding higher
