@@ -1,7 +1,7 @@
 // StatisticsAccumulator: sums of samples, and the average, error and chi-squared over all iterations, as the Rust has them.
 //
 // One record of doubles and counts, passed and returned by value. Each call judges the record it is given (12) before all
-// else, and a refusal's number is its whole answer.
+// else, and a refusal is its whole answer.
 #![tactic(auto)]
 
 mod judge;
@@ -180,7 +180,8 @@ impl StatisticsAccumulator {
         Ok(steps::cleared(self))
     }
 
-    // The record with its waiting samples processed, where there are at least two, and whether they were. Refused: 12, 8.
+    // The record with its waiting samples processed, where there are at least two, and whether they were. Refused: 12, 8. The flag is the Rust's
+    // parameter, and so no enum.
     // The two calls are the same, and the compiler makes one of them; but for the second it would take `figures_of` in where nothing else
     // calls it, and leave this function a call (docs/BENCHMARK.md).
     pub fn update_iter(self, weighted_average: bool) -> Result<Updated, Refusal>

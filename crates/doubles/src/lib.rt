@@ -1,5 +1,5 @@
 // The doubles: the laws in proofs/ that the crates above cite, with the definitions that they need, and what both the root and
-// the logarithm ask of a double before they begin.
+// the logarithm ask of a double before they begin. And the document's refusals by name, which all crates' answers have.
 #![tactic(auto)]
 
 mod refusal;

@@ -23,7 +23,7 @@ fn missing(last: bool) -> Standing
     Standing::Waiting
 }
 
-// The field of this tag and length.
+// The field of this tag and length. The tag is a byte of the format, as in `plan`.
 #[tactic(auto, using(std::proofs::lemmas::Bool::Decides::nat_tests), unfolding(crate::specs::Fields::standing_of))]
 pub fn stands(bytes: &[u8], tag: u8, size: usize, last: bool) -> Standing
     requires { size ≤ 16 }

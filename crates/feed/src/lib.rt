@@ -82,7 +82,8 @@ pub fn is_over(run: Run) -> bool
 }
 
 // One turn: the plan, the stream's field, a row of at most 256 samples, or an update. A turn that waits or refuses leaves the table and
-// the grid's memory as they were; but a refused sample's row leaves what the samples before it left.
+// the grid's memory as they were; but a refused sample's row leaves what the samples before it left. `last` says that nothing comes behind these
+// bytes, which only the caller knows.
 pub fn turn(
     run: Run,
     bytes: &[u8],

@@ -2,7 +2,7 @@
 ghost use Rattle.std.specs.Prelude.{◌≡◌};
 ghost use Rattle.std.proofs.lemmas.List.Edits.{sets};
 
-// Writes a part over the entries from a place on, as many as there is room for.
+// Writes a part over the entries from a place on, as many as there is room for; `plan`, below this, has its own for words.
 pub fn set<T: Copy>(entries: &mut [T], at: usize, part: &[T])
     ensures { entries.new ≡ sets entries.old at part.now }
 {

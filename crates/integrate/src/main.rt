@@ -33,7 +33,8 @@ struct Poured {
     goes: bool,
 }
 
-// A run after a read: how many bytes at the front of the text are still to be taken, and whether there is more to read.
+// A run after a read: how many bytes at the front of the text are still to be taken, and whether there is more to read; in either case the run
+// counts.
 #[derive(Clone, Copy)]
 struct Fed {
     run: Run,

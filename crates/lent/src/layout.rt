@@ -39,7 +39,7 @@ fn no_place() -> AxesAt
     }
 }
 
-// Where the axes of an axes grid stand whose run lies in the table.
+// Where the axes of an axes grid stand whose run lies in the table; `samples` has its own, since this one asks.
 fn place_there(table: &[u64], w: usize) -> AxesAt
     requires { (w + 11 ≤ length table.now) × (get_or table.now (w + 9) 0 ≤ 2 ^ 63) × (get_or table.now (w + 10) 0 ≤ 2 ^ 63) }
     ensures { result ≡ axes_place table.now w }

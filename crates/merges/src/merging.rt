@@ -1,6 +1,7 @@
 // Merging the axes of a grid with those of another in another memory: whether the two fit together, and the merge itself.
 //
-// The loops over axes stay `while`: what holds in them is said of the axes left, and a range's index would want a clause that ties it to them.
+// The loops over axes stay `while`: the axes left are a field of the struct that goes on, and what holds is said of it. A range beside it would
+// count them a second time, for nothing where no index is needed.
 ghost use Rattle.std.specs.Prelude.{◌≡◌, true, ◌+◌, ◌≤◌, length, get_or};
 ghost use Rattle.doubles.specs.Total.{all_finite};
 ghost use Rattle.axis.specs.Scans.{all_bounded};

@@ -258,7 +258,8 @@ fn nothing_field(bytes: &[u8], p: Place) -> Result<BinPlan, Misread>
     })
 }
 
-// The field at a place, judged, with so many levels of bins grids left.
+// The field at a place, judged, with so many levels of bins grids left. A field's tag is a byte of the format, here and in `feed`, and is read
+// once: what it says comes out as a `Child`.
 #[tactic(auto, using(std::proofs::lemmas::Bool::Decides::nat_tests), unfolding(crate::specs::Fields::field_of))]
 pub fn field_at(bytes: &[u8], level: usize, p: Place) -> Result<BinPlan, Misread>
     requires { Inside bytes.now p }

@@ -37,7 +37,7 @@ pub struct AxesPlan {
     pub values: usize,
 }
 
-// A bins grid's plan: the numbers of its 03.
+// A bins grid's plan: the numbers of its 03, the flag a byte as in an axes grid's.
 #[derive(Clone, Copy)]
 pub struct BinsPlan {
     pub bins: usize,

@@ -7,7 +7,7 @@ ghost use Rattle.plan.specs.Bounds.{Inside};
 use crate::fields::field_at;
 use crate::{Child, Misread, Place};
 
-// Judges what hangs at a place, and says what is taken past it.
+// Judges what hangs at a place, and says what is taken past it; beside `known`, which says why they are two.
 #[cycle(measure_measure_all)]
 pub fn measure(level: usize, p: Place, bytes: &[u8]) -> Result<Place, Misread>
     requires { Inside bytes.now p }

@@ -18,8 +18,8 @@ use judges::state;
 use lent::{AxesAt, layout};
 use plan::Needs;
 
-// Nothing waits in any axis: edges, importances, extremes, counters and re-cuts stay. A `while`: what holds in it is said
-// of the axes left, and a range's index would want a clause that ties it to them.
+// Nothing waits in any axis: edges, importances, extremes, counters and re-cuts stay. A `while`: the axes left are a field
+// of the struct that goes on, and a range beside it would count them a second time, for nothing where no index is needed.
 pub fn clear_axes(reals: &mut [f64], counts: &mut [u64], g: AxesAt)
     requires { Stands reals.old counts.old g }
     ensures { memory reals.new counts.new ≡ cleared_memory g (memory reals.old counts.old) }

@@ -22,7 +22,8 @@ pub fn lines_of(list: &[u8]) -> Lines {
     }
 }
 
-// The number of the refusal that an input ends in, 0 where it ends in none: a place of the tally's list, as the input's line has it.
+// The number of the refusal that an input ends in, 0 where it ends in none: a place of the tally's list, as the input's line
+// has it, and so no Option that would be turned back into one.
 pub fn ends_in(list: &[u8]) -> usize
     ensures { result < 13 }
 {

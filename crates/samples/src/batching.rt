@@ -9,7 +9,7 @@ use doubles::Refusal;
 use lent::{Batched, Lent, Sample};
 use stream::MonteCarloRng;
 
-// Draws a sample and trains it: what is drawn has the grid's form. Refused, nothing is written and the stream is the one before the draw.
+// Draws a sample and trains it: what is drawn has the grid's form. Refused, nothing is written, and the caller goes on with the stream it has.
 // The sample is drawn into one that is lent, whatever it holds: made here it would be filled with zeros for every draw.
 fn step(
     table: &[u64],

@@ -55,7 +55,7 @@ none false y fault e d = absurd (told (sym e ∙ eq-eqb fault 0 (sym d)))
 none true false fault e d = absurd (omega (arith, d))
 none true true fault e d = (eqb-true fault 0 e, refl)
 
-nothing-refuses : (fault : ℕ) (bins_rate axes_rate : Float) → 0 ≡ refused_for fault bins_rate axes_rate → (fault ≡ 0) × ((rate_fits bins_rate && rate_fits axes_rate) ≡ true)
+pub nothing-refuses : (fault : ℕ) (bins_rate axes_rate : Float) → 0 ≡ refused_for fault bins_rate axes_rate → (fault ≡ 0) × ((rate_fits bins_rate && rate_fits axes_rate) ≡ true)
 unfolding refused_for
 nothing-refuses fault bins_rate axes_rate d = none (eqb fault 0) (rate_fits bins_rate && rate_fits axes_rate) fault refl d
 

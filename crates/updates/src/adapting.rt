@@ -29,7 +29,8 @@ fn update_account(reals: &mut [f64], counts: &mut [u64], r: usize, c: usize) -> 
     }
 }
 
-// A bins grid's plan in numbers, and where its reals and counts begin. Other crates ask less of a run, each at its own place.
+// A bins grid's plan in numbers, and where its reals and counts begin. `merges` asks where one bin stands (`BinAt`),
+// this what a whole run says.
 #[derive(Clone, Copy)]
 pub struct BinsAt {
     pub bins: usize,
