@@ -3,52 +3,52 @@
 ghost use Rattle.std.specs.Prelude.{◌*◌, ◌≤◌, length};
 
 use crate::call::Call;
-use crate::memory::{Lent, Memory};
+use crate::memory::{Memory, Rooms};
 use crate::tally::Tally;
 use crate::{list, reads, writes};
 use answers::{below, load, word};
 
 // One call, at the list's begin: whether it agrees.
-fn replay_call(list: &[u8], call: Call, lent: &mut Lent) -> bool {
+fn replay_call(list: &[u8], call: Call, rooms: &mut Rooms) -> bool {
     match call {
         Call::Fresh => false,
-        Call::Draw => reads::draw(list, lent),
-        Call::Probe => reads::probe(list, lent),
-        Call::Summary => reads::summary(list, lent),
-        Call::LiveEstimate => reads::live(list, lent),
-        Call::LiveEstimateOfBin => reads::live_of_bin(list, lent),
-        Call::Train => writes::train(list, lent),
-        Call::Update => writes::update(list, lent),
-        Call::CloneWithoutSamples => writes::copy(list, lent),
-        Call::IsMergeable => writes::is_mergeable(list, lent),
-        Call::Merge => writes::merge(list, lent),
-        Call::SetCell => writes::set_cell(list, lent),
-        Call::DrawAndTrain => writes::draw_and_train(list, lent),
+        Call::Draw => reads::draw(list, rooms),
+        Call::Probe => reads::probe(list, rooms),
+        Call::Summary => reads::summary(list, rooms),
+        Call::LiveEstimate => reads::live(list, rooms),
+        Call::LiveEstimateOfBin => reads::live_of_bin(list, rooms),
+        Call::Train => writes::train(list, rooms),
+        Call::Update => writes::update(list, rooms),
+        Call::CloneWithoutSamples => writes::copy(list, rooms),
+        Call::IsMergeable => writes::is_mergeable(list, rooms),
+        Call::Merge => writes::merge(list, rooms),
+        Call::SetCell => writes::set_cell(list, rooms),
+        Call::DrawAndTrain => writes::draw_and_train(list, rooms),
     }
 }
 
 // The plan at the list's begin laid; whether it was not refused.
-fn lay_plan(list: &[u8], room: &mut [u8; 2048], lent: &mut Lent) -> bool {
+fn lay_plan(list: &[u8], room: &mut [u8; 2048], rooms: &mut Rooms) -> bool {
     let size = below(list, 1, 2048);
     load(list, 2, room);
     grid::fresh(
         &room[..size],
-        &mut lent.table,
-        &mut lent.own.reals,
-        &mut lent.own.counts,
+        &mut rooms.table,
+        &mut rooms.own.reals,
+        &mut rooms.own.counts,
     )
     .is_ok()
 }
 
 // The calls of the plan at the list's begin, which is laid. A call of no number is counted as a plan that is not laid. A `while`, here and
 // below, since a record says how long it is.
-fn replay_calls(list: &[u8], tally: &mut Tally, lent: &mut Lent) {
+fn replay_calls(list: &[u8], tally: &mut Tally, rooms: &mut Rooms) {
     let mut at = list::first_call(list);
     let end = list::words_of(list);
     while at < end {
         let here = &list[at * 17..];
         let call = Call::try_from(word(here, 1)).unwrap_or(Call::Fresh);
-        tally.count(call, replay_call(here, call, lent));
+        tally.count(call, replay_call(here, call, rooms));
         at += 1 + below(here, 0, 64);
     }
 }
@@ -56,14 +56,14 @@ fn replay_calls(list: &[u8], tally: &mut Tally, lent: &mut Lent) {
 // The plan at the list's begin laid on a state of zeros, where the table holds other numbers, and its calls.
 fn replay_plan(list: &[u8], tally: &mut Tally) {
     let mut room = [0u8; 2048];
-    let mut lent = Lent {
+    let mut rooms = Rooms {
         table: [1; 8192],
         own: Memory::new(),
         other: Memory::new(),
         stream: list::stream_of(list),
     };
-    tally.count(Call::Fresh, lay_plan(list, &mut room, &mut lent));
-    replay_calls(list, tally, &mut lent);
+    tally.count(Call::Fresh, lay_plan(list, &mut room, &mut rooms));
+    replay_calls(list, tally, &mut rooms);
 }
 
 // The plans of a list of so many words one after the other, each with its calls.

@@ -12,7 +12,7 @@ pub struct Memory {
 
 // A plan's table, two states of its grid, and the stream of its draws. Calls are made on the first state.
 #[derive(Drop)]
-pub struct Lent {
+pub struct Rooms {
     pub table: [u64; 8192],
     pub own: Memory,
     pub other: Memory,
@@ -26,7 +26,7 @@ pub fn set<T: Copy>(entries: &mut [T], place: usize, x: T) {
     }
 }
 
-impl Lent {
+impl Rooms {
     // A sample drawn from the stream.
     pub fn draw(&mut self) -> Result<Sample, Refusal> {
         let drawing = grid::draw(&self.table, &self.own.reals, &self.own.counts, self.stream)?;

@@ -2,25 +2,25 @@
 ghost use Rattle.std.specs.Prelude.{◌<◌};
 
 use crate::list::{holds_answer, holds_doubles, holds_sample, holds_stream, path_at, region_at};
-use crate::memory::Lent;
+use crate::memory::Rooms;
 use answers::{bits, holds, word};
 use grid::{Estimate, Refusal, Summary};
 
 // draw
-pub fn draw(list: &[u8], lent: &mut Lent) -> bool {
-    let drawn = lent.draw();
-    let stream = lent.stream;
+pub fn draw(list: &[u8], rooms: &mut Rooms) -> bool {
+    let drawn = rooms.draw();
+    let stream = rooms.stream;
     holds_answer(list, 2, drawn, |_, sample| {
         holds_sample(list, sample) & holds_stream(list, stream)
     })
 }
 
 // probe
-pub fn probe(list: &[u8], lent: &Lent) -> bool {
+pub fn probe(list: &[u8], rooms: &Rooms) -> bool {
     let answer = grid::probe(
-        &lent.table,
-        &lent.own.reals,
-        &lent.own.counts,
+        &rooms.table,
+        &rooms.own.reals,
+        &rooms.own.counts,
         region_at(list),
     );
     holds_answer(
@@ -43,8 +43,8 @@ fn holds_summary(list: &[u8], at: usize, s: Summary) -> bool {
 }
 
 // summary
-pub fn summary(list: &[u8], lent: &Lent) -> bool {
-    let answer = grid::summary(&lent.table, &lent.own.reals, &lent.own.counts);
+pub fn summary(list: &[u8], rooms: &Rooms) -> bool {
+    let answer = grid::summary(&rooms.table, &rooms.own.reals, &rooms.own.counts);
     holds_answer(list, 2, answer, |at, s| holds_summary(list, at, s))
 }
 
@@ -58,17 +58,17 @@ fn holds_estimate(list: &[u8], at: usize, answer: Result<Estimate, Refusal>) -> 
 }
 
 // live_estimate
-pub fn live(list: &[u8], lent: &Lent) -> bool {
-    let answer = grid::live_estimate(&lent.table, &lent.own.reals, &lent.own.counts);
+pub fn live(list: &[u8], rooms: &Rooms) -> bool {
+    let answer = grid::live_estimate(&rooms.table, &rooms.own.reals, &rooms.own.counts);
     holds_estimate(list, 2, answer)
 }
 
 // live_estimate_of_bin
-pub fn live_of_bin(list: &[u8], lent: &Lent) -> bool {
+pub fn live_of_bin(list: &[u8], rooms: &Rooms) -> bool {
     let answer = grid::live_estimate_of_bin(
-        &lent.table,
-        &lent.own.reals,
-        &lent.own.counts,
+        &rooms.table,
+        &rooms.own.reals,
+        &rooms.own.counts,
         path_at(list, 3),
         word(list, 2) as usize,
     );
