@@ -5,11 +5,10 @@ use feed::{Run, Turned, beginning, is_over, turn};
 pub type Room = [u8; 1024];
 
 // What a run is lent.
-#[derive(Drop)]
-struct Memory {
-    table: [u64; 16832],
-    reals: [f64; 2816],
-    counts: [u64; 1344],
+struct Memory<'a> {
+    table: &'a mut [u64; 16832],
+    reals: &'a mut [f64; 2816],
+    counts: &'a mut [u64; 1344],
 }
 
 // A run between turns: how many bytes they took, the place among the lines, whether the bytes behind the cut are there too, and whether
@@ -40,29 +39,25 @@ fn behind(list: &[u8], end: usize, fed: Fed, turned: Turned) -> Fed {
     }
 }
 
-impl Memory {
-    // Numbers other than 0.
-    fn new() -> Memory {
-        Memory {
-            table: [1; 16832],
-            reals: [1.0; 2816],
-            counts: [1; 1344],
-        }
-    }
-
+impl Memory<'_> {
     // One turn on the bytes that are not taken yet, up to a place. The spare holds other numbers.
-    fn step(&mut self, fed: Fed, bytes: &Room, until: usize) -> Turned {
+    fn step(self, fed: Fed, bytes: &Room, until: usize) -> Turned {
         let mut spare_reals = [1.0f64; 2816];
         let mut spare_counts = [1u64; 1344];
         let end = until.min(bytes.len());
         let from = fed.taken.min(end);
+        let Memory {
+            table,
+            reals,
+            counts,
+        } = self;
         turn(
             fed.run,
             &bytes[from..end],
             fed.last,
-            &mut self.table,
-            &mut self.reals,
-            &mut self.counts,
+            table,
+            reals,
+            counts,
             &mut spare_reals,
             &mut spare_counts,
         )
@@ -72,11 +67,18 @@ impl Memory {
 // An input of so many bytes cut in two: first the bytes before the cut, then all that is left. Whether its lines are the list's. The memory
 // holds other numbers before. The turns are at most as many as no input takes.
 fn feed_cut(list: &[u8], bytes: &Room, size: usize, cut: usize) -> bool {
-    let mut memory = Memory::new();
+    let mut table = [1; 16832];
+    let mut reals = [1.0; 2816];
+    let mut counts = [1; 1344];
     let lines = lines_of(list);
     let mut fed = begun(lines.from);
     for _ in 0..4096u64 {
         let until = if fed.last { size } else { cut };
+        let memory = Memory {
+            table: &mut table,
+            reals: &mut reals,
+            counts: &mut counts,
+        };
         let turned = memory.step(fed, bytes, until);
         fed = behind(list, lines.end, fed, turned);
         if !fed.goes {
