@@ -1,6 +1,6 @@
 // The list's sections: a rule that makes cases out of a base, and the code that each is to come to. A list here begins with the section
 // at hand.
-ghost use Rattle.std.specs.Prelude.{◌≡◌, ◌*◌, ◌<◌, ◌≤◌};
+ghost use Rattle.std.specs.Prelude.{◌≡◌, ◌+◌, ◌*◌, ◌%◌, ◌^◌, ◌<◌, ◌≤◌};
 
 use crate::codes;
 use crate::rule::Rule;
@@ -126,9 +126,12 @@ fn answer(s: Section, case: usize, base: &Base) -> u64
     codes::of_plan(&out[..n], s.whole, &mut table)
 }
 
-// The section's cases, each counted.
+// The section's cases, each counted: at most so many more agree.
+#[tactic(auto, unfolding(answers::specs::Replayed::counted))]
 fn run(list: &[u8], s: Section, base: &Base, before: Replayed) -> Replayed
     requires { (s.size ≤ 2048) × (s.depth ≤ 8) × (s.cases ≤ 65536) × (s.codes ≤ 261) }
+    ensures agreed { result.agreed ≤ before.agreed + s.cases }
+    ensures all { result.all ≡ (before.all + s.cases) % 2 ^ 64 }
 {
     let mut replayed = before;
     for case in 0..s.cases {
