@@ -1,5 +1,5 @@
 -- Every input is answered, and in one way: each theorem is of `Pre` and `Post`, a call's contract as the prover reads it off the source.
-use mathlib.Core.Path.{◌≡◌, sym, ap, ◌∙◌}
+use mathlib.Core.Path.{◌≡◌, refl, sym, ap, ◌∙◌}
 use mathlib.Core.Bool.{Bool}
 use mathlib.Core.List.{[]}
 use Prim.Native.Nat.{ℕ}
@@ -12,8 +12,13 @@ use Rattle.accumulator.specs.declared.Summary.{Summary}
 use contract.Lifetimes.{Lfts}
 use borrow.Fn.Kinds.{Dens, ended_of}
 use denote.Triple.Clauses.{AtExit}
+use lib.Ieee.{Float}
 use denote.RattleType.{RattleType}
-use denote.Param.Laws.{Laws, IsCopy}
+use denote.Builtin.{f64, u64}
+use denote.Param.Laws.{Laws, IsCopy, of_field}
+use denote.Param.Shared.{copy_shared}
+use denote.Struct.Field.{f64-field, u64-field}
+use denote.Struct.Laws.{f64-laws, f64-copy, u64-laws, u64-copy}
 use mir.Syntax.{Dict}
 use contract.BorrowLft.{⊑_static}
 use Rattle.std.specs.declared.clone.Clone.{Ghosts}
@@ -138,6 +143,30 @@ module _ (T : RattleType) (laws : Laws T) (copies : IsCopy T) (clone : Ghosts T.
   pub either-unique : (κs : Lfts 1) (a : Dens κs (either.ps T laws copies)) (r r' : T.Denot) (s s' : AtExit (ended_of 1 (either.ps T laws copies) (either.r T laws copies)) κs)
       → either-reads.Post T laws copies clone dict κs a r s → either-reads.Post T laws copies clone dict κs a r' s' → r ≡ r'
   either-unique κs a r r' s s' p q = p ∙ sym q
+
+-- what is asked of a type with a `T`, for reals and for counts
+pub real-laws : Laws f64
+real-laws = of_field f64-field f64-laws refl (copy_shared f64-field f64-copy)
+
+pub count-laws : Laws u64
+count-laws = of_field u64-field u64-laws refl (copy_shared u64-field u64-copy)
+
+-- so that it is there for reals and for counts, and nothing is asked
+module _ (clone : Ghosts Float) (dict : Dict) where
+  pub either-real-total : (κs : Lfts 1) (a : Dens κs (either.ps f64 real-laws f64-copy)) → either-reads.Pre f64 real-laws f64-copy clone dict κs a
+  either-real-total κs a = either-total f64 real-laws f64-copy clone dict refl κs a
+
+  pub either-real-unique : (κs : Lfts 1) (a : Dens κs (either.ps f64 real-laws f64-copy)) (r r' : Float) (s s' : AtExit (ended_of 1 (either.ps f64 real-laws f64-copy) (either.r f64 real-laws f64-copy)) κs)
+      → either-reads.Post f64 real-laws f64-copy clone dict κs a r s → either-reads.Post f64 real-laws f64-copy clone dict κs a r' s' → r ≡ r'
+  either-real-unique κs a r r' s s' p q = p ∙ sym q
+
+module _ (clone : Ghosts ℕ) (dict : Dict) where
+  pub either-count-total : (κs : Lfts 1) (a : Dens κs (either.ps u64 count-laws u64-copy)) → either-reads.Pre u64 count-laws u64-copy clone dict κs a
+  either-count-total κs a = either-total u64 count-laws u64-copy clone dict refl κs a
+
+  pub either-count-unique : (κs : Lfts 1) (a : Dens κs (either.ps u64 count-laws u64-copy)) (r r' : ℕ) (s s' : AtExit (ended_of 1 (either.ps u64 count-laws u64-copy) (either.r u64 count-laws u64-copy)) κs)
+      → either-reads.Post u64 count-laws u64-copy clone dict κs a r s → either-reads.Post u64 count-laws u64-copy clone dict κs a r' s' → r ≡ r'
+  either-count-unique κs a r r' s s' p q = p ∙ sym q
 
 pub zero-count-total : (κs : Lfts 0) (a : Dens κs zero-count.ps) → zero-count-reads.Pre κs a
 zero-count-total κs a = tt

@@ -1,17 +1,21 @@
 -- Every exported call answers on any input, and its promise allows one answer.
-use mathlib.Core.Path.{◌≡◌, sym, ap, ◌∙◌}
+use mathlib.Core.Path.{◌≡◌, refl, sym, ap, ◌∙◌}
 use mathlib.Core.List.{[]}
 use contract.Lifetimes.{Lfts}
 use contract.BorrowLft.{⊑_static}
 use borrow.Fn.Kinds.{Dens, ended_of}
 use denote.Triple.Clauses.{AtExit}
+use Prim.Native.Nat.{ℕ}
 use denote.RattleType.{RattleType}
+use denote.Builtin.{f64, u64}
 use denote.Param.Laws.{Laws, IsCopy}
+use denote.Struct.Laws.{f64-copy, u64-copy}
 use mir.Syntax.{Dict}
 use Rattle.std.specs.declared.clone.Clone.{Ghosts}
 use lib.Ieee.{Float}
 use Rattle.lent.specs.Memory.{Memory}
 use Rattle.accumulator.specs.declared.StatisticsAccumulator.{StatisticsAccumulator}
+use Rattle.accumulator.proofs.Unique.{real-laws, count-laws}
 use Rattle.ground.proofs.floors.floored.Kinds as floored
 use Rattle.ground.proofs.floors.floored.Reads as floored-reads
 use Rattle.ground.proofs.accounts.load.Kinds as load
@@ -67,6 +71,23 @@ module _ (T : RattleType) (laws : Laws T) (copies : IsCopy T) (clone : Ghosts T.
   pub set-unique : (κs : Lfts 3) (a : Dens κs (set.ps T laws copies)) (r r' : Unit {0}) (s s' : AtExit (ended_of 3 (set.ps T laws copies) (set.r T laws copies)) κs)
       → set-reads.Post T laws copies clone dict κs a r s → set-reads.Post T laws copies clone dict κs a r' s' → s.0.now ≡ s'.0.now
   set-unique κs a r r' s s' p q = p ∙ sym q
+
+-- so that it is there for reals and for counts, and nothing is asked
+module _ (clone : Ghosts Float) (dict : Dict) where
+  pub set-reals-total : (κs : Lfts 3) (a : Dens κs (set.ps f64 real-laws f64-copy)) → set-reads.Pre f64 real-laws f64-copy clone dict κs a
+  set-reals-total κs a = set-total f64 real-laws f64-copy clone dict refl κs a
+
+  pub set-reals-unique : (κs : Lfts 3) (a : Dens κs (set.ps f64 real-laws f64-copy)) (r r' : Unit {0}) (s s' : AtExit (ended_of 3 (set.ps f64 real-laws f64-copy) (set.r f64 real-laws f64-copy)) κs)
+      → set-reads.Post f64 real-laws f64-copy clone dict κs a r s → set-reads.Post f64 real-laws f64-copy clone dict κs a r' s' → s.0.now ≡ s'.0.now
+  set-reals-unique κs a r r' s s' p q = p ∙ sym q
+
+module _ (clone : Ghosts ℕ) (dict : Dict) where
+  pub set-counts-total : (κs : Lfts 3) (a : Dens κs (set.ps u64 count-laws u64-copy)) → set-reads.Pre u64 count-laws u64-copy clone dict κs a
+  set-counts-total κs a = set-total u64 count-laws u64-copy clone dict refl κs a
+
+  pub set-counts-unique : (κs : Lfts 3) (a : Dens κs (set.ps u64 count-laws u64-copy)) (r r' : Unit {0}) (s s' : AtExit (ended_of 3 (set.ps u64 count-laws u64-copy) (set.r u64 count-laws u64-copy)) κs)
+      → set-reads.Post u64 count-laws u64-copy clone dict κs a r s → set-reads.Post u64 count-laws u64-copy clone dict κs a r' s' → s.0.now ≡ s'.0.now
+  set-counts-unique κs a r r' s s' p q = p ∙ sym q
 
 pub clear-waiting-total : (κs : Lfts 2) (a : Dens κs clear-waiting.ps) → clear-waiting-reads.Pre κs a
 clear-waiting-total κs a = tt
