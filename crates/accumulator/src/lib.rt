@@ -264,11 +264,10 @@ impl StatisticsAccumulator {
 fn kept(a: StatisticsAccumulator) -> Result<StatisticsAccumulator, Refusal>
     ensures { paper result ≡ kept_of a }
 {
-    if is_well_formed(a) {
-        Ok(a)
-    } else {
-        Err(Refusal::Overflow)
+    if !is_well_formed(a) {
+        return Err(Refusal::Overflow);
     }
+    Ok(a)
 }
 
 // Whether a sample's number and the record after it are as they have to be.

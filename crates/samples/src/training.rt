@@ -9,6 +9,7 @@ ghost use Rattle.lent.specs.Drawn.{axes_at};
 ghost use Rattle.lent.specs.Memory.{memory, Asked};
 ghost use Rattle.lent.specs.Trained.{bins_on, trained_at, Cell, cell_fits, cells_fit, trained_over, CellsOf};
 ghost use Rattle.lent.specs.Found.{Begins};
+ghost use Rattle.samples.specs.Tried.{all_fit, Rests};
 
 use crate::reading::{count_at, real_at};
 use accumulator::zero_count;
@@ -48,8 +49,24 @@ pub fn are_sums_finite(sum: f64, squares: f64) -> bool
     (sum - sum) + (squares - squares) == 0.0
 }
 
-// Whether the sums and counts of a bin may be kept once v has joined it.
-fn cell_fits(
+// What is kept of the bins that were tried: `rest` is 0 while all their sums are finite, else NaN, which no sum loses; `top` is the highest of
+// their counts. So what was found so far is not tested at each bin.
+#[derive(Clone, Copy)]
+struct Tried {
+    rest: f64,
+    top: u64,
+}
+
+// Whether all that were tried fit.
+fn all_fit(tried: Tried) -> bool
+    ensures { result ≡ all_fit tried }
+{
+    (tried.rest == 0.0) & (tried.top <= 9007199254740992)
+}
+
+// One bin more is tried: its sums and counts once v has joined it.
+fn cell_tried(
+    before: Tried,
     reals: &[f64],
     counts: &[u64],
     most: usize,
@@ -57,15 +74,18 @@ fn cell_fits(
     c: usize,
     bin: usize,
     v: f64,
-) -> bool
-    requires { (most ≤ 1024) × Cell most r c bin (memory reals.now counts.now) }
-    ensures { result ≡ cell_fits most v r c bin (memory reals.now counts.now) }
+) -> Tried
+    requires { (most ≤ 1024) × Cell most r c bin (memory reals.now counts.now) × Rests before }
+    ensures { (all_fit result ≡ (all_fit before && cell_fits most v r c bin (memory reals.now counts.now))) × Rests result }
 {
     let sum = real_at(reals, r + (2 * most + 1) + bin) + v;
     let squares = real_at(reals, r + (3 * most + 1) + bin) + v * v;
     let waiting = count_at(counts, c + 2 + bin) + 1;
     let zeros = count_at(counts, c + (most + 2) + bin) + zero_count(v);
-    (are_sums_finite(sum, squares) & (waiting <= 9007199254740992)) & (zeros <= 9007199254740992)
+    Tried {
+        rest: before.rest + ((sum - sum) + (squares - squares)),
+        top: before.top.max(waiting).max(zeros),
+    }
 }
 
 // Whether v may join each coordinate's bin on its axis. For each bin there is a guess in spots, which may be any number; the bin is written
@@ -82,7 +102,7 @@ pub fn axes_fit(
     ensures { (result ≡ cells_fit g.most v (bins_on (axes_at reals.now counts.now g) (entries nan xs.now 0 g.axes)) g.reals g.counts (memory reals.now counts.now))
         × Begins spots.new (bins_on (axes_at reals.now counts.now g) (entries nan xs.now 0 g.axes)) }
 {
-    let mut ok = true;
+    let mut tried = Tried { rest: 0.0, top: 0 };
     let mut at = g.reals;
     let mut place = g.counts;
     for done in 0..g.axes {
@@ -90,11 +110,11 @@ pub fn axes_fit(
         let end = at + held + 1;
         let bin = bin_near(&reals[at..end], xs[done], spots[done]);
         spots[done] = bin;
-        ok = ok & cell_fits(reals, counts, g.most, at, place, bin, v);
+        tried = cell_tried(tried, reals, counts, g.most, at, place, bin, v);
         at = at + (6 * g.most + 1);
         place = place + (3 * g.most + 2);
     }
-    ok
+    all_fit(tried)
 }
 
 // v joins the sums of a bin of the axis at r, and is both its extremes.

@@ -10,10 +10,12 @@ use Rattle.lent.specs.Trained.{cells_fit}
 use Rattle.lent.proofs.Standing.{next}
 use Rattle.lent.proofs.Draws.{asked-part}
 use Rattle.lent.proofs.Spots.{begun, spots_left, spots-all, left-all, unit-here, cell-here, left-judged, fits_on, fits-none, noted-on, noted-all}
+use Rattle.samples.specs.Tried.{all_fit}
+use Rattle.samples.proofs.Tries.{none-tried, none-rest}
 use Rattle.samples.proofs.training.axes_fit.Goals as goal
 
 pub loop-done-init : goal.loop-done-init
-loop-done-init c = (omega arith, left-all c.args.g.most c.args.g.axes c.args.xs.now c.args.g.reals c.args.g.counts (memory c.args.reals.now c.args.counts.now) c.requires.0.0.2 c.requires.0.1 c.requires.0.2, refl, c.requires.1, refl)
+loop-done-init c = (omega arith, left-all c.args.g.most c.args.g.axes c.args.xs.now c.args.g.reals c.args.g.counts (memory c.args.reals.now c.args.counts.now) c.requires.0.0.2 c.requires.0.1 c.requires.0.2, none-tried _, c.requires.1, none-rest, refl)
 
 pub offset_bounds-counts-place : goal.offset_bounds-counts-place
 offset_bounds-counts-place c = let n = next c.args.g.most c.args.reals.now c.args.counts.now c.args.g.axes c.loop-done.done c.loop-done.at c.loop-done.place c.loop-done-test.true c.loop-done.invariant.1.standing in
@@ -51,8 +53,8 @@ pub bin_near-bin-requires : goal.bin_near-bin-requires
 bin_near-bin-requires c = let n = next c.args.g.most c.args.reals.now c.args.counts.now c.args.g.axes c.loop-done.done c.loop-done.at c.loop-done.place c.loop-done-test.true c.loop-done.invariant.1.standing in
     (asked-part c.loop-done.at (get_or c.args.counts.now c.loop-done.place 0) c.args.reals.now n.edges, unit-here c.args.g.most c.args.g.axes c.args.xs.now c.loop-done.done c.loop-done.at c.loop-done.place (memory c.args.reals.now c.args.counts.now) c.loop-done-test.true c.loop-done.invariant.1)
 
-pub cell_fits-ok-requires : goal.cell_fits-ok-requires
-cell_fits-ok-requires c = (c.requires.0.0.1, cell-here c.args.g.most c.args.g.axes c.args.xs.now c.loop-done.done c.loop-done.at c.loop-done.place (memory c.args.reals.now c.args.counts.now) c.loop-done-test.true c.loop-done.invariant.1 c.bin_near-bin.result c.bin_near-bin.ensures)
+pub cell_tried-tried-requires : goal.cell_tried-tried-requires
+cell_tried-tried-requires c = (c.requires.0.0.1, cell-here c.args.g.most c.args.g.axes c.args.xs.now c.loop-done.done c.loop-done.at c.loop-done.place (memory c.args.reals.now c.args.counts.now) c.loop-done-test.true c.loop-done.invariant.1 c.bin_near-bin.result c.bin_near-bin.ensures, c.loop-done.invariant.4)
 
 pub overflow_mul-at : goal.overflow_mul-at
 overflow_mul-at c = let n = next c.args.g.most c.args.reals.now c.args.counts.now c.args.g.axes c.loop-done.done c.loop-done.at c.loop-done.place c.loop-done-test.true c.loop-done.invariant.1.standing in
@@ -83,16 +85,17 @@ loop-done-preserved c = let at = c.loop-done.at + (6 * c.args.g.most + 1) in
     let place = c.loop-done.place + (3 * c.args.g.most + 2) in (
       omega (arith, c.loop-done-test.true),
       left-judged c.args.g.most c.args.g.axes c.args.xs.now c.loop-done.done c.loop-done.at c.loop-done.place (memory c.args.reals.now c.args.counts.now) c.loop-done-test.true c.loop-done.invariant.1 c.bin_near-bin.result c.bin_near-bin.ensures,
-      ap (λ (b : Bool). (c.loop-done.ok && b) && cells_fit c.args.g.most c.args.v (spots_left c.args.g.most c.args.g.axes c.args.xs.now (c.loop-done.done + 1) at place (memory c.args.reals.now c.args.counts.now)) at place (memory c.args.reals.now c.args.counts.now)) c.cell_fits-ok.ensures
-          ∙ fits_on c.args.g.most c.args.g.axes c.args.xs.now c.loop-done.done c.loop-done.at c.loop-done.place (memory c.args.reals.now c.args.counts.now) c.loop-done-test.true c.loop-done.invariant.1 c.bin_near-bin.result c.bin_near-bin.ensures c.args.v c.loop-done.ok ∙ c.loop-done.invariant.2,
+      ap (λ (b : Bool). b && cells_fit c.args.g.most c.args.v (spots_left c.args.g.most c.args.g.axes c.args.xs.now (c.loop-done.done + 1) at place (memory c.args.reals.now c.args.counts.now)) at place (memory c.args.reals.now c.args.counts.now)) c.cell_tried-tried.ensures.0
+          ∙ fits_on c.args.g.most c.args.g.axes c.args.xs.now c.loop-done.done c.loop-done.at c.loop-done.place (memory c.args.reals.now c.args.counts.now) c.loop-done-test.true c.loop-done.invariant.1 c.bin_near-bin.result c.bin_near-bin.ensures c.args.v (all_fit c.loop-done.tried) ∙ c.loop-done.invariant.2,
       simp length-set c.loop-done.invariant.3,
-      noted-on c.args.g.most c.args.g.axes c.args.xs.now c.loop-done.done c.loop-done.at c.loop-done.place (memory c.args.reals.now c.args.counts.now) c.loop-done-test.true c.loop-done.invariant.1 c.bin_near-bin.result c.bin_near-bin.ensures c.loop-done.spots (omega (arith, c.loop-done.invariant.3, c.requires.0.0.0, c.loop-done-test.true)) ∙ c.loop-done.invariant.4,
+      c.cell_tried-tried.ensures.1,
+      noted-on c.args.g.most c.args.g.axes c.args.xs.now c.loop-done.done c.loop-done.at c.loop-done.place (memory c.args.reals.now c.args.counts.now) c.loop-done-test.true c.loop-done.invariant.1 c.bin_near-bin.result c.bin_near-bin.ensures c.loop-done.spots (omega (arith, c.loop-done.invariant.3, c.requires.0.0.0, c.loop-done-test.true)) ∙ c.loop-done.invariant.5,
     )
 
 pub returns : goal.returns
 returns c = let all = spots-all c.args.g.most c.args.g.axes c.args.xs.now c.args.g.reals c.args.g.counts (memory c.args.reals.now c.args.counts.now) in (
-  sym (fits-none c.args.g.most c.args.g.axes c.args.xs.now c.loop-done.done c.loop-done.at c.loop-done.place (memory c.args.reals.now c.args.counts.now) c.args.v c.loop-done.ok (omega (arith, c.loop-done-test.false))) ∙ c.loop-done.invariant.2
+  c.all_fit.ensures ∙ sym (fits-none c.args.g.most c.args.g.axes c.args.xs.now c.loop-done.done c.loop-done.at c.loop-done.place (memory c.args.reals.now c.args.counts.now) c.args.v (all_fit c.loop-done.tried) (omega (arith, c.loop-done-test.false))) ∙ c.loop-done.invariant.2
       ∙ ap (λ (is : List ℕ). cells_fit c.args.g.most c.args.v is c.args.g.reals c.args.g.counts (memory c.args.reals.now c.args.counts.now)) all,
   begun c.loop-done.spots _ c.args.g.axes (omega (arith, c.loop-done.invariant.3, c.requires.0.0.0))
-      (noted-all c.args.g.most c.args.g.axes c.args.xs.now c.loop-done.done c.loop-done.at c.loop-done.place (memory c.args.reals.now c.args.counts.now) c.loop-done.spots _ c.loop-done.invariant.0 (omega (arith, c.loop-done-test.false)) c.loop-done.invariant.4 ∙ all),
+      (noted-all c.args.g.most c.args.g.axes c.args.xs.now c.loop-done.done c.loop-done.at c.loop-done.place (memory c.args.reals.now c.args.counts.now) c.loop-done.spots _ c.loop-done.invariant.0 (omega (arith, c.loop-done-test.false)) c.loop-done.invariant.5 ∙ all),
 )
