@@ -1,18 +1,18 @@
 -- The draw: its bin is one of the axis's and its point a number in [0, 1], for every unit draw; and a guess that the draw lies in is its bin.
-use mathlib.Core.Path.{◌≡◌, refl, sym, ap, ◌∙◌}
+use mathlib.Core.Path.{◌≡◌, refl, sym, ap, subst, ◌∙◌}
 use mathlib.Core.Bool.{true, false, ◌&&◌}
 use mathlib.Core.List.{List}
 use Prim.Native.Nat.{ℕ, ◌+◌, ◌^◌, ◌≤◌, ◌<◌}
 use native.Mathlib.Omega.{arith}
 use lib.ListN.{length, get_or}
-use lib.Ieee.{Float, nan, binary64, add, sub, mul, lt, le, of_bits}
+use lib.Ieee.{Float, nan, binary64, add, sub, mul, lt, le, of_bits, of_int}
 use lib.Ieee.Exact.{HasValue}
 use Rattle.doubles.specs.Numbers.{one64}
 use Rattle.doubles.specs.Count.{count_of}
 use Rattle.doubles.specs.Whole.{whole_of}
 use Rattle.doubles.proofs.Truth.{both}
 use Rattle.doubles.proofs.Order.{le-trans-float}
-use Rattle.doubles.proofs.Wholes.{whole-between}
+use Rattle.doubles.proofs.Wholes.{whole-between, count_add}
 use Rattle.doubles.proofs.Monotone.{value-unsigned}
 use Rattle.doubles.proofs.Draws.{last64, draw-index, draw-offset, offset-at-most}
 use Rattle.doubles.proofs.Between.{Between, between}
@@ -44,6 +44,18 @@ guessed es n r i e small t =
     let h = both _ _ t in
     ap (spot_in es n r) (sym (whole-between (mul binary64 (count_of n) r) i small h.0 h.1))
     ∙ ap (λ (m : ℕ). spot_in es m r (whole_of (mul binary64 (count_of m) r))) e
+
+one_count : one64 ≡ count_of 1
+unfolding count_of of_int of_bits
+one_count = refl
+
+-- the same where the bin's end is the bin and one more
+pub guessed-up : (es : List Float) (n : ℕ) (r : Float) (i : ℕ) → n ≡ bins_of es → i < 2 ^ 53
+    → (le (count_of i) (mul binary64 (count_of n) r) && lt (mul binary64 (count_of n) r) (add binary64 (count_of i) one64)) ≡ true
+    → spot_in es n r i ≡ spot_of es r
+guessed-up es n r i e small t =
+    let up : add binary64 (count_of i) one64 ≡ count_of (i + 1) = ap (add binary64 (count_of i)) one_count ∙ count_add i 1 (omega arith) (omega arith) in
+    guessed es n r i e small (subst (λ (x : Float). (le (count_of i) (mul binary64 (count_of n) r) && lt (mul binary64 (count_of n) r) x) ≡ true) up t)
 
 last-below : le last64 one64 ≡ true
 unfolding le of_bits

@@ -82,20 +82,21 @@ pub fn spot_of(edges: &[f64], r: f64) -> Spot
     Spot { point, bin }
 }
 
-// The same from a guess of the bin, which may be any number: one that the draw lies in is taken, else the bin is worked out.
+// The same from a guess of the bin, which may be any number: one that the draw lies in is taken, else the bin is worked out. Without edges
+// there are so many bins that no guess is taken.
 pub fn spot_near(edges: &[f64], r: f64, guess: usize) -> Spot
     ensures { result ≡ spot_of edges.now r }
 {
-    let last = bins(edges);
+    let len = edges.len();
+    let last = len.wrapping_sub(1);
     if (guess < last) & (last <= 1024) {
-        let next = guess + 1;
         let n = last as f64;
         let low = guess as f64;
-        let high = next as f64;
+        let high = low + 1.0;
         let scaled = n * r;
         if (low <= scaled) & (scaled < high) {
             let edge = edges[guess];
-            let step = edges[next] - edge;
+            let step = edges[guess + 1] - edge;
             let point = Point {
                 at: edge + (scaled - low) * step,
                 weight: n * step,
